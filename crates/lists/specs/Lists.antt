@@ -1,0 +1,58 @@
+-- What every layer says about lists: tests over all and any, how often, the first, tables by index, a place put in or taken out.
+-- Assumes nothing.
+use Prim.Native.Nat.{ℕ, zero, suc, _+_, _-_}
+use mathlib.Core.Bool.{Bool, true, false, cond, _&&_, _||_}
+use mathlib.Core.List.{List, [], _∷_, _++_}
+use mathlib.Core.Option.{Option, none, some}
+use lib.Dec.{eqb}
+
+-- whether every element passes the test
+unfoldable pub all : {A : Type 0} → (A → Bool) → List A → Bool
+all p [] = true
+all p (x ∷ xs) = p x && all p xs
+
+-- whether some element passes the test
+unfoldable pub any : {A : Type 0} → (A → Bool) → List A → Bool
+any p [] = false
+any p (x ∷ xs) = p x || any p xs
+
+-- the elements that pass the test, in their order
+unfoldable pub keep : {A : Type 0} → (A → Bool) → List A → List A
+keep p [] = []
+keep p (x ∷ xs) = cond (p x) (x ∷ keep p xs) (keep p xs)
+
+-- the first element that passes the test
+unfoldable pub first : {A : Type 0} → (A → Bool) → List A → Option A
+first p [] = none
+first p (x ∷ xs) = cond (p x) (some x) (first p xs)
+
+-- how often a number stands in a list of numbers
+unfoldable pub times : ℕ → List ℕ → ℕ
+times q [] = 0
+times q (x ∷ xs) = cond (eqb x q) 1 0 + times q xs
+
+-- whether a number stands in a list of numbers
+abbrev pub member : ℕ → List ℕ → Bool
+member q xs = any (λ x. eqb x q) xs
+
+-- the lists that f gives of the elements, one after the other
+unfoldable pub join : {A B : Type 0} → (A → List B) → List A → List B
+join f [] = []
+join f (x ∷ xs) = f x ++ join f xs
+
+-- the table of f at n places from i on
+unfoldable pub tab : {A : Type 0} → ℕ → ℕ → (ℕ → A) → List A
+tab zero i f = []
+tab (suc n) i f = f i ∷ tab n (i + 1) f
+
+-- the list with x put in at place i; behind the last element where i is past the end
+unfoldable pub insertAt : {A : Type 0} → ℕ → A → List A → List A
+insertAt zero x ys = x ∷ ys
+insertAt (suc i) x [] = x ∷ []
+insertAt (suc i) x (y ∷ ys) = y ∷ insertAt i x ys
+
+-- the list with place i taken out; the list itself where i is past the end
+unfoldable pub removeAt : {A : Type 0} → ℕ → List A → List A
+removeAt i [] = []
+removeAt zero (x ∷ xs) = xs
+removeAt (suc i) (x ∷ xs) = x ∷ removeAt i xs
