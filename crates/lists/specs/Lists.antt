@@ -1,10 +1,17 @@
 -- What every layer says about lists: tests over all and any, how often, the first, tables by index, a place put in or taken out.
 -- Assumes nothing.
 use Prim.Native.Nat.{ℕ, zero, suc, _+_, _-_}
+use mathlib.Core.Path.{_≡_}
+use mathlib.Core.Logic.{_⊎_}
 use mathlib.Core.Bool.{Bool, true, false, cond, _&&_, _||_}
 use mathlib.Core.List.{List, [], _∷_, _++_}
 use mathlib.Core.Option.{Option, none, some}
 use lib.Dec.{eqb}
+
+-- a value, or else another
+abbrev pub orElse : {A : Type 0} → Option A → Option A → Option A
+orElse (some x) y = some x
+orElse none y = y
 
 -- whether every element passes the test
 unfoldable pub all : {A : Type 0} → (A → Bool) → List A → Bool
@@ -25,6 +32,26 @@ keep p (x ∷ xs) = cond (p x) (x ∷ keep p xs) (keep p xs)
 unfoldable pub first : {A : Type 0} → (A → Bool) → List A → Option A
 first p [] = none
 first p (x ∷ xs) = cond (p x) (some x) (first p xs)
+
+-- the last element that passes the test
+unfoldable pub last : {A : Type 0} → (A → Bool) → List A → Option A
+last p [] = none
+last p (x ∷ xs) = orElse (last p xs) (cond (p x) (some x) none)
+
+-- whether the test passes at every two elements, the earlier one first
+unfoldable pub pairs : {A : Type 0} → (A → A → Bool) → List A → Bool
+pairs r [] = true
+pairs r (x ∷ xs) = all (r x) xs && pairs r xs
+
+-- whether there is no element
+abbrev pub isNil : {A : Type 0} → List A → Bool
+isNil [] = true
+isNil (x ∷ xs) = false
+
+-- x is an element
+abbrev pub In : {A : Type 0} → A → List A → Type 0
+In x [] = ⊥
+In x (y ∷ ys) = (y ≡ x) ⊎ In x ys
 
 -- how often a number stands in a list of numbers
 unfoldable pub times : ℕ → List ℕ → ℕ

@@ -1,0 +1,296 @@
+-- Document 01, "Overs to bowl at it": the starred cases, and what the four ways to lose a wicket would spoil, as one table.
+-- Each case is played from a fresh index, call by call. It says for each call exactly what is answered, in order, and then who is left
+-- waiting at what, which locks are held, and every entry with its owner, now and before. Transaction 16 settles the keys that a case
+-- starts with. The claim `AllHold` is proved in proofs/Table.antt. Assumes nothing.
+use Prim.Native.Nat.{ℕ}
+use mathlib.Core.Path.{_≡_}
+use mathlib.Core.List.{List, [], _∷_, _++_, map}
+use mathlib.Core.Option.{Option, none, some}
+use Rattle.rules.specs.Kinds.{Book, Paging, Entry, Mode, S, X, Name, on, end, Lock, Ask, read, insert, delete, Request, begin, commit, rollback, ask, Queued, State}
+use Rattle.rules.specs.Locks.{inUse, wanted, Want}
+use Rattle.rules.specs.Runs.{Says, done, found, nothing, waiting, runsAlready, runsNot, waitsAlready, isPresent, locksShort, pagesShort, circle, Answer}
+use Rattle.rules.specs.Desk.{Call, fresh, after, session}
+use Rattle.rules.specs.Document.{document, endless}
+
+abbrev pub D : Book
+D = document endless
+
+-- one call and what it is answered; none is number 12
+pub record Over : Type 0 where
+  pub bowled : Call D
+  pub answered : Option (List (Answer ℕ ℕ))
+
+pub record Waiter : Type 0 where
+  pub asker : ℕ
+  pub name : Name ℕ
+
+-- where things stand
+pub record Scene : Type 0 where
+  pub waiters : List Waiter
+  pub locks : List (Lock ℕ)
+  pub entries : List (Entry ℕ ℕ)
+
+pub record Case : Type 0 where
+  pub overs : List Over
+  pub scene : Scene
+
+-- the words in which cases are written
+abbrev over : ℕ → Request ℕ ℕ → List (Answer ℕ ℕ) → Over
+over t r as′ = record { bowled = record { asker = t; request = r }; answered = some as′ }
+
+abbrev refused12 : ℕ → Request ℕ ℕ → Over
+refused12 t r = record { bowled = record { asker = t; request = r }; answered = none }
+
+abbrev to : ℕ → Says ℕ ℕ → Answer ℕ ℕ
+to t m = record { asker = t; says = m }
+
+abbrev only : ℕ → Says ℕ ℕ → List (Answer ℕ ℕ)
+only t m = to t m ∷ []
+
+abbrev begins : ℕ → Over
+begins t = over t begin (only t done)
+
+abbrev reads : ℕ → ℕ → ℕ → List (Answer ℕ ℕ) → Over
+reads t lo hi as′ = over t (ask (read lo hi)) as′
+
+abbrev inserts : ℕ → ℕ → ℕ → List (Answer ℕ ℕ) → Over
+inserts t k r as′ = over t (ask (insert k r)) as′
+
+abbrev deletes : ℕ → ℕ → List (Answer ℕ ℕ) → Over
+deletes t k as′ = over t (ask (delete k)) as′
+
+-- transaction 16 settles the keys, in this order, each with its record
+pub record Row : Type 0 where
+  pub key : ℕ
+  pub rec : ℕ
+
+abbrev row : ℕ → ℕ → Row
+row k r = record { key = k; rec = r }
+
+abbrev settling : List Row → List Over
+settling rs =
+    begins 16 ∷ (map (λ (x : Row). inserts 16 (x .key) (x .rec) (only 16 done)) rs ++ (over 16 commit (only 16 done) ∷ []))
+
+abbrev waits : ℕ → Name ℕ → Waiter
+waits t n = record { asker = t; name = n }
+
+abbrev lock : Mode → Name ℕ → ℕ → Lock ℕ
+lock m n t = record { name = n; holder = t; mode = m }
+
+abbrev settledAs : ℕ → ℕ → Entry ℕ ℕ
+settledAs k r = record { key = k; owner = 0; now = some r; before = some r }
+
+abbrev entry : ℕ → ℕ → Option ℕ → Option ℕ → Entry ℕ ℕ
+entry k t n b = record { key = k; owner = t; now = n; before = b }
+
+abbrev left : List Waiter → List (Lock ℕ) → List (Entry ℕ ℕ) → Scene
+left ws ls es = record { waiters = ws; locks = ls; entries = es }
+
+-- "Fresh; 1 begins, inserts 100 with record 7; 2 begins, reads 50..150: 3. Then 1 commits."
+unfoldable pub readerWaits : Case
+readerWaits =
+    record {
+      overs =
+          begins 1
+          ∷ inserts 1 100 7 (only 1 done)
+          ∷ begins 2
+          ∷ reads 2 50 150 (only 2 waiting)
+          ∷ over 1 commit (to 1 done ∷ to 2 (found 100 (some 7)) ∷ [])
+          ∷ [];
+      scene = left [] (lock S (on 100) 2 ∷ []) (settledAs 100 7 ∷ []);
+    }
+
+-- "Settled 10, 20; 1 reads 12..18: 2. 2 inserts 15: 3. 1 reads again: 2. 1 commits: 0 to 1, 0 to 2."
+unfoldable pub nothingStaysNothing : Case
+nothingStaysNothing =
+    record {
+      overs =
+          settling (row 10 1 ∷ row 20 2 ∷ [])
+          ++ (begins 1
+          ∷ begins 2
+          ∷ reads 1 12 18 (only 1 nothing)
+          ∷ inserts 2 15 5 (only 2 waiting)
+          ∷ reads 1 12 18 (only 1 nothing)
+          ∷ over 1 commit (to 1 done ∷ to 2 done ∷ [])
+          ∷ []);
+      scene = left [] (lock X (on 15) 2 ∷ []) (settledAs 10 1 ∷ entry 15 2 (some 5) none ∷ settledAs 20 2 ∷ []);
+    }
+
+-- "Settled 10, 20; 1 and 2 read 12..18; 1 inserts 15: 3; 2 inserts 16: 19; 2 rolls back: 0 to 2, 0 to 1."
+unfoldable pub twoReaders : Case
+twoReaders =
+    record {
+      overs =
+          settling (row 10 1 ∷ row 20 2 ∷ [])
+          ++ (begins 1
+          ∷ begins 2
+          ∷ reads 1 12 18 (only 1 nothing)
+          ∷ reads 2 12 18 (only 2 nothing)
+          ∷ inserts 1 15 5 (only 1 waiting)
+          ∷ inserts 2 16 6 (only 2 circle)
+          ∷ over 2 rollback (to 2 done ∷ to 1 done ∷ [])
+          ∷ []);
+      scene =
+          left [] (lock S (on 20) 1 ∷ lock X (on 15) 1 ∷ []) (settledAs 10 1 ∷ entry 15 1 (some 5) none ∷ settledAs 20 2 ∷ []);
+    }
+
+-- "Settled 10, 20, 30, 50. 1 deletes 20; 2 reads 50..50; 3 reads 30..30; 2 inserts 15: 3; 3 deletes 50: 3. 1 commits: 0 to 1, 19 to 3;
+-- 2 still waits, now at 30."
+unfoldable pub circleAtCommit : Case
+circleAtCommit =
+    record {
+      overs =
+          settling (row 10 1 ∷ row 20 2 ∷ row 30 3 ∷ row 50 5 ∷ [])
+          ++ (begins 1
+          ∷ begins 2
+          ∷ begins 3
+          ∷ deletes 1 20 (only 1 done)
+          ∷ reads 2 50 50 (only 2 (found 50 (some 5)))
+          ∷ reads 3 30 30 (only 3 (found 30 (some 3)))
+          ∷ inserts 2 15 6 (only 2 waiting)
+          ∷ deletes 3 50 (only 3 waiting)
+          ∷ over 1 commit (to 1 done ∷ to 3 circle ∷ [])
+          ∷ []);
+      scene =
+          left
+          (waits 2 (on 30) ∷ [])
+          (lock S (on 50) 2 ∷ lock S (on 30) 3 ∷ [])
+          (settledAs 10 1 ∷ settledAs 30 3 ∷ settledAs 50 5 ∷ []);
+    }
+
+-- "1 deletes 20 (settled) and inserts it with record 9; rollback gives the old record."
+unfoldable pub ghostComesBack : Case
+ghostComesBack =
+    record {
+      overs =
+          settling (row 20 4 ∷ [])
+          ++ (begins 1
+          ∷ deletes 1 20 (only 1 done)
+          ∷ inserts 1 20 9 (only 1 done)
+          ∷ reads 1 20 20 (only 1 (found 20 (some 9)))
+          ∷ over 1 rollback (only 1 done)
+          ∷ begins 1
+          ∷ reads 1 20 20 (only 1 (found 20 (some 4)))
+          ∷ []);
+      scene = left [] (lock S (on 20) 1 ∷ []) (settledAs 20 4 ∷ []);
+    }
+
+-- "Key 2^64-2 is taken, 2^64-1 is 12; read 5..4 is 12."
+unfoldable pub lastKey : Case
+lastKey =
+    record {
+      overs =
+          begins 1
+          ∷ inserts 1 18446744073709551614 3 (only 1 done)
+          ∷ refused12 1 (ask (insert 18446744073709551615 3))
+          ∷ refused12 1 (ask (delete 18446744073709551615))
+          ∷ refused12 1 (ask (read 5 18446744073709551615))
+          ∷ refused12 1 (ask (read 5 4))
+          ∷ refused12 17 begin
+          ∷ refused12 0 begin
+          ∷ [];
+      scene =
+          left
+          []
+          (lock X (on 18446744073709551614) 1 ∷ [])
+          (entry 18446744073709551614 1 (some 3) none ∷ []);
+    }
+
+-- "Empty index: read takes S on the end."
+unfoldable pub emptyIndex : Case
+emptyIndex =
+    record {
+      overs = begins 1 ∷ begins 2 ∷ reads 1 5 9 (only 1 nothing) ∷ inserts 2 7 1 (only 2 waiting) ∷ [];
+      scene = left (waits 2 end ∷ []) (lock S end 1 ∷ []) [];
+    }
+
+-- "Sole S holder deletes that key while another's delete of it waits: granted."
+unfoldable pub soleHolder : Case
+soleHolder =
+    record {
+      overs =
+          settling (row 20 2 ∷ [])
+          ++ (begins 1
+          ∷ begins 2
+          ∷ reads 1 20 20 (only 1 (found 20 (some 2)))
+          ∷ deletes 2 20 (only 2 waiting)
+          ∷ deletes 1 20 (only 1 done)
+          ∷ []);
+      scene = left (waits 2 (on 20) ∷ []) (lock X (on 20) 1 ∷ []) (entry 20 1 none (some 2) ∷ []);
+    }
+
+-- "Fixing a waiter's target when it arrives": a read waits at 20 behind 1, which then puts 15 below it and takes 20 away.
+unfoldable pub targetMoves : Case
+targetMoves =
+    record {
+      overs =
+          settling (row 20 2 ∷ [])
+          ++ (begins 1
+          ∷ begins 2
+          ∷ deletes 1 20 (only 1 done)
+          ∷ reads 2 10 25 (only 2 waiting)
+          ∷ inserts 1 15 8 (only 1 done)
+          ∷ over 1 commit (to 1 done ∷ to 2 (found 15 (some 8)) ∷ [])
+          ∷ []);
+      scene = left [] (lock S (on 15) 2 ∷ []) (settledAs 15 8 ∷ []);
+    }
+
+-- "After each run the scan starts again at the oldest": the run of 1's insert moves 3's target away from 2's.
+unfoldable pub joiningFrees : Case
+joiningFrees =
+    record {
+      overs =
+          settling (row 10 1 ∷ row 20 2 ∷ [])
+          ++ (begins 1
+          ∷ begins 2
+          ∷ begins 3
+          ∷ reads 1 20 20 (only 1 (found 20 (some 2)))
+          ∷ inserts 2 12 7 (only 2 waiting)
+          ∷ deletes 3 17 (only 3 waiting)
+          ∷ inserts 1 15 5 (to 1 done ∷ to 3 nothing ∷ [])
+          ∷ []);
+      scene =
+          left
+          (waits 2 (on 15) ∷ [])
+          (lock S (on 20) 1 ∷ lock X (on 15) 1 ∷ lock S (on 20) 3 ∷ [])
+          (settledAs 10 1 ∷ entry 15 1 (some 5) none ∷ settledAs 20 2 ∷ []);
+    }
+
+unfoldable pub cases : List Case
+cases =
+    readerWaits
+    ∷ nothingStaysNothing
+    ∷ twoReaders
+    ∷ circleAtCommit
+    ∷ ghostComesBack
+    ∷ lastKey
+    ∷ emptyIndex
+    ∷ soleHolder
+    ∷ targetMoves
+    ∷ joiningFrees
+    ∷ []
+
+-- what the rule book says of a case: its answers, and where things stand afterwards
+pub record Outcome : Type 0 where
+  pub answers : List (Option (List (Answer ℕ ℕ)))
+  pub scene : Scene
+
+abbrev pub sceneOf : State ℕ ℕ (Unit {0}) → Scene
+sceneOf s =
+    record {
+      waiters = map (λ (q : Queued ℕ ℕ). record { asker = q .asker; name = (wanted D (s .entries) q) .name }) (s .queue);
+      locks = inUse (s .slots);
+      entries = s .entries;
+    }
+
+unfoldable pub played : Case → Outcome
+played c =
+    let calls = map (λ (o : Over). o .bowled) (c .overs) in
+    record { answers = session D (fresh D) calls; scene = sceneOf (after D (fresh D) calls) }
+
+unfoldable pub stated : Case → Outcome
+stated c = record { answers = map (λ (o : Over). o .answered) (c .overs); scene = c .scene }
+
+-- the one claim
+abbrev pub AllHold : Type 0
+AllHold = map played cases ≡ map stated cases

@@ -1,0 +1,27 @@
+-- The rule book of document 01: keys of 64 bits below the end, records of 32 bits as numbers, 16 transactions, 256 locks.
+-- Assumes nothing.
+use Prim.Native.Nat.{ℕ, compare}
+use mathlib.Core.Bool.{true}
+use mathlib.Core.List.{List}
+use lib.Dec.{ltb}
+use Rattle.rules.specs.Kinds.{Book, Paging}
+
+-- "2^64-1 names the end of the index and is never a key"
+abbrev pub endMark : ℕ
+endMark = 18446744073709551615
+
+abbrev pub document : Paging ℕ → Book
+document pages =
+    record {
+      Key = ℕ;
+      Rec = ℕ;
+      compare = compare;
+      legal = λ k. ltb k endMark;
+      transactions = 16;
+      locks = 256;
+      paging = pages;
+    }
+
+-- Pages that never run short, for what is said of locks and waits alone.
+abbrev pub endless : {K : Type 0} → Paging K
+endless = record { Pages = Unit {0}; bare = tt; fits = λ p k. true; grown = λ p k. p; shrunk = λ p ks. p }

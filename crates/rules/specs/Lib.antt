@@ -1,0 +1,9 @@
+pub mod Kinds
+pub mod Entries
+pub mod Locks
+pub mod Queue
+pub mod Runs
+pub mod Desk
+pub mod Good
+pub mod Document
+pub mod Cases

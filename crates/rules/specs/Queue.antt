@@ -1,0 +1,61 @@
+-- Document 01, "Working the queue": who waits behind whom, the oldest request that isn't blocked, circles. Assumes nothing.
+use Prim.Native.Nat.{ℕ, zero, suc, _-_}
+use mathlib.Core.Bool.{Bool, cond, not, _&&_, _||_}
+use mathlib.Core.List.{List, [], _∷_, _++_}
+use mathlib.Core.Option.{Option}
+use lib.Dec.{eqb}
+use Rattle.lists.specs.Lists.{any, keep, first, last, member, tab, isNil}
+use Rattle.rules.specs.Kinds.{Book, State, Queued, Paging}
+use Rattle.rules.specs.Entries.{Entries}
+use Rattle.rules.specs.Locks.{Slots, blockers}
+
+module _ (B : Book) where
+  abbrev pub St : Type 0
+  St = State (B .Key) (B .Rec) (B .paging .Pages)
+
+  abbrev pub Q : Type 0
+  Q = Queued (B .Key) (B .Rec)
+
+  -- a queued request with all who block it
+  pub record Wait : Type 0 where
+    pub request : Q
+    pub behind : List ℕ
+
+  unfoldable pub waitsFrom : Entries B → Slots B → List Q → List Q → List Wait
+  waitsFrom es ls ahead [] = []
+  waitsFrom es ls ahead (q ∷ qs) =
+      record { request = q; behind = blockers B es ls ahead q } ∷ waitsFrom es ls (ahead ++ (q ∷ [])) qs
+
+  unfoldable pub waits : St → List Wait
+  waits s = waitsFrom (s .entries) (s .slots) [] (s .queue)
+
+  -- "if some queued request isn't blocked, the oldest such"
+  unfoldable pub oldest : St → Option Wait
+  oldest s = first (λ w. isNil (w .behind)) (waits s)
+
+  -- Circles go by everyone who blocks. From a set of transactions, one link further: those of the set, and whom one of them waits behind.
+  abbrev pub everyone : List ℕ
+  everyone = tab (B .transactions) 1 (λ t. t)
+
+  abbrev pub linked : List Wait → List ℕ → ℕ → Bool
+  linked ws us u = any (λ w. member (w .request .asker) us && member u (w .behind)) ws
+
+  unfoldable pub further : List Wait → List ℕ → List ℕ
+  further ws us = keep (λ u. member u us || linked ws us u) everyone
+
+  -- "A wait chain is followed with the number of links left falling"
+  unfoldable pub reached : ℕ → List Wait → List ℕ → List ℕ
+  reached zero ws us = us
+  reached (suc links) ws us = reached links ws (further ws us)
+
+  -- a request lies on a circle if its chain comes back to it: its own link, and one fewer than there are transactions (from 15)
+  unfoldable pub onCircle : List Wait → Wait → Bool
+  onCircle ws w = member (w .request .asker) (reached (B .transactions - 1) ws (w .behind))
+
+  -- "the newest queued request that lies on a circle"
+  unfoldable pub newest : St → Option Wait
+  newest s = let ws = waits s in last (onCircle ws) ws
+
+  -- the queue when t's request has left it
+  unfoldable pub leave : ℕ → List Q → List Q
+  leave t qs = keep (λ q. not (eqb (q .asker) t)) qs

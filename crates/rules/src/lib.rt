@@ -1,0 +1,1 @@
+// The rule book: definitions and theorems; no code of its own.
