@@ -6,10 +6,10 @@ use Prim.Native.Nat.{ℕ}
 use mathlib.Core.Path.{_≡_}
 use mathlib.Core.List.{List, [], _∷_, _++_, map}
 use mathlib.Core.Option.{Option, none, some}
-use Rattle.rules.specs.Kinds.{Book, Paging, Entry, Mode, S, X, Name, on, end, Lock, Ask, read, insert, delete, Request, begin, commit, rollback, ask, Queued, State}
+use Rattle.rules.specs.Kinds.{Book, Paging, Entry, Mode, S, X, Name, on, end, Lock, Ask, read, insert, delete, Request, begin, commit, rollback, ask, Call, Queued, State}
 use Rattle.rules.specs.Locks.{inUse, wanted, Want}
 use Rattle.rules.specs.Runs.{Says, done, found, nothing, waiting, runsAlready, runsNot, waitsAlready, isPresent, locksShort, pagesShort, circle, Answer}
-use Rattle.rules.specs.Desk.{Call, fresh, after, session}
+use Rattle.rules.specs.Desk.{fresh, after, session}
 use Rattle.rules.specs.Document.{document, endless}
 
 abbrev pub D : Book
@@ -17,7 +17,7 @@ D = document endless
 
 -- one call and what it is answered; none is number 12
 pub record Over : Type 0 where
-  pub bowled : Call D
+  pub bowled : Call ℕ ℕ
   pub answered : Option (List (Answer ℕ ℕ))
 
 pub record Waiter : Type 0 where

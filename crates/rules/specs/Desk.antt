@@ -7,7 +7,7 @@ use mathlib.Core.Option.{Option, none, some}
 use lib.Dec.{eqb, leb}
 use lib.ListN.{getD, set, replicate}
 use Rattle.lists.specs.Lists.{any}
-use Rattle.rules.specs.Kinds.{Book, Entry, Ask, read, insert, delete, Request, begin, commit, rollback, ask, Mark, idle, running, Queued, State, Paging}
+use Rattle.rules.specs.Kinds.{Book, Entry, Ask, read, insert, delete, Request, begin, commit, rollback, ask, Call, Mark, idle, running, Queued, State, Paging}
 use Rattle.rules.specs.Entries.{atMost, committed, rolledBack, settled, takenOut}
 use Rattle.rules.specs.Locks.{released}
 use Rattle.rules.specs.Queue.{St, Q, leave}
@@ -110,15 +110,14 @@ module _ (B : Book) where
   legalRequest rollback = true
   legalRequest (ask a) = legalAsk a
 
-  pub record Call : Type 0 where
-    pub asker : ℕ
-    pub request : Request (B .Key) (B .Rec)
+  abbrev pub Cl : Type 0
+  Cl = Call (B .Key) (B .Rec)
 
   -- a call: none is number 12, nothing changed
-  abbrev pub legalCall : Call → Bool
+  abbrev pub legalCall : Cl → Bool
   legalCall c = isTransaction (c .asker) && legalRequest (c .request)
 
-  unfoldable pub call : St B → Call → Option (Worked B)
+  unfoldable pub call : St B → Cl → Option (Worked B)
   call s c = cond (legalCall c) (some (step s (c .asker) (c .request))) none
 
   abbrev pub stateAfter : St B → Option (Worked B) → St B
@@ -141,10 +140,10 @@ module _ (B : Book) where
       }
 
   -- calls one after the other: where they lead, and what each was answered (none: 12)
-  unfoldable pub after : St B → List Call → St B
+  unfoldable pub after : St B → List Cl → St B
   after s [] = s
   after s (c ∷ cs) = after (stateAfter s (call s c)) cs
 
-  unfoldable pub session : St B → List Call → List (Option (List An))
+  unfoldable pub session : St B → List Cl → List (Option (List An))
   session s [] = []
   session s (c ∷ cs) = let w = call s c in answersOf w ∷ session (stateAfter s w) cs

@@ -37,6 +37,11 @@ pub data Request (K R : Type 0) : Type 0 where
   begin commit rollback : Request K R
   ask : Ask K R → Request K R
 
+-- A request with the transaction that makes it.
+pub record Call (K R : Type 0) : Type 0 where
+  pub asker : ℕ
+  pub request : Request K R
+
 pub record Queued (K R : Type 0) : Type 0 where
   pub asker : ℕ
   pub asks : Ask K R
@@ -72,10 +77,10 @@ pub record Book : Type 1 where
   pub locks : ℕ
   pub paging : Paging Key
 
--- The laws of the order of keys. Only proofs take them.
-pub record Ordered (B : Book) : Type 0 where
-  pub equal : (a b : B .Key) → B .compare a b ≡ Ordering·eq → a ≡ b
-  pub itself : (a : B .Key) → B .compare a a ≡ Ordering·eq
-  pub below : (a b : B .Key) → B .compare a b ≡ Ordering·lt → B .compare b a ≡ Ordering·gt
-  pub above : (a b : B .Key) → B .compare a b ≡ Ordering·gt → B .compare b a ≡ Ordering·lt
-  pub along : (a b c : B .Key) → B .compare a b ≡ Ordering·lt → B .compare b c ≡ Ordering·lt → B .compare a c ≡ Ordering·lt
+-- The laws of an order of keys. Only proofs take them.
+pub record Ordered (K : Type 0) (compare : K → K → Ordering) : Type 0 where
+  pub equal : (a b : K) → compare a b ≡ Ordering·eq → a ≡ b
+  pub itself : (a : K) → compare a a ≡ Ordering·eq
+  pub below : (a b : K) → compare a b ≡ Ordering·lt → compare b a ≡ Ordering·gt
+  pub above : (a b : K) → compare a b ≡ Ordering·gt → compare b a ≡ Ordering·lt
+  pub along : (a b c : K) → compare a b ≡ Ordering·lt → compare b c ≡ Ordering·lt → compare a c ≡ Ordering·lt
