@@ -78,6 +78,11 @@ insertAt zero x ys = x ∷ ys
 insertAt (suc i) x [] = x ∷ []
 insertAt (suc i) x (y ∷ ys) = y ∷ insertAt i x ys
 
+-- the list with x put in before the first element that passes the test; behind the last where none does
+unfoldable pub insertBefore : {A : Type 0} → (A → Bool) → A → List A → List A
+insertBefore p x [] = x ∷ []
+insertBefore p x (y ∷ ys) = cond (p y) (x ∷ y ∷ ys) (y ∷ insertBefore p x ys)
+
 -- the list with place i taken out; the list itself where i is past the end
 unfoldable pub removeAt : {A : Type 0} → ℕ → List A → List A
 removeAt i [] = []
