@@ -33,6 +33,11 @@ unfoldable pub first : {A : Type 0} → (A → Bool) → List A → Option A
 first p [] = none
 first p (x ∷ xs) = cond (p x) (some x) (first p xs)
 
+-- the place of the first element that passes the test, or how many elements there are
+unfoldable pub place : {A : Type 0} → (A → Bool) → List A → ℕ
+place p [] = 0
+place p (x ∷ xs) = cond (p x) 0 (suc (place p xs))
+
 -- the last element that passes the test
 unfoldable pub last : {A : Type 0} → (A → Bool) → List A → Option A
 last p [] = none

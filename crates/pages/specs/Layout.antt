@@ -1,0 +1,97 @@
+-- Document 01, "Records and pages": the bytes of one page. A leaf's entries are read as the rule book's. Assumes nothing.
+use Prim.Native.Nat.{ℕ, _+_, _*_, _/_, _%_}
+use mathlib.Core.Bool.{Bool, cond}
+use mathlib.Core.List.{List, [], _∷_}
+use mathlib.Core.Option.{Option, none, some}
+use lib.Dec.{eqb}
+use lib.ListN.{getD}
+use Rattle.lists.specs.Lists.{tab}
+use Rattle.numbers.specs.Numbers.{numberAt, fieldsAt, putFields}
+use Rattle.rules.specs.Kinds.{Entry}
+use Rattle.rules.specs.Entries.{isThere}
+use Rattle.entries.specs.Records.{orZero}
+use Rattle.pages.specs.declared.Child.{Child}
+
+-- "64 pages of 512 bytes; each head is 16 bytes: length 512, kind, count, level, eight zeros."
+abbrev pub headWidths : List ℕ
+headWidths = 2 ∷ 2 ∷ 2 ∷ 2 ∷ 8 ∷ []
+
+abbrev pub kindOf : List ℕ → ℕ
+kindOf p = numberAt 2 p 2
+
+abbrev pub countOf : List ℕ → ℕ
+countOf p = numberAt 2 p 4
+
+abbrev pub levelOf : List ℕ → ℕ
+levelOf p = numberAt 2 p 6
+
+unfoldable pub putHead : List ℕ → ℕ → ℕ → ℕ → List ℕ
+putHead p kind count level = putFields headWidths p 0 (512 ∷ kind ∷ count ∷ level ∷ 0 ∷ [])
+
+-- "Page 0: kind 1, count and level 0, then at byte 16 root, pages used, height (two bytes each)."
+abbrev pub rootOf : List ℕ → ℕ
+rootOf p = numberAt 2 p 16
+
+abbrev pub usedOf : List ℕ → ℕ
+usedOf p = numberAt 2 p 18
+
+abbrev pub heightOf : List ℕ → ℕ
+heightOf p = numberAt 2 p 20
+
+abbrev pub rootWidths : List ℕ
+rootWidths = 2 ∷ 2 ∷ 2 ∷ []
+
+unfoldable pub putRoot : List ℕ → ℕ → ℕ → ℕ → List ℕ
+putRoot p root used height = putFields rootWidths p 16 (root ∷ used ∷ height ∷ [])
+
+-- "Leaf: .. entries of 20 bytes (key, record now, record before, owner 2, presence 1 with bit 0 now and bit 1 before, one zero)". Presence
+-- and the zero are one number. "An absent record is 0."
+abbrev pub entryWidths : List ℕ
+entryWidths = 8 ∷ 4 ∷ 4 ∷ 2 ∷ 2 ∷ []
+
+abbrev pub ifBit : ℕ → ℕ → Option ℕ
+ifBit b r = cond (eqb (b % 2) 1) (some r) none
+
+unfoldable pub entryIn : List ℕ → Entry ℕ ℕ
+entryIn vs =
+    record {
+      key = getD vs 0 0;
+      owner = getD vs 3 0;
+      now = ifBit (getD vs 4 0) (getD vs 1 0);
+      before = ifBit (getD vs 4 0 / 2) (getD vs 2 0);
+    }
+
+abbrev pub bit : Option ℕ → ℕ
+bit r = cond (isThere r) 1 0
+
+unfoldable pub entryFields : Entry ℕ ℕ → List ℕ
+entryFields e =
+    e .key ∷ orZero (e .now) ∷ orZero (e .before) ∷ e .owner ∷ (bit (e .now) + 2 * bit (e .before)) ∷ []
+
+unfoldable pub entryAt : List ℕ → ℕ → Entry ℕ ℕ
+entryAt p i = entryIn (fieldsAt entryWidths p (16 + 20 * i))
+
+unfoldable pub putEntry : List ℕ → ℕ → Entry ℕ ℕ → List ℕ
+putEntry p i e = putFields entryWidths p (16 + 20 * i) (entryFields e)
+
+unfoldable pub entriesOf : List ℕ → List (Entry ℕ ℕ)
+entriesOf p = tab (countOf p) 0 (entryAt p)
+
+-- "Inner: .. children of 16 bytes (separator 8, page 2, six zeros)"
+abbrev pub childWidths : List ℕ
+childWidths = 8 ∷ 2 ∷ 2 ∷ 4 ∷ []
+
+unfoldable pub childIn : List ℕ → Child
+childIn vs = record { low = record { 0 = getD vs 0 0 }; page = getD vs 1 0 }
+
+unfoldable pub childFields : Child → List ℕ
+childFields c = c .low .0 ∷ c .page ∷ 0 ∷ 0 ∷ []
+
+unfoldable pub childAt : List ℕ → ℕ → Child
+childAt p i = childIn (fieldsAt childWidths p (16 + 16 * i))
+
+unfoldable pub putChild : List ℕ → ℕ → Child → List ℕ
+putChild p i c = putFields childWidths p (16 + 16 * i) (childFields c)
+
+unfoldable pub childrenOf : List ℕ → List Child
+childrenOf p = tab (countOf p) 0 (childAt p)

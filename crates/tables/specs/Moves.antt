@@ -1,0 +1,65 @@
+-- What taking and releasing locks, and joining and leaving the queue, do to the bytes of the desk. Assumes nothing.
+use Prim.Native.Nat.{ℕ, _+_, _*_, _-_}
+use mathlib.Core.Bool.{Bool, true, false, cond, not}
+use mathlib.Core.List.{List, [], _∷_, map}
+use mathlib.Core.Option.{Option, none, some}
+use lib.Dec.{eqb, ltb}
+use lib.ListN.{replicate, getD}
+use Rattle.lists.specs.Lists.{tab, join, place}
+use Rattle.numbers.specs.Numbers.{numberAt, putNumber, part, putPart, moved, zeroed}
+use Rattle.rules.specs.Kinds.{Ask, Mode, Name, Lock, Book}
+use Rattle.rules.specs.Entries.{isThere}
+use Rattle.rules.specs.Locks.{isOf, stronger}
+use Rattle.rules.specs.Document.{document, endless}
+use Rattle.tables.specs.Layout.{transactionsMost, locksMost, slotsOf, slotAt, putSlot, lockPlace, queued, queuePlace, inPlace, recordPlace, putAsk, askFields}
+
+abbrev pub isSlotOf : ℕ → Name ℕ → Option (Lock ℕ) → Bool
+isSlotOf t n none = false
+isSlotOf t n (some l) = isOf (document endless) t n l
+
+-- the slot of t's lock on a name, and the lowest free slot; the number of slots where there is none
+unfoldable pub heldIn : List ℕ → ℕ → Name ℕ → ℕ
+heldIn d t n = place (isSlotOf t n) (slotsOf d)
+
+unfoldable pub freeIn : List ℕ → ℕ
+freeIn d = place (λ x. not (isThere x)) (slotsOf d)
+
+abbrev pub strengthened : Mode → Option (Lock ℕ) → Option (Lock ℕ)
+strengthened m none = none
+strengthened m (some l) = some (record { name = l .name; holder = l .holder; mode = stronger (l .mode) m })
+
+-- "X replaces S in its slot and is never weakened"; "A new lock takes the lowest free slot"; where none is free nothing changes
+unfoldable pub lockTaken : List ℕ → ℕ → Name ℕ → Mode → List ℕ
+lockTaken d t n m =
+    cond (ltb (heldIn d t n) locksMost)
+    (putSlot d (heldIn d t n) (strengthened m (slotAt d (heldIn d t n))))
+    (cond (ltb (freeIn d) locksMost) (putSlot d (freeIn d) (some (record { name = n; holder = t; mode = m }))) d)
+
+-- whether t has the lock then
+unfoldable pub lockGiven : List ℕ → ℕ → Name ℕ → Bool
+lockGiven d t n = cond (ltb (heldIn d t n) locksMost) true (ltb (freeIn d) locksMost)
+
+-- "a released one is zeroed": the slots of t zero, the others as they are
+abbrev pub rowFreed : ℕ → List ℕ → List ℕ
+rowFreed t r = cond (eqb (numberAt 2 r 8) t) (replicate 16 0) r
+
+unfoldable pub locksReleased : ℕ → List ℕ → List ℕ
+locksReleased t d = putPart (lockPlace 0) (join (rowFreed t) (tab locksMost 0 (λ i. part (lockPlace i) 16 d))) d
+
+-- t's request joins the end of the queue
+unfoldable pub queueJoined : List ℕ → ℕ → Ask ℕ ℕ → List ℕ
+queueJoined d t a = putNumber 2 (putNumber 2 (putAsk d t (askFields a)) (queuePlace (queued d)) t) 4 (queued d + 1)
+
+-- the request at place q leaves: those behind it move up one place, and its record's request is zero
+unfoldable pub queueLeft : List ℕ → ℕ → List ℕ
+queueLeft d q =
+    putNumber 2
+    (zeroed 2 (queuePlace (transactionsMost - 1)) (moved (2 * (transactionsMost - 1 - q)) (queuePlace (q + 1)) (queuePlace q) (putAsk d (inPlace d q) (0 ∷ 0 ∷ 0 ∷ 0 ∷ []))))
+    4 (queued d - 1)
+
+-- t runs, or no longer
+abbrev pub markNumber : Bool → ℕ
+markNumber b = cond b 1 0
+
+unfoldable pub markPut : List ℕ → ℕ → Bool → List ℕ
+markPut d t b = putNumber 2 d (recordPlace t) (markNumber b)
