@@ -1,0 +1,211 @@
+-- Laws of the tests over lists: all, any, keep and first, over ++, over map, at a place, and against one another.
+-- Each by induction on the list; where a test decides, its value is an argument of the step. Assumes nothing.
+use mathlib.Core.Path.{_≡_, refl, sym, ap, _∙_}
+use mathlib.Core.Logic.{_⊎_, inl, inr}
+use mathlib.Core.Bool.{Bool, true, false, cond, not, _&&_, _||_, and-assoc, or-assoc, true≢false, false≢true}
+use mathlib.Core.List.{List, [], _∷_, _++_, map}
+use mathlib.Core.Option.{Option, none, some, Option·map, Option·none-ne-some, Option·some-injective}
+use Prim.Native.Nat.{ℕ, zero, suc, _<_}
+use native.Mathlib.Nat.{not-suc-le-zero, le-of-suc-le-suc, zero-lt-suc}
+use native.Mathlib.Omega.{arith}
+use lib.ListN.{length, getD}
+use Rattle.lists.specs.Lists.{all, any, keep, first}
+
+-- the two halves of a test, and a test of its halves
+pub and-left : (a b : Bool) → (a && b) ≡ true → a ≡ true
+and-left true b e = refl
+and-left false b e = e
+
+pub and-right : (a b : Bool) → (a && b) ≡ true → b ≡ true
+and-right true b e = e
+and-right false b e = absurd (false≢true e)
+
+pub and-both : (a b : Bool) → a ≡ true → b ≡ true → (a && b) ≡ true
+and-both true b p q = q
+and-both false b p q = p
+
+module _ {A : Type 0} where
+  -- ---- all
+  pub all-append : (p : A → Bool) (xs ys : List A) → all p (xs ++ ys) ≡ (all p xs && all p ys)
+  unfolding all
+  all-append p [] ys = refl
+  all-append p (x ∷ xs) ys = ap (λ b. p x && b) (all-append p xs ys) ∙ sym (and-assoc (p x) (all p xs) (all p ys))
+
+  pub all-at : (p : A → Bool) (xs : List A) (i : ℕ) (d : A) → all p xs ≡ true → i < length xs → p (getD xs i d) ≡ true
+  unfolding all
+  all-at p [] i d e h = absurd (not-suc-le-zero h)
+  all-at p (x ∷ xs) zero d e h = and-left (p x) (all p xs) e
+  all-at p (x ∷ xs) (suc i) d e h = all-at p xs i d (and-right (p x) (all p xs) e) (le-of-suc-le-suc h)
+
+  -- a test that passes at every place passes throughout
+  pub all-each : (p : A → Bool) (xs : List A) (d : A) → ((i : ℕ) → i < length xs → p (getD xs i d) ≡ true) → all p xs ≡ true
+  unfolding all
+  all-each p [] d h = refl
+  all-each p (x ∷ xs) d h = and-both (p x) (all p xs) (h 0 (zero-lt-suc (length xs))) (all-each p xs d (λ i k. h (suc i) (omega arith)))
+
+  pub all-ext : (p q : A → Bool) (xs : List A) (d : A) → ((i : ℕ) → i < length xs → p (getD xs i d) ≡ q (getD xs i d)) → all p xs ≡ all q xs
+  unfolding all
+  all-ext p q [] d h = refl
+  all-ext p q (x ∷ xs) d h =
+      ap (λ b. b && all p xs) (h 0 (zero-lt-suc (length xs))) ∙ ap (λ b. q x && b) (all-ext p q xs d (λ i k. h (suc i) (omega arith)))
+
+  -- ---- any
+  pub any-append : (p : A → Bool) (xs ys : List A) → any p (xs ++ ys) ≡ (any p xs || any p ys)
+  unfolding any
+  any-append p [] ys = refl
+  any-append p (x ∷ xs) ys = ap (λ b. p x || b) (any-append p xs ys) ∙ sym (or-assoc (p x) (any p xs) (any p ys))
+
+  pub any-at : (p : A → Bool) (xs : List A) (i : ℕ) (d : A) → p (getD xs i d) ≡ true → i < length xs → any p xs ≡ true
+  unfolding any
+  any-at p [] i d e h = absurd (not-suc-le-zero h)
+  any-at p (x ∷ xs) zero d e h = ap (λ b. b || any p xs) e
+  any-at p (x ∷ xs) (suc i) d e h =
+      ap (λ b. p x || b) (any-at p xs i d e (le-of-suc-le-suc h)) ∙ elim (p x) as (λ b. (b || true) ≡ true) [ true ↦ refl | false ↦ refl ]
+
+  -- where some element passes, the place of one that does
+  pub any-place : (p : A → Bool) (xs : List A) (d : A) → any p xs ≡ true → (i : ℕ) × (i < length xs) × (p (getD xs i d) ≡ true)
+  unfolding any
+  any-place p [] d e = absurd (false≢true e)
+  any-place p (x ∷ xs) d e = go (p x) refl e (any-place p xs d)
+    where
+      go : (b : Bool) → p x ≡ b → (b || any p xs) ≡ true → (any p xs ≡ true → (i : ℕ) × (i < length xs) × (p (getD xs i d) ≡ true))
+          → (i : ℕ) × (i < suc (length xs)) × (p (getD (x ∷ xs) i d) ≡ true)
+      go true h e r = (0, zero-lt-suc (length xs), h)
+      go false h e r = let w = r e in (suc (w .0), omega (arith, w .1), w .2)
+
+  pub any-ext : (p q : A → Bool) (xs : List A) (d : A) → ((i : ℕ) → i < length xs → p (getD xs i d) ≡ q (getD xs i d)) → any p xs ≡ any q xs
+  unfolding any
+  any-ext p q [] d h = refl
+  any-ext p q (x ∷ xs) d h =
+      ap (λ b. b || any p xs) (h 0 (zero-lt-suc (length xs))) ∙ ap (λ b. q x || b) (any-ext p q xs d (λ i k. h (suc i) (omega arith)))
+
+  -- ---- all against any
+  pub not-any : (p : A → Bool) (xs : List A) → not (any p xs) ≡ all (λ x. not (p x)) xs
+  unfolding any all
+  not-any p [] = refl
+  not-any p (x ∷ xs) = rw (← (not-any p xs)) (elim (p x) as (λ b. not (b || any p xs) ≡ (not b && not (any p xs))) [ true ↦ refl | false ↦ refl ])
+
+  pub not-all : (p : A → Bool) (xs : List A) → not (all p xs) ≡ any (λ x. not (p x)) xs
+  unfolding any all
+  not-all p [] = refl
+  not-all p (x ∷ xs) = rw (← (not-all p xs)) (elim (p x) as (λ b. not (b && all p xs) ≡ (not b || not (all p xs))) [ true ↦ refl | false ↦ refl ])
+
+  -- ---- keep
+  pub keep-append : (p : A → Bool) (xs ys : List A) → keep p (xs ++ ys) ≡ keep p xs ++ keep p ys
+  unfolding keep
+  keep-append p [] ys = refl
+  keep-append p (x ∷ xs) ys =
+      rw (keep-append p xs ys)
+      (elim (p x) as (λ b. cond b (x ∷ (keep p xs ++ keep p ys)) (keep p xs ++ keep p ys) ≡ cond b (x ∷ keep p xs) (keep p xs) ++ keep p ys)
+      [ true ↦ refl | false ↦ refl ])
+
+  -- where all pass, all are kept; where none does, none is
+  pub keep-all : (p : A → Bool) (xs : List A) → all p xs ≡ true → keep p xs ≡ xs
+  unfolding keep all
+  keep-all p [] e = refl
+  keep-all p (x ∷ xs) e = rw (and-left (p x) (all p xs) e, keep-all p xs (and-right (p x) (all p xs) e))
+
+  pub keep-none : (p : A → Bool) (xs : List A) → any p xs ≡ false → keep p xs ≡ []
+  unfolding keep any
+  keep-none p [] e = refl
+  keep-none p (x ∷ xs) e = go (p x) e (keep-none p xs)
+    where
+      go : (b : Bool) → (b || any p xs) ≡ false → (any p xs ≡ false → keep p xs ≡ []) → cond b (x ∷ keep p xs) (keep p xs) ≡ []
+      go true h r = absurd (true≢false h)
+      go false h r = r h
+
+  -- what is kept passes, so that to keep again changes nothing
+  pub all-keep : (p : A → Bool) (xs : List A) → all p (keep p xs) ≡ true
+  unfolding keep all
+  all-keep p [] = refl
+  all-keep p (x ∷ xs) = go (p x) refl (all-keep p xs)
+    where
+      go : (b : Bool) → p x ≡ b → all p (keep p xs) ≡ true → all p (cond b (x ∷ keep p xs) (keep p xs)) ≡ true
+      go true h r = and-both (p x) (all p (keep p xs)) h r
+      go false h r = r
+
+  -- ---- first
+  pub first-hit : (p : A → Bool) (x : A) (xs : List A) → p x ≡ true → first p (x ∷ xs) ≡ some x
+  unfolding first
+  first-hit p x xs e = rw e
+
+  pub first-miss : (p : A → Bool) (x : A) (xs : List A) → p x ≡ false → first p (x ∷ xs) ≡ first p xs
+  unfolding first
+  first-miss p x xs e = rw e
+
+  -- the first of a list is its head, or the first of its tail
+  pub first-cons : (p : A → Bool) (x : A) (xs : List A) (y : A) → first p (x ∷ xs) ≡ some y
+      → ((p x ≡ true) × (x ≡ y)) ⊎ ((p x ≡ false) × (first p xs ≡ some y))
+  unfolding first
+  first-cons p x xs y e = go (p x) refl e
+    where
+      go : (b : Bool) → p x ≡ b → cond b (some x) (first p xs) ≡ some y → ((p x ≡ true) × (x ≡ y)) ⊎ ((p x ≡ false) × (first p xs ≡ some y))
+      go true h e = inl (h, Option·some-injective x y e)
+      go false h e = inr (h, e)
+
+  pub first-passes : (p : A → Bool) (xs : List A) (y : A) → first p xs ≡ some y → p y ≡ true
+  unfolding first
+  first-passes p [] y e = absurd (Option·none-ne-some y e)
+  first-passes p (x ∷ xs) y e = go (p x) refl e (first-passes p xs y)
+    where
+      go : (b : Bool) → p x ≡ b → cond b (some x) (first p xs) ≡ some y → (first p xs ≡ some y → p y ≡ true) → p y ≡ true
+      go true h e r = ap p (sym (Option·some-injective x y e)) ∙ h
+      go false h e r = r e
+
+  -- there is a first where any passes, and only there
+  pub first-none : (p : A → Bool) (xs : List A) → any p xs ≡ false → first p xs ≡ none
+  unfolding first any
+  first-none p [] e = refl
+  first-none p (x ∷ xs) e = go (p x) e (first-none p xs)
+    where
+      go : (b : Bool) → (b || any p xs) ≡ false → (any p xs ≡ false → first p xs ≡ none) → cond b (some x) (first p xs) ≡ none
+      go true h r = absurd (true≢false h)
+      go false h r = r h
+
+  pub first-some : (p : A → Bool) (xs : List A) (y : A) → first p xs ≡ some y → any p xs ≡ true
+  unfolding first any
+  first-some p [] y e = absurd (Option·none-ne-some y e)
+  first-some p (x ∷ xs) y e = go (p x) e (first-some p xs y)
+    where
+      go : (b : Bool) → cond b (some x) (first p xs) ≡ some y → (first p xs ≡ some y → any p xs ≡ true) → (b || any p xs) ≡ true
+      go true h r = refl
+      go false h r = r h
+
+  -- over ++: the first of the first list, or, where none of that passes, of the second
+  pub first-append-left : (p : A → Bool) (xs ys : List A) (z : A) → first p xs ≡ some z → first p (xs ++ ys) ≡ some z
+  unfolding first
+  first-append-left p [] ys z e = absurd (Option·none-ne-some z e)
+  first-append-left p (x ∷ xs) ys z e = go (p x) e (first-append-left p xs ys z)
+    where
+      go : (b : Bool) → cond b (some x) (first p xs) ≡ some z → (first p xs ≡ some z → first p (xs ++ ys) ≡ some z) → cond b (some x) (first p (xs ++ ys)) ≡ some z
+      go true h r = h
+      go false h r = r h
+
+  pub first-append-right : (p : A → Bool) (xs ys : List A) → any p xs ≡ false → first p (xs ++ ys) ≡ first p ys
+  unfolding first any
+  first-append-right p [] ys e = refl
+  first-append-right p (x ∷ xs) ys e = go (p x) e (first-append-right p xs ys)
+    where
+      go : (b : Bool) → (b || any p xs) ≡ false → (any p xs ≡ false → first p (xs ++ ys) ≡ first p ys) → cond b (some x) (first p (xs ++ ys)) ≡ first p ys
+      go true h r = absurd (true≢false h)
+      go false h r = r h
+
+-- ---- over map
+module _ {A B : Type 0} where
+  pub all-map : (p : B → Bool) (f : A → B) (xs : List A) → all p (map f xs) ≡ all (λ x. p (f x)) xs
+  unfolding all
+  all-map p f [] = refl
+  all-map p f (x ∷ xs) = ap (λ b. p (f x) && b) (all-map p f xs)
+
+  pub any-map : (p : B → Bool) (f : A → B) (xs : List A) → any p (map f xs) ≡ any (λ x. p (f x)) xs
+  unfolding any
+  any-map p f [] = refl
+  any-map p f (x ∷ xs) = ap (λ b. p (f x) || b) (any-map p f xs)
+
+  pub first-map : (p : B → Bool) (f : A → B) (xs : List A) → first p (map f xs) ≡ Option·map f (first (λ x. p (f x)) xs)
+  unfolding first
+  first-map p f [] = refl
+  first-map p f (x ∷ xs) =
+      rw (first-map p f xs)
+      (elim (p (f x)) as (λ b. cond b (some (f x)) (Option·map f (first (λ x. p (f x)) xs)) ≡ Option·map f (cond b (some x) (first (λ x. p (f x)) xs)))
+      [ true ↦ refl | false ↦ refl ])
