@@ -1,10 +1,12 @@
 -- Little-endian numbers in a list of bytes, records as rows of such numbers, tables of records, a part of a buffer, moved bytes.
 -- Everything is said once over the width; a record is a list of widths, its fillers among them. (Document 01, "Records and pages".)
 -- Assumes nothing.
-use Prim.Native.Nat.{ℕ, zero, suc, _+_, _-_, _*_, _/_, _%_, _<_}
+use Prim.Native.Nat.{ℕ, zero, suc, _+_, _-_, _*_, _/_, _%_, _^_, _<_}
+use mathlib.Core.Bool.{Bool}
 use mathlib.Core.List.{List, [], _∷_, _++_}
+use lib.Dec.{eqb}
 use lib.ListN.{length, getD, set, take, drop, replicate}
-use Rattle.lists.specs.Lists.{tab}
+use Rattle.lists.specs.Lists.{tab, all}
 
 -- the number of w bytes at a place, the lowest byte first
 unfoldable pub numberAt : ℕ → List ℕ → ℕ → ℕ
@@ -32,6 +34,13 @@ putFields [] s at vs = s
 putFields (w ∷ ws) s at [] = putFields ws (putNumber w s at 0) (at + w) []
 putFields (w ∷ ws) s at (v ∷ vs) = putFields ws (putNumber w s at v) (at + w) vs
 
+-- there are as many fields as widths, and each fits its own
+abbrev pub Fits : List ℕ → List ℕ → Type 0
+Fits [] [] = Unit {0}
+Fits [] (v ∷ vs) = ⊥
+Fits (w ∷ ws) [] = ⊥
+Fits (w ∷ ws) (v ∷ vs) = (v < 256 ^ w) × Fits ws vs
+
 -- n records of these widths, the first at base, each stride bytes after the one before
 unfoldable pub rows : List ℕ → ℕ → ℕ → ℕ → List ℕ → List (List ℕ)
 rows ws base stride n s = tab n 0 (λ i. fieldsAt ws s (base + stride * i))
@@ -54,6 +63,10 @@ moved n from to s = copied n s from to s
 -- n bytes from a place on set to zero
 unfoldable pub zeroed : ℕ → ℕ → List ℕ → List ℕ
 zeroed n at s = putPart at (replicate n 0) s
+
+-- whether n bytes from a place on are all zero
+unfoldable pub zeroAt : ℕ → ℕ → List ℕ → Bool
+zeroAt n at s = all (λ b. eqb b 0) (part at n s)
 
 -- n bytes at a and m bytes at b have no byte in common: one arithmetic term, so that omega reads it
 abbrev pub Apart : ℕ → ℕ → ℕ → ℕ → Type 0
