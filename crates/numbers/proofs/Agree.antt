@@ -33,7 +33,7 @@ module _ {n : ℕ} {s t : List ℕ} {a b : ℕ} where
         byte = λ k h.
             let p : a + i + k ≡ a + (i + k) = omega arith in
             let q : b + (i + k) ≡ b + i + k = omega arith in
-            ap (λ x. getD s x 0) p ∙ g .byte (i + k) (omega arith) ∙ ap (λ x. getD t x 0) q
+            ap (λ x. getD s x 0) p ∙ g .byte (i + k) (omega arith) ∙ ap (λ x. getD t x 0) q;
       }
 
   pub agree-front : (m : ℕ) → m ≤ n → Agree n s a t b → Agree m s a t b

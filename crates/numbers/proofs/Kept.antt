@@ -50,9 +50,12 @@ bytes-putFields (w ∷ ws) s at (v ∷ vs) f = bytes-putFields ws (putNumber w s
 pub bytes-part : (at n : ℕ) (s : List ℕ) → Bytes s → Bytes (part at n s)
 unfolding part
 bytes-part at n s f =
-    record { below = λ i. elim (decLt i n)
-        [ yes h ↦ omega (arith, getD-part at n s i h, f .below (at + i))
-        | no h ↦ omega (arith, List·getD-eq-default (part at n s) 0 {n = i} (omega (arith, length-take n (drop at s)))) ] }
+    record {
+      below = λ i. elim (decLt i n) [
+        | yes h ↦ omega (arith, getD-part at n s i h, f .below (at + i))
+        | no h ↦ omega (arith, List·getD-eq-default (part at n s) 0 {n = i} (omega (arith, length-take n (drop at s))))
+      ];
+    }
 
 pub bytes-putPart : (at : ℕ) (t s : List ℕ) → at + length t ≤ length s → Bytes t → Bytes s → Bytes (putPart at t s)
 bytes-putPart at t s h f g = bytes-from (touches-putPart at t s h) (agree-putPart at t s (omega arith)) g f

@@ -3,6 +3,7 @@ pub mod Numbers
 pub mod Fields
 pub mod Parts
 pub mod Moves
+pub mod Turns
 pub mod Rows
 pub mod Shifts
 pub mod Kept

@@ -1,20 +1,19 @@
 -- Laws of bytes that are copied, moved or set to zero: what stands where, and what one byte more comes to.
 -- All are a part put back, so all go through the laws of parts. Assumes nothing.
 use mathlib.Core.Path.{_≡_, refl, sym, ap, _∙_}
-use mathlib.Core.Bool.{Bool, true, _&&_, and-assoc}
+use mathlib.Core.Bool.{true}
 use mathlib.Core.List.{List, []}
 use Prim.Native.Nat.{ℕ, zero, suc, _+_, _-_, _≤_, _<_}
-use native.Mathlib.Nat.{sub-self, not-suc-le-zero}
+use native.Mathlib.Nat.{not-suc-le-zero}
 use native.Mathlib.Decide.{ℕ-discrete}
-use native.Mathlib.Numerals.{add-one}
 use native.Mathlib.Omega.{arith}
 use lib.Dec.{eqb}
 use lib.ListN.{length, getD, set, replicate, length-set, length-replicate, getD-replicate}
-use lib.Seq.{getD-set-same, getD-set-other, drop-cons}
+use lib.Seq.{getD-set-same, getD-set-other}
 use borrow.Author.Tests.{eqb-true, eq-eqb}
 use Rattle.lists.specs.Lists.{all}
 use Rattle.lists.proofs.Tests.{all-at, all-each}
-use Rattle.numbers.specs.Numbers.{part, putPart, copied, moved, zeroed, zeroAt, Apart}
+use Rattle.numbers.specs.Numbers.{part, putPart, copied, zeroed, zeroAt, Apart}
 use Rattle.numbers.proofs.Agree.{Agree, Touches, agree-back, agree-then, agree-front, agree-more, untouched, touches-wider, touches-set, touches-one}
 use Rattle.numbers.proofs.Parts.{length-part, getD-part, getD-putPart-in, agree-part, agree-putPart, touches-putPart, putPart-ext}
 
@@ -80,7 +79,7 @@ module _ (src : List ℕ) (from to : ℕ) (s : List ℕ) where
   copied-before m h l =
       copied-ext (m + 1) src from to s (omega arith) (omega arith) (set u to v)
       (agree-front (m + 1) (omega arith) (agree-more (getD-set-same u to v 0 (omega (arith, touched .len)))
-          (agree-then (untouched (to + 1) m (touches-set u to v) (omega arith)) (agree-copied m src (from + 1) (to + 1) s (omega arith) (omega arith)))))
+      (agree-then (untouched (to + 1) m (touches-set u to v) (omega arith)) (agree-copied m src (from + 1) (to + 1) s (omega arith) (omega arith)))))
       (touches-one to (m + 1) to v touched (omega arith) (omega arith) (omega arith) (omega arith))
     where
       u : List ℕ
@@ -91,26 +90,6 @@ module _ (src : List ℕ) (from to : ℕ) (s : List ℕ) where
 
       touched : Touches (to + 1) m s u
       touched = touches-copied m src (from + 1) (to + 1) s (omega arith) (omega arith)
-
--- ---- one turn of the loops that move bytes within a buffer: what is read has not been written yet
-pub move-down-turn : (s u : List ℕ) (from to k n : ℕ) → u ≡ moved k from to s → to ≤ from → k < n → from + n ≤ length s
-    → set u (to + k) (getD u (from + k) 0) ≡ moved (k + 1) from to s
-move-down-turn s u from to k n e h l m =
-    let r : getD u (from + k) 0 ≡ getD s (from + k) 0 = rw e (getD-copied-out k s from to s (omega arith) (omega arith) (from + k) (omega arith)) in
-    rw (r, e) (copied-behind s from to s k (omega arith) (omega arith))
-
-pub move-up-turn : (s u : List ℕ) (from to k n : ℕ) → u ≡ moved (n - k) (from + k) (to + k) s → from ≤ to → 0 < k → k ≤ n → to + n ≤ length s
-    → set u (to + (k - 1)) (getD u (from + (k - 1)) 0) ≡ moved (n - (k - 1)) (from + (k - 1)) (to + (k - 1)) s
-move-up-turn s u from to k n e h p l m =
-    let r : getD u (from + (k - 1)) 0 ≡ getD s (from + (k - 1)) 0 =
-        rw e (getD-copied-out (n - k) s (from + k) (to + k) s (omega arith) (omega arith) (from + (k - 1)) (omega arith)) in
-    let a : from + k ≡ from + (k - 1) + 1 = omega arith in
-    let b : to + k ≡ to + (k - 1) + 1 = omega arith in
-    let c : n - (k - 1) ≡ n - k + 1 = omega arith in
-    rw (r, e, a, b, c) (copied-before s (from + (k - 1)) (to + (k - 1)) s (n - k) (omega arith) (omega arith))
-
-pub move-up-start : (s : List ℕ) (from to n : ℕ) → from ≤ to → to + n ≤ length s → s ≡ moved (n - n) (from + n) (to + n) s
-move-up-start s from to n h l = rw (sub-self n) (sym (copied-none s (from + n) (to + n) s (omega arith) (omega arith)))
 
 -- ---- bytes set to zero: they agree with those past the end of any list
 module _ (n at : ℕ) (s : List ℕ) (h : at + n ≤ length s) where
@@ -165,30 +144,13 @@ zeroed-behind k at s h =
 pub zeroAt-true : (n at : ℕ) (s : List ℕ) → zeroAt n at s ≡ true → at + n ≤ length s → Agree n s at [] 0
 unfolding zeroAt
 zeroAt-true n at s e h =
-    record { byte = λ k l. sym (getD-part at n s k l)
-        ∙ eqb-true (getD (part at n s) k 0) 0 (all-at (λ b. eqb b 0) (part at n s) k 0 e (omega (arith, length-part at n s h))) }
+    record {
+      byte = λ k l. sym (getD-part at n s k l)
+          ∙ eqb-true (getD (part at n s) k 0) 0 (all-at (λ b. eqb b 0) (part at n s) k 0 e (omega (arith, length-part at n s h)));
+    }
 
 pub zeroAt-is : (n at : ℕ) (s : List ℕ) → at + n ≤ length s → Agree n s at [] 0 → zeroAt n at s ≡ true
 unfolding zeroAt
 zeroAt-is n at s h g =
     all-each (λ b. eqb b 0) (part at n s) 0
     (λ k l. let m : k < n = omega (arith, length-part at n s h) in eq-eqb (getD (part at n s) k 0) 0 (getD-part at n s k m ∙ g .byte k m))
-
-pub zeroAt-done : (n at : ℕ) (s : List ℕ) → zeroAt (n - n) at s ≡ true
-unfolding zeroAt part all
-zeroAt-done n at s = rw (sub-self n)
-
-zeroAt-next : (m at : ℕ) (s : List ℕ) → at < length s → zeroAt (suc m) at s ≡ (eqb (getD s at 0) 0 && zeroAt m (at + 1) s)
-unfolding zeroAt part all
-zeroAt-next m at s h = rw (add-one, drop-cons s at 0 h)
-
-pub zeroAt-turn : (n at k : ℕ) (s : List ℕ) (ok : Bool) → k < n → at + n ≤ length s → zeroAt n at s ≡ (ok && zeroAt (n - k) (at + k) s)
-    → zeroAt n at s ≡ ((ok && eqb (getD s (at + k) 0) 0) && zeroAt (n - (k + 1)) (at + (k + 1)) s)
-zeroAt-turn n at k s ok h l e =
-    let p : n - k ≡ suc (n - (k + 1)) = omega arith in
-    let q : at + k + 1 ≡ at + (k + 1) = omega arith in
-    e
-    ∙ ap (λ m. ok && zeroAt m (at + k) s) p
-    ∙ ap (λ b. ok && b) (zeroAt-next (n - (k + 1)) (at + k) s (omega arith))
-    ∙ ap (λ x. ok && (eqb (getD s (at + k) 0) 0 && zeroAt (n - (k + 1)) x s)) q
-    ∙ sym (and-assoc ok (eqb (getD s (at + k) 0) 0) (zeroAt (n - (k + 1)) (at + (k + 1)) s))

@@ -87,23 +87,25 @@ part-ext n {s} {t} {a} {b} h l g =
 pub putPart-ext : (at : ℕ) (t s u : List ℕ) → at + length t ≤ length s → Agree (length t) u at t 0 → Touches at (length t) s u → u ≡ putPart at t s
 putPart-ext at t s u h g f =
     ext-getD 0 u (putPart at t s) (f .len ∙ sym (length-putPart at t s h))
-    (λ k l. elim (decLt k at)
-        [ yes b ↦ f .rest k (omega arith) ∙ sym (getD-putPart-out at t s k h (omega arith))
-        | no b ↦
-            elim (decLt k (at + length t))
-            [ yes c ↦
+    (λ k l. elim (decLt k at) [
+      | yes b ↦ f .rest k (omega arith) ∙ sym (getD-putPart-out at t s k h (omega arith))
+      | no b ↦
+          elim (decLt k (at + length t)) [
+            | yes c ↦
                 let q : k ≡ at + (k - at) = omega arith in
                 ap (λ x. getD u x 0) q
                 ∙ (agree-then g (agree-back (agree-putPart at t s (omega arith)))) .byte (k - at) (omega arith)
                 ∙ ap (λ x. getD (putPart at t s) x 0) (sym q)
-            | no c ↦ f .rest k (omega arith) ∙ sym (getD-putPart-out at t s k h (omega arith)) ] ])
+            | no c ↦ f .rest k (omega arith) ∙ sym (getD-putPart-out at t s k h (omega arith))
+          ]
+    ])
 
 -- ---- a part is read back as it was put, and a write beside it leaves it
 pub part-same : (at n : ℕ) (t s : List ℕ) → length t ≡ n → at + n ≤ length s → part at n (putPart at t s) ≡ t
 part-same at n t s e h =
     ext-getD 0 (part at n (putPart at t s)) t (length-part at n (putPart at t s) (omega (arith, l)) ∙ sym e)
     (λ k m. let q : k < n = omega (arith, length-part at n (putPart at t s) (omega (arith, l))) in
-        getD-part at n (putPart at t s) k q ∙ getD-putPart-in at t s k (omega arith) (omega arith))
+    getD-part at n (putPart at t s) k q ∙ getD-putPart-in at t s k (omega arith) (omega arith))
   where
     l : length (putPart at t s) ≡ length s
     l = length-putPart at t s (omega arith)
@@ -118,7 +120,7 @@ pub putPart-part : (at n : ℕ) (s : List ℕ) → at + n ≤ length s → putPa
 putPart-part at n s h =
     let e = length-part at n s h in
     sym (putPart-ext at (part at n s) s s (omega arith) (agree-front (length (part at n s)) (omega arith) (agree-back (agree-part at n s)))
-        (record { len = refl; rest = λ k l. refl }))
+    (record { len = refl; rest = λ k l. refl }))
 
 pub part-part : (a n at m : ℕ) (s : List ℕ) → a + n ≤ m → at + m ≤ length s → part a n (part at m s) ≡ part (at + a) n s
 part-part a n at m s h l = part-ext n (omega (arith, length-part at m s l)) (omega arith) (inside at m s a n h)

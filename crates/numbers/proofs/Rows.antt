@@ -65,7 +65,7 @@ unfolding rows
 drop-rows c ws base z n s =
     drop-tab c n 0 (λ i. fieldsAt ws s (base + z * i))
     ∙ tab-same (n - c) (0 + c) 0 (λ i. fieldsAt ws s (base + z * i)) (λ i. fieldsAt ws s (base + z * c + z * i))
-        (λ k l. let e : base + z * (0 + c + k) ≡ base + z * c + z * (0 + k) = omega arith in ap (λ x. fieldsAt ws s x) e)
+    (λ k l. let e : base + z * (0 + c + k) ≡ base + z * c + z * (0 + k) = omega arith in ap (λ x. fieldsAt ws s x) e)
 
 -- the rows of a part, and rows copied to another buffer
 pub rows-part : (ws : List ℕ) (base z c at n : ℕ) (s : List ℕ) → base + z * c ≤ n → widthOf ws ≤ z → rows ws base z c (part at n s) ≡ rows ws (at + base) z c s
@@ -88,7 +88,7 @@ rows-inj ws z n {s} {t} {a} {b} w f g e = record { byte = λ k h. at k h (eq-zer
     at k h (inr q) =
         let l : k / z < n = div-lt-iff-lt-mul q .1 (omega arith) in
         let r : fieldsAt ws s (a + z * (k / z)) ≡ fieldsAt ws t (b + z * (k / z)) =
-            sym (getD-rows ws a z n s (k / z) [] l) ∙ ap (λ x. getD x (k / z) []) e ∙ getD-rows ws b z n t (k / z) [] l in
+        sym (getD-rows ws a z n s (k / z) [] l) ∙ ap (λ x. getD x (k / z) []) e ∙ getD-rows ws b z n t (k / z) [] l in
         let x : a + k ≡ a + z * (k / z) + k % z = omega (arith, div-add-mod k z) in
         let y : b + z * (k / z) + k % z ≡ b + k = omega (arith, div-add-mod k z) in
         ap (λ x. getD s x 0) x ∙ fields-inj ws f g r .byte (k % z) (omega (arith, mod-lt k q)) ∙ ap (λ x. getD t x 0) y

@@ -24,7 +24,7 @@ rows-insert ws base z n s i m vs h w f l r =
     (λ k b. fields-apart ws (base + z * k) touched (omega (arith, row-within z (widthOf ws) k i w b)))
     (fields-same ws s₁ p vs f (omega (arith, length-copied m s p (p + z) s (omega arith) r)))
     (λ k a b. fields-other ws (base + z * (k + 1)) ws s₁ p vs (rows-apart z (widthOf ws) base (k + 1) i w (omega arith))
-        ∙ fieldsAt-ext ws (moved-row k a b))
+    ∙ fieldsAt-ext ws (moved-row k a b))
   where
     p : ℕ
     p = base + z * i

@@ -78,3 +78,69 @@ pub fn write_u64(s: &mut [u8], at: usize, v: u64)
     write_u32(s, at, (v % 4294967296) as u32);
     write_u32(s, at + 4, (v / 4294967296) as u32);
 }
+
+// Copies n bytes of one slice, from `start` on, into another, from `at` on.
+pub fn copy_bytes(to: &mut [u8], at: usize, from: &[u8], start: usize, n: usize)
+    requires { do ⌜ at + n ≤ (← ⟦to.len()⟧) ⌝ }
+    requires { do ⌜ start + n ≤ (← ⟦from.len()⟧) ⌝ }
+    ensures { λ _. ⌜ now (to .exit) ≡ copied n (now (from .entry)) start at (now (to .entry)) ⌝ }
+{
+    let mut k: usize = 0;
+    while k < n {
+        to[at + k] = from[start + k];
+        k += 1;
+    }
+}
+
+// Moves n bytes within a slice to a place at or above their own. The last byte goes first, so that none is read after
+// it has been written over.
+pub fn move_up(s: &mut [u8], from: usize, to: usize, n: usize)
+    requires { ⌜ from ≤ to ⌝ }
+    requires { do ⌜ to + n ≤ (← ⟦s.len()⟧) ⌝ }
+    ensures { λ _. ⌜ now (s .exit) ≡ moved n from to (now (s .entry)) ⌝ }
+{
+    let mut k = n;
+    while 0 < k {
+        k -= 1;
+        s[to + k] = s[from + k];
+    }
+}
+
+// Moves n bytes within a slice to a place at or below their own. The first byte goes first.
+pub fn move_down(s: &mut [u8], from: usize, to: usize, n: usize)
+    requires { ⌜ to ≤ from ⌝ }
+    requires { do ⌜ from + n ≤ (← ⟦s.len()⟧) ⌝ }
+    ensures { λ _. ⌜ now (s .exit) ≡ moved n from to (now (s .entry)) ⌝ }
+{
+    let mut k: usize = 0;
+    while k < n {
+        s[to + k] = s[from + k];
+        k += 1;
+    }
+}
+
+// Sets n bytes from a place on to zero.
+pub fn zero_bytes(s: &mut [u8], at: usize, n: usize)
+    requires { do ⌜ at + n ≤ (← ⟦s.len()⟧) ⌝ }
+    ensures { λ _. ⌜ now (s .exit) ≡ zeroed n at (now (s .entry)) ⌝ }
+{
+    let mut k: usize = 0;
+    while k < n {
+        s[at + k] = 0;
+        k += 1;
+    }
+}
+
+// Whether n bytes from a place on are all zero. Every byte is looked at, with no early end: wide steps are cheaper.
+pub fn is_zero(s: &[u8], at: usize, n: usize) -> bool
+    requires { do ⌜ at + n ≤ (← ⟦s.len()⟧) ⌝ }
+    ensures { λ r. ⌜ r ≡ zeroAt n at (now (s .entry)) ⌝ }
+{
+    let mut ok = true;
+    let mut k: usize = 0;
+    while k < n {
+        ok = ok & (s[at + k] == 0);
+        k += 1;
+    }
+    ok
+}

@@ -1,0 +1,55 @@
+-- `numbers::zero_bytes` meets its contract. The invariant: the first k of the n bytes are zero. The measure is what is left of n.
+-- Assumes nothing.
+use borrow.Author.Needs.{needs}
+use mathlib.Core.Path.{_≡_}
+use Prim.Native.Nat.{_-_, _≤_}
+use lib.ListN.{length, length-set}
+use Rattle.numbers.specs.Numbers.{zeroed}
+use Rattle.numbers.proofs.Turns.{zero-start, zero-turn, zero-end}
+use Rattle.numbers.proofs.zero_bytes.Statement.{statement}
+use Rattle.numbers.proofs.zero_bytes.Tie as tie
+
+abbrev Inv-loop : tie.InvT-loop
+Inv-loop s₀ at n k₀ s k = (k ≤ n) × ((length s ≡ length s₀) × (s ≡ zeroed k at s₀))
+
+abbrev μ-loop : tie.MeasureT-loop
+μ-loop s₀ at n k₀ s k = n - k
+
+loop-holds : tie.Need-loop-holds Inv-loop μ-loop
+loop-holds c = (search needs, (search needs, search (needs, zero-start)))
+
+add-s : tie.Need-add-s Inv-loop μ-loop
+add-s c = search needs
+
+slice-write-s : tie.Need-slice-write-s Inv-loop μ-loop
+slice-write-s c = search needs
+
+add-k : tie.Need-add-k Inv-loop μ-loop
+add-k c = search needs
+
+loop-less : tie.Need-loop-less Inv-loop μ-loop
+loop-less c = search needs
+
+loop-again : tie.Need-loop-again Inv-loop μ-loop
+loop-again c = (search needs, (search (needs, length-set), search (needs, zero-turn)))
+
+same-length : tie.Need-same-length Inv-loop μ-loop
+same-length c = search needs
+
+returns : tie.Need-returns Inv-loop μ-loop
+returns c = search (needs, zero-end)
+
+pub zero-bytes-spec : {M : Type 1} → statement M
+zero-bytes-spec =
+    tie.close
+    (tie.spec
+    Inv-loop
+    μ-loop
+    loop-holds
+    add-s
+    slice-write-s
+    add-k
+    loop-less
+    loop-again
+    same-length
+    returns)
