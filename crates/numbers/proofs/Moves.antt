@@ -15,7 +15,7 @@ use Rattle.lists.specs.Lists.{all}
 use Rattle.lists.proofs.Tests.{all-at, all-each}
 use Rattle.numbers.specs.Numbers.{part, putPart, copied, zeroed, zeroAt, Apart}
 use Rattle.numbers.proofs.Agree.{Agree, Touches, agree-back, agree-then, agree-front, agree-more, untouched, touches-wider, touches-set, touches-one}
-use Rattle.numbers.proofs.Parts.{length-part, getD-part, getD-putPart-in, agree-part, agree-putPart, touches-putPart, putPart-ext}
+use Rattle.numbers.proofs.Parts.{length-part, getD-part, getD-putPart-in, agree-part, agree-putPart, touches-putPart, putPart-ext, putPart-none}
 
 module _ (n : ℕ) (src : List ℕ) (from to : ℕ) (s : List ℕ) (h : from + n ≤ length src) (l : to + n ≤ length s) where
   pub touches-copied : Touches to n s (copied n src from to s)
@@ -48,9 +48,9 @@ module _ (n : ℕ) (src : List ℕ) (from to : ℕ) (s : List ℕ) (h : from + n
       (touches-wider to (length (part from n src)) (omega arith) (omega arith) f)
 
 -- ---- one byte more, behind and in front
-pub copied-none : (src : List ℕ) (from to : ℕ) (s : List ℕ) → from ≤ length src → to ≤ length s → copied 0 src from to s ≡ s
-copied-none src from to s h l =
-    sym (copied-ext 0 src from to s (omega arith) (omega arith) s (record { byte = λ k m. absurd (not-suc-le-zero m) }) (record { len = refl; rest = λ k m. refl }))
+pub copied-none : (src : List ℕ) (from to : ℕ) (s : List ℕ) → s ≡ copied 0 src from to s
+unfolding copied part
+copied-none src from to s = putPart-none to s
 
 module _ (src : List ℕ) (from to : ℕ) (s : List ℕ) where
   pub copied-behind : (k : ℕ) → from + k < length src → to + k < length s
@@ -121,9 +121,9 @@ module _ (n at : ℕ) (s : List ℕ) (h : at + n ≤ length s) where
       (record { byte = λ k l. g .byte k (omega arith) ∙ sym (getD-replicate n (0 + k) 0 0 (omega arith)) })
       (touches-wider at (length (replicate n 0)) (omega arith) (omega arith) f)
 
-pub zeroed-none : (at : ℕ) (s : List ℕ) → at ≤ length s → zeroed 0 at s ≡ s
-zeroed-none at s h =
-    sym (zeroed-ext 0 at s (omega arith) s (record { byte = λ k m. absurd (not-suc-le-zero m) }) (record { len = refl; rest = λ k m. refl }))
+pub zeroed-none : (at : ℕ) (s : List ℕ) → s ≡ zeroed 0 at s
+unfolding zeroed
+zeroed-none at s = putPart-none at s
 
 pub zeroed-behind : (k at : ℕ) (s : List ℕ) → at + k < length s → set (zeroed k at s) (at + k) 0 ≡ zeroed (k + 1) at s
 zeroed-behind k at s h =

@@ -1,9 +1,9 @@
 -- Laws of a part of a buffer and of a part put back: what stands where, lengths, and what a function that lends a part is left with.
 -- By what stands at each place. Assumes nothing.
 use mathlib.Core.Path.{_≡_, refl, sym, ap, _∙_}
-use mathlib.Core.List.{List, _++_, append-assoc}
+use mathlib.Core.List.{List, [], _∷_, _++_, append-assoc, append-nil}
 use Prim.Native.Nat.{ℕ, zero, suc, _+_, _-_, _*_, _≤_, _<_}
-use native.Mathlib.Nat.{add-sub-cancel-left, zero-add}
+use native.Mathlib.Nat.{add-sub-cancel-left, zero-add, add-zero}
 use native.Mathlib.Decide.{decLt}
 use native.Mathlib.Omega.{arith}
 use lib.ListN.{length, getD, take, drop, length-append, length-take, length-drop, take-append-drop, List·getD-append}
@@ -125,6 +125,10 @@ putPart-part at n s h =
 pub part-part : (a n at m : ℕ) (s : List ℕ) → a + n ≤ m → at + m ≤ length s → part a n (part at m s) ≡ part (at + a) n s
 part-part a n at m s h l = part-ext n (omega (arith, length-part at m s l)) (omega arith) (inside at m s a n h)
 
+pub putPart-none : (at : ℕ) (s : List ℕ) → s ≡ putPart at [] s
+unfolding putPart
+putPart-none at s = simp (append-nil, add-zero) (sym (take-append-drop at s))
+
 pub putPart-twice : (at : ℕ) (t u s : List ℕ) → length u ≡ length t → at + length t ≤ length s → putPart at u (putPart at t s) ≡ putPart at u s
 putPart-twice at t u s e h =
     let l = length-putPart at t s h in
@@ -136,6 +140,14 @@ pub lent : (at n : ℕ) (s : List ℕ) → take (at + n - at) (drop at s) ≡ pa
 unfolding part
 lent at n s = rw (add-sub-cancel-left at n)
 
-pub back : (at n : ℕ) (t s : List ℕ) → length t ≡ n → putMid at (at + n - at) s t ≡ putPart at t s
+pub back : (at n : ℕ) (t u s : List ℕ) → length t ≡ length (take (at + n - at) (drop at s)) → t ≡ u → putMid at (at + n - at) s t ≡ putPart at u s
 unfolding putPart
-back at n t s e = rw (add-sub-cancel-left at n, drop-drop, e, append-assoc)
+back at n t u s l e =
+    sym (append-assoc (take at s) t (drop (at + n - at) (drop at s)))
+    ∙ ap (λ r. take at s ++ t ++ r) (sym (past (at + n - at) (drop at s)) ∙ ap (λ k. drop k (drop at s)) (sym l) ∙ drop-drop (length t) at s)
+    ∙ ap (λ x. putPart at x s) e
+  where
+    past : (m : ℕ) (l : List ℕ) → drop (length (take m l)) l ≡ drop m l
+    past zero l = refl
+    past (suc m) [] = refl
+    past (suc m) (x ∷ xs) = past m xs

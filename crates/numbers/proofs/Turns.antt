@@ -12,12 +12,9 @@ use lib.ListN.{length, getD, set}
 use lib.Seq.{drop-cons}
 use Rattle.lists.specs.Lists.{all}
 use Rattle.numbers.specs.Numbers.{part, copied, moved, zeroed, zeroAt}
-use Rattle.numbers.proofs.Moves.{getD-copied-out, copied-none, copied-behind, copied-before, zeroed-none, zeroed-behind}
+use Rattle.numbers.proofs.Moves.{getD-copied-out, copied-none, copied-behind, copied-before, zeroed-behind}
 
 -- ---- copying, first byte first
-pub copy-start : (n : ℕ) (src : List ℕ) (from to : ℕ) (s : List ℕ) → from + n ≤ length src → to + n ≤ length s → s ≡ copied 0 src from to s
-copy-start n src from to s h l = sym (copied-none src from to s (omega arith) (omega arith))
-
 pub copy-turn : (n : ℕ) (src : List ℕ) (from to : ℕ) (s u : List ℕ) (k : ℕ) → u ≡ copied k src from to s → k < n → from + n ≤ length src → to + n ≤ length s
     → set u (to + k) (getD src (from + k) 0) ≡ copied (k + 1) src from to s
 copy-turn n src from to s u k e h l m = rw e (copied-behind src from to s k (omega arith) (omega arith))
@@ -26,9 +23,6 @@ pub copy-end : (n : ℕ) (src : List ℕ) (from to : ℕ) (s u : List ℕ) (k : 
 copy-end n src from to s u k e h l = let q : k ≡ n = omega arith in rw q at e
 
 -- ---- moving within a buffer: down, first byte first, and up, last byte first
-pub move-down-start : (s : List ℕ) (from to n : ℕ) → to ≤ from → from + n ≤ length s → s ≡ moved 0 from to s
-move-down-start s from to n h l = sym (copied-none s from to s (omega arith) (omega arith))
-
 pub move-down-turn : (s u : List ℕ) (from to k n : ℕ) → u ≡ moved k from to s → to ≤ from → k < n → from + n ≤ length s
     → set u (to + k) (getD u (from + k) 0) ≡ moved (k + 1) from to s
 move-down-turn s u from to k n e h l m =
@@ -45,8 +39,8 @@ move-up-turn s u from to k n e h p l m =
     let c : n - (k - 1) ≡ n - k + 1 = omega arith in
     rw (r, e, a, b, c) (copied-before s (from + (k - 1)) (to + (k - 1)) s (n - k) (omega arith) (omega arith))
 
-pub move-up-start : (s : List ℕ) (from to n : ℕ) → from ≤ to → to + n ≤ length s → s ≡ moved (n - n) (from + n) (to + n) s
-move-up-start s from to n h l = rw (sub-self n) (sym (copied-none s (from + n) (to + n) s (omega arith) (omega arith)))
+pub move-up-start : (s : List ℕ) (from to n : ℕ) → s ≡ moved (n - n) (from + n) (to + n) s
+move-up-start s from to n = rw (sub-self n) (copied-none s (from + n) (to + n) s)
 
 pub move-up-end : (s u : List ℕ) (from to k n : ℕ) → u ≡ moved (n - k) (from + k) (to + k) s → k ≤ 0 → u ≡ moved n from to s
 move-up-end s u from to k n e h =
@@ -54,9 +48,6 @@ move-up-end s u from to k n e h =
     simp (q, sub-zero, add-zero) at e
 
 -- ---- setting to zero
-pub zero-start : (n at : ℕ) (s : List ℕ) → at + n ≤ length s → s ≡ zeroed 0 at s
-zero-start n at s h = sym (zeroed-none at s (omega arith))
-
 pub zero-turn : (n at : ℕ) (s u : List ℕ) (k : ℕ) → u ≡ zeroed k at s → k < n → at + n ≤ length s → set u (at + k) 0 ≡ zeroed (k + 1) at s
 zero-turn n at s u k e h l = rw e (zeroed-behind k at s (omega arith))
 

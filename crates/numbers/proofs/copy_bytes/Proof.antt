@@ -5,7 +5,8 @@ use mathlib.Core.Path.{_≡_}
 use Prim.Native.Nat.{_-_, _≤_}
 use lib.ListN.{length, length-set}
 use Rattle.numbers.specs.Numbers.{copied}
-use Rattle.numbers.proofs.Turns.{copy-start, copy-turn, copy-end}
+use Rattle.numbers.proofs.Moves.{copied-none}
+use Rattle.numbers.proofs.Turns.{copy-turn, copy-end}
 use Rattle.numbers.proofs.copy_bytes.Statement.{statement}
 use Rattle.numbers.proofs.copy_bytes.Tie as tie
 
@@ -16,7 +17,7 @@ abbrev μ-loop : tie.MeasureT-loop
 μ-loop to₀ at from start n k₀ to k = n - k
 
 loop-holds : tie.Need-loop-holds Inv-loop μ-loop
-loop-holds c = (search needs, (search needs, search (needs, copy-start)))
+loop-holds c = (search needs, (search needs, search (needs, copied-none)))
 
 add-to : tie.Need-add-to Inv-loop μ-loop
 add-to c = search needs

@@ -5,7 +5,8 @@ use mathlib.Core.Path.{_≡_}
 use Prim.Native.Nat.{_-_, _≤_}
 use lib.ListN.{length, length-set}
 use Rattle.numbers.specs.Numbers.{moved}
-use Rattle.numbers.proofs.Turns.{move-down-start, move-down-turn, copy-end}
+use Rattle.numbers.proofs.Moves.{copied-none}
+use Rattle.numbers.proofs.Turns.{move-down-turn, copy-end}
 use Rattle.numbers.proofs.move_down.Statement.{statement}
 use Rattle.numbers.proofs.move_down.Tie as tie
 
@@ -16,7 +17,7 @@ abbrev μ-loop : tie.MeasureT-loop
 μ-loop s₀ from to n k₀ s k = n - k
 
 loop-holds : tie.Need-loop-holds Inv-loop μ-loop
-loop-holds c = (search needs, (search needs, search (needs, move-down-start)))
+loop-holds c = (search needs, (search needs, search (needs, copied-none)))
 
 add-s : tie.Need-add-s Inv-loop μ-loop
 add-s c = search needs

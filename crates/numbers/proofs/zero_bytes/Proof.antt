@@ -5,7 +5,8 @@ use mathlib.Core.Path.{_≡_}
 use Prim.Native.Nat.{_-_, _≤_}
 use lib.ListN.{length, length-set}
 use Rattle.numbers.specs.Numbers.{zeroed}
-use Rattle.numbers.proofs.Turns.{zero-start, zero-turn, zero-end}
+use Rattle.numbers.proofs.Moves.{zeroed-none}
+use Rattle.numbers.proofs.Turns.{zero-turn, zero-end}
 use Rattle.numbers.proofs.zero_bytes.Statement.{statement}
 use Rattle.numbers.proofs.zero_bytes.Tie as tie
 
@@ -16,7 +17,7 @@ abbrev μ-loop : tie.MeasureT-loop
 μ-loop s₀ at n k₀ s k = n - k
 
 loop-holds : tie.Need-loop-holds Inv-loop μ-loop
-loop-holds c = (search needs, (search needs, search (needs, zero-start)))
+loop-holds c = (search needs, (search needs, search (needs, zeroed-none)))
 
 add-s : tie.Need-add-s Inv-loop μ-loop
 add-s c = search needs
