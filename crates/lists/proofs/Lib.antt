@@ -2,3 +2,4 @@ pub mod Tests
 pub mod Counts
 pub mod Places
 pub mod Tables
+pub mod Finite
