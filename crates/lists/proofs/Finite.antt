@@ -199,6 +199,11 @@ module _ {A : Type 0} where
   length-tab (suc n) i f = ap suc (length-tab n (i + 1) f)
 
 module _ {A : Type 0} where
+  pub map-in : {C : Type 0} (f : A → C) (xs : List A) (y : C) → In y (map f xs) → (x : A) × In x xs × (f x ≡ y)
+  map-in f [] y i = absurd i
+  map-in f (x ∷ xs) y (inl e) = (x, inl refl, e)
+  map-in f (x ∷ xs) y (inr i) = let w = map-in f xs y i in (w .0, inr (w .1), w .2)
+
   -- ---- no repeats: what has a number of its own in a list is no more than the list is long
   pub no-more : (f : A → ℕ) (xs : List A) (ys : List ℕ) → pairs (λ a b. not (eqb (f a) (f b))) xs ≡ true
     → ((x : A) → In x xs → In (f x) ys) → length xs ≤ length ys

@@ -1,0 +1,137 @@
+-- Who waits behind whom: every wait is a queued request and every queued request has one, and whoever blocks it is another one, who holds
+-- a lock or is queued. By induction on the queue, with those ahead at hand. Assumes nothing.
+use Prim.Native.Nat.{ℕ, _≤_, _<_}
+use mathlib.Core.Path.{_≡_, refl, sym, ap, subst, _∙_}
+use mathlib.Core.Logic.{_⊎_, inl, inr}
+use mathlib.Core.Bool.{Bool, true, false, cond, not, _&&_, true≢false, false≢true}
+use mathlib.Core.List.{List, [], _∷_, _++_, map}
+use native.Mathlib.Omega.{arith}
+use native.Mathlib.Decide.{decLt}
+use mathlib.Core.Option.{none, some}
+use borrow.Author.Tests.{not-true, leb-true, le-leb}
+use lib.Dec.{eqb, leb}
+use lib.ListN.{length, List·getD-eq-default}
+use Rattle.lists.specs.Lists.{keep, In, isNil}
+use Rattle.lists.proofs.Finite.{and-left, and-right, and-both, all-in, append-in, keep-in, first-in, none-first, last-in, none-last, in-tab, map-in}
+use Rattle.rules.specs.Kinds.{Book, Queued, Lock, State, idle}
+use Rattle.rules.specs.Entries.{Entries}
+use Rattle.rules.specs.Locks.{Slots, Want, wanted, inUse, sameName, conflict, clash, holds, holders, earlier, blockers}
+use Rattle.rules.specs.Queue.{St, Q, Wait, waits, waitsFrom, oldest, everyone, onCircle, newest}
+use Rattle.rules.specs.Desk.{runs, isRunning, isTransaction, legalAsk}
+use Rattle.rules.specs.Good.{Good, Lk, isName, lockStands, queueStands}
+
+module _ (B : Book) where
+  -- a wait is a queued request, blocked with an eye to some of the queue
+  pub record Placed (es : Entries B) (ls : Slots B) (queue : List (Q B)) (w : Wait B) : Type 0 where
+    pub queued : In (w .request) queue
+    pub ahead : List (Q B)
+    pub among : (q : Q B) → In q ahead → In q queue
+    pub behind : w .behind ≡ blockers B es ls ahead (w .request)
+
+  placed-from : (es : Entries B) (ls : Slots B) (queue ahead qs : List (Q B)) → ((q : Q B) → In q ahead → In q queue)
+    → ((q : Q B) → In q qs → In q queue) → (w : Wait B) → In w (waitsFrom B es ls ahead qs) → Placed es ls queue w
+  unfolding waitsFrom
+  placed-from es ls queue ahead [] a h w i = absurd i
+  placed-from es ls queue ahead (q ∷ qs) a h w (inl e) =
+      subst (Placed es ls queue) e (record { queued = h q (inl refl); ahead = ahead; among = a; behind = refl })
+  placed-from es ls queue ahead (q ∷ qs) a h w (inr i) =
+      placed-from es ls queue (ahead ++ (q ∷ [])) qs (λ p j. more p (append-in ahead (q ∷ []) p j)) (λ p j. h p (inr j)) w i
+    where
+      more : (p : Q B) → In p ahead ⊎ In p (q ∷ []) → In p queue
+      more p (inl j) = a p j
+      more p (inr (inl e)) = h p (inl e)
+      more p (inr (inr x)) = absurd x
+
+  pub placed : (s : St B) (w : Wait B) → In w (waits B s) → Placed (s .entries) (s .slots) (s .queue) w
+  unfolding waits
+  placed s = placed-from (s .entries) (s .slots) (s .queue) [] (s .queue) (λ q x. absurd x) (λ q i. i)
+
+  wait-from : (es : Entries B) (ls : Slots B) (ahead qs : List (Q B)) (q : Q B) → In q qs
+    → (w : Wait B) × In w (waitsFrom B es ls ahead qs) × (w .request ≡ q)
+  unfolding waitsFrom
+  wait-from es ls ahead [] q i = absurd i
+  wait-from es ls ahead (p ∷ qs) q (inl e) = (record { request = p; behind = blockers B es ls ahead p }, inl refl, e)
+  wait-from es ls ahead (p ∷ qs) q (inr i) =
+      let w = wait-from es ls (ahead ++ (p ∷ [])) qs q i in (w .0, inr (w .1), w .2)
+
+  pub wait-of : (s : St B) (q : Q B) → In q (s .queue) → (w : Wait B) × In w (waits B s) × (w .request ≡ q)
+  unfolding waits
+  wait-of s = wait-from (s .entries) (s .slots) [] (s .queue)
+
+  -- what is used of the two choices: who is chosen waits, and where nobody is, none waits unblocked, and none lies on a circle
+  pub oldest-waits : (s : St B) (w : Wait B) → oldest B s ≡ some w → In w (waits B s)
+  unfolding oldest
+  oldest-waits s w e = first-in (λ v. isNil (v .behind)) (waits B s) w e .0
+
+  pub oldest-none : (s : St B) (w : Wait B) → oldest B s ≡ none → In w (waits B s) → isNil (w .behind) ≡ false
+  unfolding oldest
+  oldest-none s w e i = none-first (λ v. isNil (v .behind)) (waits B s) w e i
+
+  pub newest-waits : (s : St B) (w : Wait B) → newest B s ≡ some w → In w (waits B s)
+  unfolding newest
+  newest-waits s w e = last-in (onCircle B (waits B s)) (waits B s) w e .0
+
+  pub newest-none : (s : St B) (w : Wait B) → newest B s ≡ none → In w (waits B s) → onCircle B (waits B s) w ≡ false
+  unfolding newest
+  newest-none s w e i = none-last (onCircle B (waits B s)) (waits B s) w e i
+
+  -- whoever is kept as another one than t is another one, and one of all
+  kept-other : {A : Type 0} (P : ℕ → Type 0) (f : A → ℕ) (t u : ℕ) (r : A → Bool) (xs : List A) → ((x : A) → In x xs → P (f x))
+    → In u (map f (keep (λ x. not (eqb (f x) t) && r x) xs)) → P u × (eqb u t ≡ false)
+  kept-other P f t u r xs h i =
+      let w = map-in f (keep (λ x. not (eqb (f x) t) && r x) xs) u i in
+      let k = keep-in (λ x. not (eqb (f x) t) && r x) xs (w .0) (w .1) in
+      subst (λ v. P v × (eqb v t ≡ false)) (w .2)
+      (h (w .0) (k .0), not-true (eqb (f (w .0)) t) (and-left (not (eqb (f (w .0)) t)) (r (w .0)) (k .1)))
+
+  -- a blocker is another one than the asker, and holds a lock or is queued ahead
+  blocker : (P : ℕ → Type 0) (es : Entries B) (ls : Slots B) (ahead : List (Q B)) (q : Q B) (u : ℕ)
+    → ((l : Lk B) → In l (inUse ls) → P (l .holder)) → ((p : Q B) → In p ahead → P (p .asker))
+    → In u (blockers B es ls ahead q) → P u × (eqb u (q .asker) ≡ false)
+  unfolding blockers holders earlier
+  blocker P es ls ahead q u held queued i =
+      go (holds B ls (q .asker) (w .name)) (append-in (holders B ls (q .asker) w) _ u i)
+    where
+      w : Want B
+      w = wanted B es q
+      go : (b : Bool) → In u (holders B ls (q .asker) w) ⊎ In u (cond b [] (earlier B es ahead (q .asker) w))
+          → P u × (eqb u (q .asker) ≡ false)
+      go b (inl j) =
+          kept-other P (λ l. l .holder) (q .asker) u (λ l. sameName B (l .name) (w .name) && conflict (l .mode) (w .mode)) (inUse ls) held j
+      go true (inr x) = absurd x
+      go false (inr j) = kept-other P (λ p. p .asker) (q .asker) u (λ p. clash B (wanted B es p) w) ahead queued j
+
+  pub in-everyone : (t : ℕ) → isTransaction B t ≡ true → In t (everyone B)
+  in-everyone t h =
+      let low : 1 ≤ t = leb-true 1 t (and-left (leb 1 t) (leb t (B .transactions)) h) in
+      let high : t ≤ B .transactions = leb-true t (B .transactions) (and-right (leb 1 t) (leb t (B .transactions)) h) in
+      in-tab (B .transactions) 1 (λ u. u) t (omega arith) (omega arith)
+
+  module _ (s : St B) (good : Good B s) where
+    pub runs-known : (t : ℕ) → runs B s t ≡ true → isTransaction B t ≡ true
+    runs-known t h =
+        and-both (leb 1 t) (leb t (B .transactions)) (le-leb 1 t (low (decLt 0 t))) (le-leb t (B .transactions) (high (decLt t (length (s .marks)))))
+      where
+        low : Dec (0 < t) → 1 ≤ t
+        low (yes l) = l
+        low (no n) =
+            let e : t ≡ 0 = omega arith in
+            absurd (true≢false (sym (subst (λ u. runs B s u ≡ true) e h) ∙ good .nobody))
+        high : Dec (t < length (s .marks)) → t ≤ B .transactions
+        high (yes l) = let e = good .marks in omega arith
+        high (no n) = absurd (false≢true (ap isRunning (sym (List·getD-eq-default (s .marks) idle (omega arith))) ∙ h))
+
+    pub queued-runs : (q : Q B) → In q (s .queue) → runs B s (q .asker) ≡ true
+    unfolding queueStands
+    queued-runs q i = and-left (runs B s (q .asker)) (legalAsk B (q .asks)) (all-in (queueStands B s) (s .queue) q (good .queued) i)
+
+    holder-runs : (l : Lk B) → In l (inUse (s .slots)) → runs B s (l .holder) ≡ true
+    unfolding lockStands
+    holder-runs l i =
+        and-left (runs B s (l .holder)) (isName B (s .entries) (l .name)) (all-in (lockStands B s) (inUse (s .slots)) l (good .names) i)
+
+    pub blocker-runs : (w : Wait B) → In w (waits B s) → (u : ℕ) → In u (w .behind) → (runs B s u ≡ true) × (eqb u (w .request .asker) ≡ false)
+    blocker-runs w i u j =
+        let p = placed s w i in
+        blocker (λ v. runs B s v ≡ true) (s .entries) (s .slots) (p .ahead) (w .request) u holder-runs
+        (λ q k. queued-runs q (p .among q k)) (subst (In u) (p .behind) j)
