@@ -69,6 +69,20 @@ module _ {A : Type 0} where
       go (inl j) = inl (inr j)
       go (inr j) = inr j
 
+  pub pairs-last : (r : A → A → Bool) (xs : List A) (y : A) → pairs r xs ≡ true → all (λ x. r x y) xs ≡ true → pairs r (xs ++ (y ∷ [])) ≡ true
+  unfolding all pairs
+  pairs-last r [] y d h = refl
+  pairs-last r (x ∷ xs) y d h =
+      let apart = and-left (all (r x) xs) (pairs r xs) d in
+      and-both (all (r x) (xs ++ (y ∷ []))) (pairs r (xs ++ (y ∷ [])))
+      (in-all (r x) (xs ++ (y ∷ [])) (λ z i. go z apart (append-in xs (y ∷ []) z i)))
+      (pairs-last r xs y (and-right (all (r x) xs) (pairs r xs) d) (and-right (r x y) (all (λ z. r z y) xs) h))
+    where
+      go : (z : A) → all (r x) xs ≡ true → In z xs ⊎ In z (y ∷ []) → r x z ≡ true
+      go z apart (inl i) = all-in (r x) xs z apart i
+      go z apart (inr (inl e)) = subst (λ w. r x w ≡ true) e (and-left (r x y) (all (λ z. r z y) xs) h)
+      go z apart (inr (inr i)) = absurd i
+
   -- ---- kept lists
   pub keep-in : (p : A → Bool) (xs : List A) (x : A) → In x (keep p xs) → In x xs × (p x ≡ true)
   unfolding keep

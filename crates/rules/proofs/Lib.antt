@@ -1,3 +1,4 @@
 pub mod Table
 pub mod Waits
 pub mod Rest
+pub mod Answers
