@@ -38,6 +38,16 @@ module _ {A : Type 0} where
   in-all p [] h = refl
   in-all p (y ∷ ys) h = and-both (p y) (all p ys) (h y (inl refl)) (in-all p ys (λ x i. h x (inr i)))
 
+  pub all-fails : (p : A → Bool) (xs : List A) → all p xs ≡ false → (x : A) × In x xs × (p x ≡ false)
+  unfolding all
+  all-fails p [] h = absurd (true≢false h)
+  all-fails p (y ∷ ys) h = go (p y) refl h (all-fails p ys)
+    where
+      go : (b : Bool) → p y ≡ b → (b && all p ys) ≡ false → (all p ys ≡ false → (x : A) × In x ys × (p x ≡ false))
+          → (x : A) × In x (y ∷ ys) × (p x ≡ false)
+      go true e h r = let w = r h in (w .0, inr (w .1), w .2)
+      go false e h r = (y, inl refl, e)
+
   pub in-any : (p : A → Bool) (xs : List A) (x : A) → In x xs → p x ≡ true → any p xs ≡ true
   unfolding any
   in-any p [] x i h = absurd i

@@ -2,3 +2,4 @@ pub mod Table
 pub mod Waits
 pub mod Rest
 pub mod Answers
+pub mod Chains

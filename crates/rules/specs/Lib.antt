@@ -5,5 +5,6 @@ pub mod Queue
 pub mod Runs
 pub mod Desk
 pub mod Good
+pub mod Chains
 pub mod Document
 pub mod Cases

@@ -1,0 +1,262 @@
+-- At rest nobody waits in a circle, and every chain of waits ends at one that runs and isn't waiting (specs/Chains). The search for circles
+-- finds every circle: one of any length has a shortcut that repeats nobody, and that one is short enough. Assumes the invariants of specs/Good.
+use Prim.Native.Nat.{ℕ, zero, suc, _-_, _≤_, _<_}
+use mathlib.Core.Path.{_≡_, refl, sym, ap, subst, _∙_}
+use mathlib.Core.Logic.{_≢_, _⊎_, inl, inr}
+use mathlib.Core.Bool.{Bool, true, false, not, _&&_, _||_, or-true, true≢false, false≢true}
+use mathlib.Core.List.{List, [], _∷_}
+use mathlib.Core.Option.{Option, none, some, Option·none-ne-some}
+use native.Mathlib.Omega.{arith}
+use borrow.Author.Tests.{eq-eqb, eqb-true, eqb-false, ne-eqb, not-false}
+use lib.Dec.{eqb}
+use lib.ListN.{length}
+use Rattle.lists.specs.Lists.{In, all, any, keep, pairs, member, isNil}
+use Rattle.lists.proofs.Finite.{and-left, and-right, and-both, in-any, any-in, all-fails, in-all, in-keep, keep-in, length-tab, no-more}
+use Rattle.rules.specs.Kinds.{Book, State, Queued}
+use Rattle.rules.specs.Queue.{St, Q, Wait, waits, oldest, newest, everyone, linked, further, reached, onCircle}
+use Rattle.rules.specs.Runs.{refused, served, turn, AtRest}
+use Rattle.rules.specs.Desk.{runs, waitsNow}
+use Rattle.rules.specs.Good.{Good}
+use Rattle.rules.specs.Chains.{Behind, Chain, endOf, Circle, Free, ReachesFree, ChainsEnd}
+use Rattle.rules.proofs.Waits.{placed, wait-of, oldest-none, newest-none, in-everyone, runs-known, queued-runs, blocker-runs}
+
+-- of different numbers
+abbrev pub different : ℕ → ℕ → Bool
+different u v = not (eqb u v)
+
+in-member : (u : ℕ) (us : List ℕ) → In u us → member u us ≡ true
+in-member u us i = in-any (λ x. eqb x u) us u i (eq-eqb u u refl)
+
+member-in : (u : ℕ) (us : List ℕ) → member u us ≡ true → In u us
+member-in u us h = let w = any-in (λ x. eqb x u) us h in subst (λ x. In x us) (eqb-true (w .0) u (w .2)) (w .1)
+
+some-blocker : (us : List ℕ) → isNil us ≡ false → (u : ℕ) × In u us
+some-blocker [] h = absurd (true≢false h)
+some-blocker (u ∷ us) h = (u, inl refl)
+
+module _ (B : Book) (s : St B) where
+  -- ---- parts of chains
+  -- a chain that meets u has a part that ends there
+  chain-to : (t : ℕ) (us : List ℕ) (u : ℕ) → Chain B s t us → In u us
+    → (v : ℕ) × (vs : List ℕ) × Chain B s t (v ∷ vs) × (endOf B v vs ≡ u)
+  chain-to t [] u c i = absurd i
+  chain-to t (v ∷ us) u c (inl e) = (v, [], (c .0, tt), e)
+  chain-to t (v ∷ us) u c (inr i) = let r = chain-to v us u (c .1) i in (v, r .0 ∷ r .1, (c .0, r .2), r .3)
+
+  -- a chain from t to u that repeats nobody
+  record Straight (t u : ℕ) : Type 0 where
+    steps : List ℕ
+    chain : Chain B s t steps
+    arrives : endOf B t steps ≡ u
+    once : pairs different (t ∷ steps) ≡ true
+
+  straight-from : (x : ℕ) (us : List ℕ) (t u : ℕ) → Chain B s x us → endOf B x us ≡ u → pairs different us ≡ true → In t us → Straight t u
+  unfolding pairs
+  straight-from x [] t u c e d i = absurd i
+  straight-from x (v ∷ us) t u c e d (inl q) =
+      subst (λ y. Straight y u) q (record { steps = us; chain = c .1; arrives = e; once = d })
+  straight-from x (v ∷ us) t u c e d (inr i) =
+      straight-from v us t u (c .1) e (and-right (all (different v) us) (pairs different us) d) i
+
+  straight : (t : ℕ) (us : List ℕ) → Chain B s t us → Straight t (endOf B t us)
+  unfolding all pairs
+  straight t [] c = record { steps = []; chain = tt; arrives = refl; once = refl }
+  straight t (v ∷ us) c = go (straight v us (c .1))
+    where
+      go : Straight v (endOf B v us) → Straight t (endOf B v us)
+      go r = by (all (different t) (v ∷ r .steps)) refl
+        where
+          by : (b : Bool) → all (different t) (v ∷ r .steps) ≡ b → Straight t (endOf B v us)
+          by true h =
+              record {
+                steps = v ∷ r .steps;
+                chain = (c .0, r .chain);
+                arrives = r .arrives;
+                once = and-both (all (different t) (v ∷ r .steps)) (pairs different (v ∷ r .steps)) h (r .once);
+              }
+          by false h =
+              let w = all-fails (different t) (v ∷ r .steps) h in
+              let same = eqb-true t (w .0) (not-false (eqb t (w .0)) (w .2)) in
+              straight-from t (v ∷ r .steps) t (endOf B v us) (c .0, r .chain) (r .arrives) (r .once)
+              (subst (λ x. In x (v ∷ r .steps)) (sym same) (w .1))
+
+  -- ---- the search for circles
+  further-stays : (xs : List ℕ) (u : ℕ) → In u (everyone B) → In u xs → In u (further B (waits B s) xs)
+  unfolding further
+  further-stays xs u k i =
+      in-keep (λ v. member v xs || linked B (waits B s) xs v) (everyone B) u k (ap (λ b. b || linked B (waits B s) xs u) (in-member u xs i))
+
+  further-link : (xs : List ℕ) (t u : ℕ) → In u (everyone B) → In t xs → Behind B s t u → In u (further B (waits B s) xs)
+  unfolding further
+  further-link xs t u k i b =
+      let w = b .wait in
+      let link : linked B (waits B s) xs u ≡ true =
+          in-any (λ v. member (v .request .asker) xs && member u (v .behind)) (waits B s) w (b .queued)
+          (and-both (member (w .request .asker) xs) (member u (w .behind))
+            (subst (λ a. member a xs ≡ true) (sym (b .asker)) (in-member t xs i)) (in-member u (w .behind) (b .blocker))) in
+      in-keep (λ v. member v xs || linked B (waits B s) xs v) (everyone B) u k (ap (λ b. member u xs || b) link ∙ or-true (member u xs))
+
+  reached-stays : (n : ℕ) (xs : List ℕ) (u : ℕ) → In u (everyone B) → In u xs → In u (reached B n (waits B s) xs)
+  unfolding reached
+  reached-stays zero xs u k i = i
+  reached-stays (suc n) xs u k i = reached-stays n (further B (waits B s) xs) u k (further-stays xs u k i)
+
+  -- a chain of at most n links is followed to its end in n rounds
+  reached-end : (n : ℕ) (xs : List ℕ) (t : ℕ) (us : List ℕ) → length us ≤ n → Chain B s t us
+    → ((u : ℕ) → In u (t ∷ us) → In u (everyone B)) → In t xs → In (endOf B t us) (reached B n (waits B s) xs)
+  unfolding reached
+  reached-end n xs t [] l c k i = reached-stays n xs t (k t (inl refl)) i
+  reached-end zero xs t (u ∷ us) l c k i = absurd (omega arith)
+  reached-end (suc n) xs t (u ∷ us) l c k i =
+      reached-end n (further B (waits B s) xs) u us (omega arith) (c .1) (λ v j. k v (inr j)) (further-link xs t u (k u (inr (inl refl))) i (c .0))
+
+  -- and whoever is reached is at the end of a chain
+  reached-from : (n : ℕ) (xs : List ℕ) (u : ℕ) → In u (reached B n (waits B s) xs)
+    → (t : ℕ) × (us : List ℕ) × In t xs × Chain B s t us × (endOf B t us ≡ u)
+  unfolding reached further
+  reached-from zero xs u i = (u, [], i, tt, refl)
+  reached-from (suc n) xs u i = go (reached-from n (further B (waits B s) xs) u i)
+    where
+      Found : Type 0
+      Found = (t : ℕ) × (us : List ℕ) × In t xs × Chain B s t us × (endOf B t us ≡ u)
+      go : ((t : ℕ) × (us : List ℕ) × In t (further B (waits B s) xs) × Chain B s t us × (endOf B t us ≡ u))
+          → (t : ℕ) × (us : List ℕ) × In t xs × Chain B s t us × (endOf B t us ≡ u)
+      go r = by (member (r .0) xs) refl (keep-in (λ v. member v xs || linked B (waits B s) xs v) (everyone B) (r .0) (r .2) .1)
+        where
+          by : (b : Bool) → member (r .0) xs ≡ b → (b || linked B (waits B s) xs (r .0)) ≡ true
+              → (t : ℕ) × (us : List ℕ) × In t xs × Chain B s t us × (endOf B t us ≡ u)
+          by true h l = (r .0, r .1, member-in (r .0) xs h, r .3, r .4)
+          by false h l =
+              let w = any-in (λ v. member (v .request .asker) xs && member (r .0) (v .behind)) (waits B s) l in
+              let a = w .0 .request .asker in
+              let asks = and-left (member a xs) (member (r .0) (w .0 .behind)) (w .2) in
+              let blocks = and-right (member a xs) (member (r .0) (w .0 .behind)) (w .2) in
+              (a, r .0 ∷ r .1, member-in a xs asks,
+                (record { wait = w .0; queued = w .1; asker = refl; blocker = member-in (r .0) (w .0 .behind) blocks }, r .3), r .4)
+
+  -- who is found on a circle is on one
+  pub circle-found : (w : Wait B) → In w (waits B s) → onCircle B (waits B s) w ≡ true → Circle B s (w .request .asker)
+  unfolding onCircle
+  circle-found w i h =
+      let a = w .request .asker in
+      let r = reached-from (B .transactions - 1) (w .behind) a (member-in a (reached B (B .transactions - 1) (waits B s) (w .behind)) h) in
+      record {
+        next = r .0;
+        others = r .1;
+        chain = (record { wait = w; queued = i; asker = refl; blocker = r .2 }, r .3);
+        back = r .4;
+      }
+
+  -- ---- at rest
+  rest-choices : AtRest B s → (oldest B s ≡ none) × (newest B s ≡ none)
+  unfolding turn
+  rest-choices h = by-oldest (oldest B s) refl h
+    where
+      by-newest : (o : Option (Wait B)) → refused B s o ≡ none → o ≡ none
+      by-newest none h = refl
+      by-newest (some w) h = absurd (Option·none-ne-some _ (sym h))
+      by-oldest : (o : Option (Wait B)) → oldest B s ≡ o → served B s o ≡ none → (oldest B s ≡ none) × (newest B s ≡ none)
+      by-oldest none e h = (e, by-newest (newest B s) h)
+      by-oldest (some w) e h = absurd (Option·none-ne-some _ (sym h))
+
+  module _ (good : Good B s) (rest : AtRest B s) where
+    someone : (t : ℕ) → waitsNow B s t ≡ true → (u : ℕ) × Behind B s t u
+    someone t h =
+        let q = any-in (λ p. eqb (p .asker) t) (s .queue) h in
+        let w = wait-of B s (q .0) (q .1) in
+        let u = some-blocker (w .0 .behind) (oldest-none B s (w .0) (rest-choices rest .0) (w .1)) in
+        (u .0, record {
+          wait = w .0;
+          queued = w .1;
+          asker = ap (λ (p : Q B). p .asker) (w .2) ∙ eqb-true (q .0 .asker) t (q .2);
+          blocker = u .1;
+        })
+
+    another : (t u : ℕ) → Behind B s t u → (runs B s u ≡ true) × (u ≢ t)
+    another t u b =
+        let r = blocker-runs B s good (b .wait) (b .queued) u (b .blocker) in
+        (r .0, λ e. eqb-false u (b .wait .request .asker) (r .1) (e ∙ sym (b .asker)))
+
+    waiter-known : (t u : ℕ) → Behind B s t u → In t (everyone B)
+    waiter-known t u b =
+        subst (λ v. In v (everyone B)) (b .asker)
+        (in-everyone B (b .wait .request .asker)
+          (runs-known B s good (b .wait .request .asker) (queued-runs B s good (b .wait .request) (placed B s (b .wait) (b .queued) .queued))))
+
+    chain-known : (t : ℕ) (us : List ℕ) (u : ℕ) → Chain B s t us → In u us → In u (everyone B)
+    chain-known t [] u c i = absurd i
+    chain-known t (v ∷ us) u c (inl e) =
+        subst (λ x. In x (everyone B)) e (in-everyone B v (runs-known B s good v (another t v (c .0) .0)))
+    chain-known t (v ∷ us) u c (inr i) = chain-known v us u (c .1) i
+
+    -- a chain that repeats nobody has fewer links than there are transactions
+    few-links : (t : ℕ) (us : List ℕ) → ((u : ℕ) → In u (t ∷ us) → In u (everyone B)) → pairs different (t ∷ us) ≡ true
+      → length us ≤ B .transactions - 1
+    few-links t us k d =
+        let l : suc (length us) ≤ B .transactions =
+            subst (λ n. suc (length us) ≤ n) (length-tab (B .transactions) 1 (λ u. u)) (no-more (λ u. u) (t ∷ us) (everyone B) d k) in
+        omega arith
+
+    noCircle : (t : ℕ) → Circle B s t → ⊥
+    unfolding onCircle
+    noCircle t o =
+        true≢false (sym found ∙ newest-none B s w (rest-choices rest .1) (b .queued))
+      where
+        b : Behind B s t (o .next)
+        b = o .chain .0
+        w : Wait B
+        w = b .wait
+        r : Straight (o .next) (endOf B (o .next) (o .others))
+        r = straight (o .next) (o .others) (o .chain .1)
+        known : (u : ℕ) → In u (o .next ∷ r .steps) → In u (everyone B)
+        known u i = chain-known t (o .next ∷ r .steps) u (b, r .chain) i
+        found : onCircle B (waits B s) w ≡ true
+        found =
+            in-member (w .request .asker) (reached B (B .transactions - 1) (waits B s) (w .behind))
+            (subst (λ u. In u (reached B (B .transactions - 1) (waits B s) (w .behind))) (r .arrives ∙ o .back ∙ sym (b .asker))
+              (reached-end (B .transactions - 1) (w .behind) (o .next) (r .steps) (few-links (o .next) (r .steps) known (r .once))
+                (r .chain) known (b .blocker)))
+
+    nobodyTwice : (t : ℕ) (us : List ℕ) → Chain B s t us → pairs different (t ∷ us) ≡ true
+    unfolding all pairs
+    nobodyTwice t [] c = refl
+    nobodyTwice t (v ∷ us) c =
+        and-both (all (different t) (v ∷ us)) (pairs different (v ∷ us))
+        (in-all (different t) (v ∷ us) (λ u i. ap not (ne-eqb t u (λ e. round u i e)))) (nobodyTwice v us (c .1))
+      where
+        round : (u : ℕ) → In u (v ∷ us) → t ≡ u → ⊥
+        round u i e =
+            let r = chain-to t (v ∷ us) u c i in
+            noCircle t (record { next = r .0; others = r .1; chain = r .2; back = r .3 ∙ sym e })
+
+    links : (t : ℕ) (us : List ℕ) → Chain B s t us → length us ≤ B .transactions - 1
+    links t [] c = omega arith
+    links t (v ∷ us) c = few-links t (v ∷ us) known (nobodyTwice t (v ∷ us) c)
+      where
+        known : (u : ℕ) → In u (t ∷ v ∷ us) → In u (everyone B)
+        known u (inl e) = subst (λ x. In x (everyone B)) e (waiter-known t v (c .0))
+        known u (inr i) = chain-known t (v ∷ us) u c i
+
+    -- where no chain from t is longer, that many links reach a free one
+    free-within : (n t : ℕ) → runs B s t ≡ true → ((us : List ℕ) → Chain B s t us → length us ≤ n) → ReachesFree B s n t
+    free-within zero t h few = go (waitsNow B s t) refl
+      where
+        go : (b : Bool) → waitsNow B s t ≡ b → Free B s t
+        go false e = record { itRuns = h; itWaitsNot = e }
+        go true e = let u = someone t e in absurd (omega (arith, few (u .0 ∷ []) (u .1, tt)))
+    free-within (suc n) t h few = go (waitsNow B s t) refl (λ u b. free-within n u (another t u b .0) (λ us c. omega (arith, few (u ∷ us) (b, c))))
+      where
+        go : (b : Bool) → waitsNow B s t ≡ b → ((u : ℕ) → Behind B s t u → ReachesFree B s n u) → ReachesFree B s (suc n) t
+        go false e r = inl (record { itRuns = h; itWaitsNot = e })
+        go true e r = inr (someone t e, r)
+
+    pub chains-end : ChainsEnd B s
+    chains-end =
+        record {
+          someone = someone;
+          another = another;
+          noCircle = noCircle;
+          nobodyTwice = nobodyTwice;
+          links = links;
+          free = λ t h. free-within (B .transactions - 1) t h (links t);
+        }
