@@ -8,10 +8,10 @@ use mathlib.Core.List.{List, [], _∷_, _++_, map}
 use mathlib.Core.Option.{Option, none, some, Option·none-ne-some, Option·some-injective}
 use native.Mathlib.Omega.{arith}
 use native.Mathlib.Decide.{decLt}
-use borrow.Author.Tests.{eqb-true, eqb-false, eq-eqb, ne-eqb, not-true}
+use borrow.Author.Tests.{eqb-false, eq-eqb, ne-eqb, not-true}
 use lib.Dec.{eqb}
 use lib.ListN.{length}
-use Rattle.lists.specs.Lists.{orElse, all, any, keep, first, last, pairs, In, member, tab}
+use Rattle.lists.specs.Lists.{orElse, all, any, keep, first, last, pairs, In, tab}
 
 pub and-left : (a b : Bool) → (a && b) ≡ true → a ≡ true
 and-left true b e = refl
@@ -65,11 +65,6 @@ module _ {A : Type 0} where
       go false e h r = let w = r h in (w .0, inr (w .1), w .2)
 
   -- ---- joined and mapped lists
-  pub in-left : (xs ys : List A) (x : A) → In x xs → In x (xs ++ ys)
-  in-left [] ys x i = absurd i
-  in-left (z ∷ xs) ys x (inl e) = inl e
-  in-left (z ∷ xs) ys x (inr i) = inr (in-left xs ys x i)
-
   pub append-in : (xs ys : List A) (x : A) → In x (xs ++ ys) → In x xs ⊎ In x ys
   append-in [] ys x i = inr i
   append-in (z ∷ xs) ys x (inl e) = inl (inl e)

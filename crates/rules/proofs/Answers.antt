@@ -3,19 +3,19 @@
 use Prim.Native.Nat.{ℕ, _≤_}
 use mathlib.Core.Path.{_≡_, refl, sym, ap, subst, _∙_}
 use mathlib.Core.Logic.{_⊎_, inl, inr}
-use mathlib.Core.Bool.{Bool, true, false, cond, not, _&&_, true≢false, false≢true}
+use mathlib.Core.Bool.{Bool, true, false, cond, not, true≢false}
 use mathlib.Core.List.{List, [], _∷_, _++_, append-nil}
 use mathlib.Core.Option.{Option, none, some, Option·none-ne-some}
 use borrow.Author.Tests.{eq-eqb, eqb-true, ne-eqb, eqb-false, not-true}
 use lib.Dec.{eqb}
 use lib.ListN.{length}
-use Rattle.lists.specs.Lists.{In, all, any, keep, pairs}
+use Rattle.lists.specs.Lists.{In, all, any, pairs}
 use Rattle.lists.proofs.Finite.{and-both, all-in, in-all, in-any, any-in, append-in, pairs-last, keep-in, length-tab, no-more}
-use Rattle.rules.specs.Kinds.{Book, State, Queued, Ask, Request, begin, commit, rollback, ask}
+use Rattle.rules.specs.Kinds.{Book, Ask, Request, begin, commit, rollback, ask}
 use Rattle.rules.specs.Entries.{committed, rolledBack}
 use Rattle.rules.specs.Queue.{St, Q, leave, everyone}
-use Rattle.rules.specs.Runs.{Answer, Sy, En, Turn, turn, Worked, worked, waiting, done, runsAlready}
-use Rattle.rules.specs.Desk.{An, runs, waitsNow, says, unlessRuns, ifSo, refusal, begun, ended, joined, waitingLast, acts, unless, step, isTransaction}
+use Rattle.rules.specs.Runs.{Sy, En, Turn, turn, Worked, worked, waiting, done, runsAlready}
+use Rattle.rules.specs.Desk.{An, runs, waitsNow, says, ifSo, refusal, begun, ended, joined, waitingLast, acts, unless, step, isTransaction}
 use Rattle.rules.specs.Good.{Good}
 use Rattle.rules.proofs.Waits.{in-everyone, runs-known, queued-runs}
 use Rattle.rules.proofs.Rest.{Leaves, turn-leaves, worked-by-turns}
@@ -64,7 +64,8 @@ module _ (B : Book) where
           subst (λ a. (waitsNow B s u ≡ true) × (eqb a u ≡ false)) (sym (l .answered))
           (still-waits (s .queue) (l .request .asker) u (subst (λ qs. any (λ q. eqb (q .asker) u) qs ≡ true) (l .queue) k))
       waited : (a : An B) → In a (t .answer ∷ w .answers) → waitsNow B s (a .asker) ≡ true
-      waited a (inl e) = subst (λ u. waitsNow B s u ≡ true) (sym (l .answered) ∙ ap (λ (b : An B). b .asker) e) (queued-waits s (l .request) (l .queued))
+      waited a (inl e) =
+          subst (λ u. waitsNow B s u ≡ true) (sym (l .answered) ∙ ap (λ (b : An B). b .asker) e) (queued-waits s (l .request) (l .queued))
       waited a (inr i) = fewer (a .asker) (v .waited a i) .0
       gone : (u : ℕ) → t .answer .asker ≡ u → (b : Bool) → waitsNow B (w .state) u ≡ b → b ≡ false
       gone u e false k = refl
@@ -85,49 +86,51 @@ module _ (B : Book) where
     pub known : all (λ a. isTransaction B (a .asker)) answers ≡ true
     pub once : pairs otherAnswered answers ≡ true
 
-  module _ (s : St B) (t : ℕ) (known : isTransaction B t ≡ true) where
-    alone : (m : Sy B) → OnceEach (says B t m ∷ [])
+  answer-alone : (t : ℕ) (m : Sy B) → isTransaction B t ≡ true → OnceEach (says B t m ∷ [])
+  unfolding all pairs
+  answer-alone t m known = record { known = and-both (isTransaction B t) true known refl; once = refl }
+
+  module _ (s : St B) (t : ℕ) (known : isTransaction B t ≡ true)
+      (all-known : (u : ℕ) → waitsNow B s u ≡ true → isTransaction B u ≡ true) where
+    worked-known : (a : An B) → In a (worked B s .answers) → isTransaction B (a .asker) ≡ true
+    worked-known a i = all-known (a .asker) (worked-served s .waited a i)
+
+    -- t is answered first, and has nothing queued
+    answer-first : (m : Sy B) → waitsNow B s t ≡ false → OnceEach (says B t m ∷ worked B s .answers)
     unfolding all pairs
-    alone m = record { known = and-both (isTransaction B t) true known refl; once = refl }
+    answer-first m h =
+        record {
+          known = and-both (isTransaction B t) _ known (in-all (λ a. isTransaction B (a .asker)) (worked B s .answers) worked-known);
+          once = and-both (all (otherAnswered (says B t m)) (worked B s .answers)) (pairs otherAnswered (worked B s .answers))
+              (in-all (otherAnswered (says B t m)) (worked B s .answers) (λ a i. ap not (ne-eqb t (a .asker) (other a i))))
+              (worked-served s .once);
+        }
+      where
+        other : (a : An B) → In a (worked B s .answers) → t ≡ a .asker → ⊥
+        other a i e = true≢false (sym (worked-served s .waited a i) ∙ subst (λ u. waitsNow B s u ≡ false) e h)
 
-    module _ (all-known : (u : ℕ) → waitsNow B s u ≡ true → isTransaction B u ≡ true) where
-      worked-known : (a : An B) → In a (worked B s .answers) → isTransaction B (a .asker) ≡ true
-      worked-known a i = all-known (a .asker) (worked-served s .waited a i)
-
-      -- t is answered first, and has nothing queued
-      answer-first : (m : Sy B) → waitsNow B s t ≡ false → OnceEach (says B t m ∷ worked B s .answers)
-      unfolding all pairs
-      answer-first m h =
-          record {
-            known = and-both (isTransaction B t) _ known (in-all (λ a. isTransaction B (a .asker)) (worked B s .answers) worked-known);
-            once = and-both (all (otherAnswered (says B t m)) (worked B s .answers)) (pairs otherAnswered (worked B s .answers))
-                (in-all (otherAnswered (says B t m)) (worked B s .answers) (λ a i. ap not (ne-eqb t (a .asker) (λ e. other a i e)))) (worked-served s .once);
-          }
-        where
-          other : (a : An B) → In a (worked B s .answers) → t ≡ a .asker → ⊥
-          other a i e = true≢false (sym (worked-served s .waited a i) ∙ subst (λ u. waitsNow B s u ≡ false) e h)
-
-      -- t is answered last, if it still waits
-      answer-last : OnceEach (waitingLast B t (worked B s) .answers)
-      answer-last = go (waitsNow B (worked B s .state) t) refl
-        where
-          xs : List (An B)
-          xs = worked B s .answers
-          other : (a : An B) → In a xs → waitsNow B (worked B s .state) t ≡ true → a .asker ≡ t → ⊥
-          other a i h e = true≢false (sym h ∙ subst (λ u. waitsNow B (worked B s .state) u ≡ false) e (worked-served s .freed a i))
-          each : (a : An B) → In a xs ⊎ In a (says B t waiting ∷ []) → isTransaction B (a .asker) ≡ true
-          each a (inl i) = worked-known a i
-          each a (inr (inl e)) = subst (λ (b : An B). isTransaction B (b .asker) ≡ true) e known
-          each a (inr (inr i)) = absurd i
-          go : (b : Bool) → waitsNow B (worked B s .state) t ≡ b → OnceEach (xs ++ cond b (says B t waiting ∷ []) [])
-          go true h =
-              record {
-                known = in-all (λ a. isTransaction B (a .asker)) (xs ++ (says B t waiting ∷ [])) (λ a i. each a (append-in xs (says B t waiting ∷ []) a i));
-                once = pairs-last otherAnswered xs (says B t waiting) (worked-served s .once)
-                    (in-all (λ a. otherAnswered a (says B t waiting)) xs (λ a i. ap not (ne-eqb (a .asker) t (other a i h))));
-              }
-          go false h =
-              rw append-nil (record { known = in-all (λ a. isTransaction B (a .asker)) xs worked-known; once = worked-served s .once })
+    -- t is answered last, if it still waits
+    answer-last : OnceEach (waitingLast B t (worked B s) .answers)
+    answer-last = go (waitsNow B (worked B s .state) t) refl
+      where
+        xs : List (An B)
+        xs = worked B s .answers
+        other : (a : An B) → In a xs → waitsNow B (worked B s .state) t ≡ true → a .asker ≡ t → ⊥
+        other a i h e = true≢false (sym h ∙ subst (λ u. waitsNow B (worked B s .state) u ≡ false) e (worked-served s .freed a i))
+        each : (a : An B) → In a xs ⊎ In a (says B t waiting ∷ []) → isTransaction B (a .asker) ≡ true
+        each a (inl i) = worked-known a i
+        each a (inr (inl e)) = subst (λ (b : An B). isTransaction B (b .asker) ≡ true) e known
+        each a (inr (inr i)) = absurd i
+        go : (b : Bool) → waitsNow B (worked B s .state) t ≡ b → OnceEach (xs ++ cond b (says B t waiting ∷ []) [])
+        go true h =
+            record {
+              known = in-all (λ a. isTransaction B (a .asker)) (xs ++ (says B t waiting ∷ []))
+                  (λ a i. each a (append-in xs (says B t waiting ∷ []) a i));
+              once = pairs-last otherAnswered xs (says B t waiting) (worked-served s .once)
+                  (in-all (λ a. otherAnswered a (says B t waiting)) xs (λ a i. ap not (ne-eqb (a .asker) t (other a i h))));
+            }
+        go false h =
+            rw append-nil (record { known = in-all (λ a. isTransaction B (a .asker)) xs worked-known; once = worked-served s .once })
 
   module _ (s : St B) (good : Good B s) (t : ℕ) (known : isTransaction B t ≡ true) where
     waits-runs : (u : ℕ) → waitsNow B s u ≡ true → runs B s u ≡ true
@@ -186,7 +189,7 @@ module _ (B : Book) where
       where
         go : (o : Option (Sy B)) → refusal B s t r ≡ o → OnceEach (unless B s t (acts B s t r) o .answers)
         go none e = acts-answers r e
-        go (some m) e = alone s t known m
+        go (some m) e = answer-alone t m known
 
     -- document 01: "A call writes at most 16 answers"
     pub few-answers : (r : Request (B .Key) (B .Rec)) → length (step B s t r .answers) ≤ B .transactions

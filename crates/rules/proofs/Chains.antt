@@ -1,18 +1,18 @@
 -- At rest nobody waits in a circle, and every chain of waits ends at one that runs and isn't waiting (specs/Chains). The search for circles
 -- finds every circle: one of any length has a shortcut that repeats nobody, and that one is short enough. Assumes the invariants of specs/Good.
-use Prim.Native.Nat.{ℕ, zero, suc, _-_, _≤_, _<_}
+use Prim.Native.Nat.{ℕ, zero, suc, _-_, _≤_}
 use mathlib.Core.Path.{_≡_, refl, sym, ap, subst, _∙_}
-use mathlib.Core.Logic.{_≢_, _⊎_, inl, inr}
-use mathlib.Core.Bool.{Bool, true, false, not, _&&_, _||_, or-true, true≢false, false≢true}
+use mathlib.Core.Logic.{_≢_, inl, inr}
+use mathlib.Core.Bool.{Bool, true, false, not, _&&_, _||_, or-true, true≢false}
 use mathlib.Core.List.{List, [], _∷_}
 use mathlib.Core.Option.{Option, none, some, Option·none-ne-some}
 use native.Mathlib.Omega.{arith}
 use borrow.Author.Tests.{eq-eqb, eqb-true, eqb-false, ne-eqb, not-false}
 use lib.Dec.{eqb}
 use lib.ListN.{length}
-use Rattle.lists.specs.Lists.{In, all, any, keep, pairs, member, isNil}
+use Rattle.lists.specs.Lists.{In, all, pairs, member, isNil}
 use Rattle.lists.proofs.Finite.{and-left, and-right, and-both, in-any, any-in, all-fails, in-all, in-keep, keep-in, length-tab, no-more}
-use Rattle.rules.specs.Kinds.{Book, State, Queued}
+use Rattle.rules.specs.Kinds.{Book}
 use Rattle.rules.specs.Queue.{St, Q, Wait, waits, oldest, newest, everyone, linked, further, reached, onCircle}
 use Rattle.rules.specs.Runs.{refused, served, turn, AtRest}
 use Rattle.rules.specs.Desk.{runs, waitsNow}
@@ -20,8 +20,8 @@ use Rattle.rules.specs.Good.{Good}
 use Rattle.rules.specs.Chains.{Behind, Chain, endOf, Circle, Free, ReachesFree, ChainsEnd}
 use Rattle.rules.proofs.Waits.{placed, wait-of, oldest-none, newest-none, in-everyone, runs-known, queued-runs, blocker-runs}
 
--- of different numbers
-abbrev pub different : ℕ → ℕ → Bool
+-- two transactions
+abbrev different : ℕ → ℕ → Bool
 different u v = not (eqb u v)
 
 in-member : (u : ℕ) (us : List ℕ) → In u us → member u us ≡ true
@@ -111,41 +111,94 @@ module _ (B : Book) (s : St B) where
       reached-end n (further B (waits B s) xs) u us (omega arith) (c .1) (λ v j. k v (inr j)) (further-link xs t u (k u (inr (inl refl))) i (c .0))
 
   -- and whoever is reached is at the end of a chain
-  reached-from : (n : ℕ) (xs : List ℕ) (u : ℕ) → In u (reached B n (waits B s) xs)
-    → (t : ℕ) × (us : List ℕ) × In t xs × Chain B s t us × (endOf B t us ≡ u)
-  unfolding reached further
-  reached-from zero xs u i = (u, [], i, tt, refl)
-  reached-from (suc n) xs u i = go (reached-from n (further B (waits B s) xs) u i)
-    where
-      Found : Type 0
-      Found = (t : ℕ) × (us : List ℕ) × In t xs × Chain B s t us × (endOf B t us ≡ u)
-      go : ((t : ℕ) × (us : List ℕ) × In t (further B (waits B s) xs) × Chain B s t us × (endOf B t us ≡ u))
-          → (t : ℕ) × (us : List ℕ) × In t xs × Chain B s t us × (endOf B t us ≡ u)
-      go r = by (member (r .0) xs) refl (keep-in (λ v. member v xs || linked B (waits B s) xs v) (everyone B) (r .0) (r .2) .1)
-        where
-          by : (b : Bool) → member (r .0) xs ≡ b → (b || linked B (waits B s) xs (r .0)) ≡ true
-              → (t : ℕ) × (us : List ℕ) × In t xs × Chain B s t us × (endOf B t us ≡ u)
-          by true h l = (r .0, r .1, member-in (r .0) xs h, r .3, r .4)
-          by false h l =
-              let w = any-in (λ v. member (v .request .asker) xs && member (r .0) (v .behind)) (waits B s) l in
-              let a = w .0 .request .asker in
-              let asks = and-left (member a xs) (member (r .0) (w .0 .behind)) (w .2) in
-              let blocks = and-right (member a xs) (member (r .0) (w .0 .behind)) (w .2) in
-              (a, r .0 ∷ r .1, member-in a xs asks,
-                (record { wait = w .0; queued = w .1; asker = refl; blocker = member-in (r .0) (w .0 .behind) blocks }, r .3), r .4)
+  record ChainFrom (xs : List ℕ) (u : ℕ) : Type 0 where
+    first : ℕ
+    begins : In first xs
+    steps : List ℕ
+    chain : Chain B s first steps
+    arrives : endOf B first steps ≡ u
 
-  -- who is found on a circle is on one
-  pub circle-found : (w : Wait B) → In w (waits B s) → onCircle B (waits B s) w ≡ true → Circle B s (w .request .asker)
+  further-from : (xs : List ℕ) (u : ℕ) → ChainFrom (further B (waits B s) xs) u → ChainFrom xs u
+  unfolding further
+  further-from xs u r =
+      go (member t xs) refl (keep-in (λ v. member v xs || linked B (waits B s) xs v) (everyone B) t (r .begins) .1)
+    where
+      t : ℕ
+      t = r .first
+      go : (b : Bool) → member t xs ≡ b → (b || linked B (waits B s) xs t) ≡ true → ChainFrom xs u
+      go true h l = record { first = t; begins = member-in t xs h; steps = r .steps; chain = r .chain; arrives = r .arrives }
+      go false h l =
+          let w = any-in (λ v. member (v .request .asker) xs && member t (v .behind)) (waits B s) l in
+          let a = w .0 .request .asker in
+          let blocks = member-in t (w .0 .behind) (and-right (member a xs) (member t (w .0 .behind)) (w .2)) in
+          record {
+            first = a;
+            begins = member-in a xs (and-left (member a xs) (member t (w .0 .behind)) (w .2));
+            steps = t ∷ r .steps;
+            chain = (record { wait = w .0; queued = w .1; asker = refl; blocker = blocks }, r .chain);
+            arrives = r .arrives;
+          }
+
+  reached-from : (n : ℕ) (xs : List ℕ) (u : ℕ) → In u (reached B n (waits B s) xs) → ChainFrom xs u
+  unfolding reached
+  reached-from zero xs u i = record { first = u; begins = i; steps = []; chain = tt; arrives = refl }
+  reached-from (suc n) xs u i = further-from xs u (reached-from n (further B (waits B s) xs) u i)
+
+  -- whom the search finds on a circle is on one
+  pub found-is-circle : (w : Wait B) → In w (waits B s) → onCircle B (waits B s) w ≡ true → Circle B s (w .request .asker)
   unfolding onCircle
-  circle-found w i h =
+  found-is-circle w i h =
       let a = w .request .asker in
       let r = reached-from (B .transactions - 1) (w .behind) a (member-in a (reached B (B .transactions - 1) (waits B s) (w .behind)) h) in
       record {
-        next = r .0;
-        others = r .1;
-        chain = (record { wait = w; queued = i; asker = refl; blocker = r .2 }, r .3);
-        back = r .4;
+        next = r .first;
+        others = r .steps;
+        chain = (record { wait = w; queued = i; asker = refl; blocker = r .begins }, r .chain);
+        back = r .arrives;
       }
+
+  -- ---- whoever waits or blocks is a transaction, so a chain that repeats nobody is short, and the search finds every circle
+  module _ (good : Good B s) where
+    another : (t u : ℕ) → Behind B s t u → (runs B s u ≡ true) × (u ≢ t)
+    another t u b =
+        let r = blocker-runs B s good (b .wait) (b .queued) u (b .blocker) in
+        (r .0, λ e. eqb-false u (b .wait .request .asker) (r .1) (e ∙ sym (b .asker)))
+
+    waiter-known : (t u : ℕ) → Behind B s t u → In t (everyone B)
+    waiter-known t u b =
+        let q = b .wait .request in
+        subst (λ v. In v (everyone B)) (b .asker)
+        (in-everyone B (q .asker) (runs-known B s good (q .asker) (queued-runs B s good q (placed B s (b .wait) (b .queued) .queued))))
+
+    chain-known : (t : ℕ) (us : List ℕ) (u : ℕ) → Chain B s t us → In u us → In u (everyone B)
+    chain-known t [] u c i = absurd i
+    chain-known t (v ∷ us) u c (inl e) =
+        subst (λ x. In x (everyone B)) e (in-everyone B v (runs-known B s good v (another t v (c .0) .0)))
+    chain-known t (v ∷ us) u c (inr i) = chain-known v us u (c .1) i
+
+    few-links : (t : ℕ) (us : List ℕ) → ((u : ℕ) → In u (t ∷ us) → In u (everyone B)) → pairs different (t ∷ us) ≡ true
+      → length us ≤ B .transactions - 1
+    few-links t us k d =
+        let l : suc (length us) ≤ B .transactions =
+            subst (λ n. suc (length us) ≤ n) (length-tab (B .transactions) 1 (λ u. u)) (no-more (λ u. u) (t ∷ us) (everyone B) d k) in
+        omega arith
+
+    pub circle-is-found : (t : ℕ) (o : Circle B s t) → onCircle B (waits B s) (o .chain .0 .wait) ≡ true
+    unfolding onCircle
+    circle-is-found t o =
+        in-member (w .request .asker) (reached B (B .transactions - 1) (waits B s) (w .behind))
+        (subst (λ u. In u (reached B (B .transactions - 1) (waits B s) (w .behind))) (r .arrives ∙ o .back ∙ sym (b .asker))
+          (reached-end (B .transactions - 1) (w .behind) (o .next) (r .steps) (few-links (o .next) (r .steps) known (r .once))
+            (r .chain) known (b .blocker)))
+      where
+        b : Behind B s t (o .next)
+        b = o .chain .0
+        w : Wait B
+        w = b .wait
+        r : Straight (o .next) (endOf B (o .next) (o .others))
+        r = straight (o .next) (o .others) (o .chain .1)
+        known : (u : ℕ) → In u (o .next ∷ r .steps) → In u (everyone B)
+        known u i = chain-known t (o .next ∷ r .steps) u (b, r .chain) i
 
   -- ---- at rest
   rest-choices : AtRest B s → (oldest B s ≡ none) × (newest B s ≡ none)
@@ -165,86 +218,43 @@ module _ (B : Book) (s : St B) where
         let q = any-in (λ p. eqb (p .asker) t) (s .queue) h in
         let w = wait-of B s (q .0) (q .1) in
         let u = some-blocker (w .0 .behind) (oldest-none B s (w .0) (rest-choices rest .0) (w .1)) in
-        (u .0, record {
-          wait = w .0;
-          queued = w .1;
-          asker = ap (λ (p : Q B). p .asker) (w .2) ∙ eqb-true (q .0 .asker) t (q .2);
-          blocker = u .1;
-        })
+        let asks = ap (λ (p : Q B). p .asker) (w .2) ∙ eqb-true (q .0 .asker) t (q .2) in
+        (u .0, record { wait = w .0; queued = w .1; asker = asks; blocker = u .1 })
 
-    another : (t u : ℕ) → Behind B s t u → (runs B s u ≡ true) × (u ≢ t)
-    another t u b =
-        let r = blocker-runs B s good (b .wait) (b .queued) u (b .blocker) in
-        (r .0, λ e. eqb-false u (b .wait .request .asker) (r .1) (e ∙ sym (b .asker)))
+    no-circle : (t : ℕ) → Circle B s t → ⊥
+    no-circle t o =
+        let b = o .chain .0 in
+        true≢false (sym (circle-is-found good t o) ∙ newest-none B s (b .wait) (rest-choices rest .1) (b .queued))
 
-    waiter-known : (t u : ℕ) → Behind B s t u → In t (everyone B)
-    waiter-known t u b =
-        subst (λ v. In v (everyone B)) (b .asker)
-        (in-everyone B (b .wait .request .asker)
-          (runs-known B s good (b .wait .request .asker) (queued-runs B s good (b .wait .request) (placed B s (b .wait) (b .queued) .queued))))
-
-    chain-known : (t : ℕ) (us : List ℕ) (u : ℕ) → Chain B s t us → In u us → In u (everyone B)
-    chain-known t [] u c i = absurd i
-    chain-known t (v ∷ us) u c (inl e) =
-        subst (λ x. In x (everyone B)) e (in-everyone B v (runs-known B s good v (another t v (c .0) .0)))
-    chain-known t (v ∷ us) u c (inr i) = chain-known v us u (c .1) i
-
-    -- a chain that repeats nobody has fewer links than there are transactions
-    few-links : (t : ℕ) (us : List ℕ) → ((u : ℕ) → In u (t ∷ us) → In u (everyone B)) → pairs different (t ∷ us) ≡ true
-      → length us ≤ B .transactions - 1
-    few-links t us k d =
-        let l : suc (length us) ≤ B .transactions =
-            subst (λ n. suc (length us) ≤ n) (length-tab (B .transactions) 1 (λ u. u)) (no-more (λ u. u) (t ∷ us) (everyone B) d k) in
-        omega arith
-
-    noCircle : (t : ℕ) → Circle B s t → ⊥
-    unfolding onCircle
-    noCircle t o =
-        true≢false (sym found ∙ newest-none B s w (rest-choices rest .1) (b .queued))
-      where
-        b : Behind B s t (o .next)
-        b = o .chain .0
-        w : Wait B
-        w = b .wait
-        r : Straight (o .next) (endOf B (o .next) (o .others))
-        r = straight (o .next) (o .others) (o .chain .1)
-        known : (u : ℕ) → In u (o .next ∷ r .steps) → In u (everyone B)
-        known u i = chain-known t (o .next ∷ r .steps) u (b, r .chain) i
-        found : onCircle B (waits B s) w ≡ true
-        found =
-            in-member (w .request .asker) (reached B (B .transactions - 1) (waits B s) (w .behind))
-            (subst (λ u. In u (reached B (B .transactions - 1) (waits B s) (w .behind))) (r .arrives ∙ o .back ∙ sym (b .asker))
-              (reached-end (B .transactions - 1) (w .behind) (o .next) (r .steps) (few-links (o .next) (r .steps) known (r .once))
-                (r .chain) known (b .blocker)))
-
-    nobodyTwice : (t : ℕ) (us : List ℕ) → Chain B s t us → pairs different (t ∷ us) ≡ true
+    nobody-twice : (t : ℕ) (us : List ℕ) → Chain B s t us → pairs different (t ∷ us) ≡ true
     unfolding all pairs
-    nobodyTwice t [] c = refl
-    nobodyTwice t (v ∷ us) c =
+    nobody-twice t [] c = refl
+    nobody-twice t (v ∷ us) c =
         and-both (all (different t) (v ∷ us)) (pairs different (v ∷ us))
-        (in-all (different t) (v ∷ us) (λ u i. ap not (ne-eqb t u (λ e. round u i e)))) (nobodyTwice v us (c .1))
+        (in-all (different t) (v ∷ us) (λ u i. ap not (ne-eqb t u (round u i)))) (nobody-twice v us (c .1))
       where
         round : (u : ℕ) → In u (v ∷ us) → t ≡ u → ⊥
         round u i e =
             let r = chain-to t (v ∷ us) u c i in
-            noCircle t (record { next = r .0; others = r .1; chain = r .2; back = r .3 ∙ sym e })
+            no-circle t (record { next = r .0; others = r .1; chain = r .2; back = r .3 ∙ sym e })
 
     links : (t : ℕ) (us : List ℕ) → Chain B s t us → length us ≤ B .transactions - 1
     links t [] c = omega arith
-    links t (v ∷ us) c = few-links t (v ∷ us) known (nobodyTwice t (v ∷ us) c)
+    links t (v ∷ us) c = few-links good t (v ∷ us) known (nobody-twice t (v ∷ us) c)
       where
         known : (u : ℕ) → In u (t ∷ v ∷ us) → In u (everyone B)
-        known u (inl e) = subst (λ x. In x (everyone B)) e (waiter-known t v (c .0))
-        known u (inr i) = chain-known t (v ∷ us) u c i
+        known u (inl e) = subst (λ x. In x (everyone B)) e (waiter-known good t v (c .0))
+        known u (inr i) = chain-known good t (v ∷ us) u c i
 
-    -- where no chain from t is longer, that many links reach a free one
+    -- where no chain from t has more than n links, n links reach a free one
     free-within : (n t : ℕ) → runs B s t ≡ true → ((us : List ℕ) → Chain B s t us → length us ≤ n) → ReachesFree B s n t
     free-within zero t h few = go (waitsNow B s t) refl
       where
         go : (b : Bool) → waitsNow B s t ≡ b → Free B s t
         go false e = record { itRuns = h; itWaitsNot = e }
         go true e = let u = someone t e in absurd (omega (arith, few (u .0 ∷ []) (u .1, tt)))
-    free-within (suc n) t h few = go (waitsNow B s t) refl (λ u b. free-within n u (another t u b .0) (λ us c. omega (arith, few (u ∷ us) (b, c))))
+    free-within (suc n) t h few =
+        go (waitsNow B s t) refl (λ u b. free-within n u (another good t u b .0) (λ us c. omega (arith, few (u ∷ us) (b, c))))
       where
         go : (b : Bool) → waitsNow B s t ≡ b → ((u : ℕ) → Behind B s t u → ReachesFree B s n u) → ReachesFree B s (suc n) t
         go false e r = inl (record { itRuns = h; itWaitsNot = e })
@@ -254,9 +264,9 @@ module _ (B : Book) (s : St B) where
     chains-end =
         record {
           someone = someone;
-          another = another;
-          noCircle = noCircle;
-          nobodyTwice = nobodyTwice;
+          another = another good;
+          noCircle = no-circle;
+          nobodyTwice = nobody-twice;
           links = links;
           free = λ t h. free-within (B .transactions - 1) t h (links t);
         }

@@ -11,7 +11,7 @@ use lib.Dec.{eqb}
 use lib.ListN.{length}
 use Rattle.lists.specs.Lists.{In, pairs}
 use Rattle.lists.proofs.Finite.{keep-shorter, keep-but-one}
-use Rattle.rules.specs.Kinds.{Book, State, Queued, Request, begin, commit, rollback, ask}
+use Rattle.rules.specs.Kinds.{Book, Request, begin, commit, rollback, ask}
 use Rattle.rules.specs.Entries.{committed, rolledBack}
 use Rattle.rules.specs.Queue.{St, Q, Wait, waits, oldest, newest, leave}
 use Rattle.rules.specs.Runs.{Sy, Ran, Turn, left, refused, served, turn, Worked, onward, turns, worked, AtRest}

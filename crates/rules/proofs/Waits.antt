@@ -13,7 +13,7 @@ use lib.Dec.{eqb, leb}
 use lib.ListN.{length, List·getD-eq-default}
 use Rattle.lists.specs.Lists.{keep, In, isNil}
 use Rattle.lists.proofs.Finite.{and-left, and-right, and-both, all-in, append-in, keep-in, first-in, none-first, last-in, none-last, in-tab, map-in}
-use Rattle.rules.specs.Kinds.{Book, Queued, Lock, State, idle}
+use Rattle.rules.specs.Kinds.{Book, idle}
 use Rattle.rules.specs.Entries.{Entries}
 use Rattle.rules.specs.Locks.{Slots, Want, wanted, inUse, sameName, conflict, clash, holds, holders, earlier, blockers}
 use Rattle.rules.specs.Queue.{St, Q, Wait, waits, waitsFrom, oldest, everyone, onCircle, newest}

@@ -8,7 +8,7 @@ use mathlib.Core.List.{List, [], _∷_}
 use lib.Dec.{eqb}
 use lib.ListN.{length}
 use Rattle.lists.specs.Lists.{In, pairs}
-use Rattle.rules.specs.Kinds.{Book, State, Queued}
+use Rattle.rules.specs.Kinds.{Book}
 use Rattle.rules.specs.Queue.{St, Wait, waits}
 use Rattle.rules.specs.Desk.{runs, waitsNow}
 
