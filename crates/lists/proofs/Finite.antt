@@ -144,13 +144,13 @@ module _ {A : Type 0} where
 
   -- and by one exactly, where it alone fails: r holds between every two, and whatever stands in r to it passes
   pub keep-but-one : (r : A → A → Bool) (p : A → Bool) (xs : List A) (x : A) → pairs r xs ≡ true
-    → ((y : A) → r x y ≡ true → p y ≡ true) → ((y : A) → r y x ≡ true → p y ≡ true)
-    → In x xs → p x ≡ false → suc (length (keep p xs)) ≡ length xs
+      → ((y : A) → r x y ≡ true → p y ≡ true) → ((y : A) → r y x ≡ true → p y ≡ true)
+      → In x xs → p x ≡ false → suc (length (keep p xs)) ≡ length xs
   unfolding keep pairs
   keep-but-one r p [] x d after before i h = absurd i
   keep-but-one r p (y ∷ ys) x d after before (inl e) h =
       let others : all p ys ≡ true =
-          in-all p ys (λ z j. after z (subst (λ w. r w z ≡ true) e (all-in (r y) ys z (and-left (all (r y) ys) (pairs r ys) d) j))) in
+      in-all p ys (λ z j. after z (subst (λ w. r w z ≡ true) e (all-in (r y) ys z (and-left (all (r y) ys) (pairs r ys) d) j))) in
       ap (λ b. suc (length (cond b (y ∷ keep p ys) (keep p ys)))) (ap p e ∙ h) ∙ ap (λ zs. suc (length zs)) (keep-all p ys others)
   keep-but-one r p (y ∷ ys) x d after before (inr i) h =
       let passes : p y ≡ true = before y (all-in (r y) ys x (and-left (all (r y) ys) (pairs r ys) d) i) in
@@ -225,16 +225,16 @@ module _ {A : Type 0} where
 
   -- ---- no repeats: what has a number of its own in a list is no more than the list is long
   pub no-more : (f : A → ℕ) (xs : List A) (ys : List ℕ) → pairs (λ a b. not (eqb (f a) (f b))) xs ≡ true
-    → ((x : A) → In x xs → In (f x) ys) → length xs ≤ length ys
+      → ((x : A) → In x xs → In (f x) ys) → length xs ≤ length ys
   unfolding pairs
   no-more f [] ys d i = omega arith
   no-more f (x ∷ xs) ys d i =
       let others : ℕ → Bool = λ y. not (eqb y (f x)) in
       let apart = and-left (all (λ b. not (eqb (f x) (f b))) xs) (pairs (λ a b. not (eqb (f a) (f b))) xs) d in
       let shorter : length (keep others ys) < length ys =
-          keep-shorter others ys (f x) (i x (inl refl)) (ap not (eq-eqb (f x) (f x) refl)) in
+      keep-shorter others ys (f x) (i x (inl refl)) (ap not (eq-eqb (f x) (f x) refl)) in
       let rest : length xs ≤ length (keep others ys) =
-          no-more f xs (keep others ys) (and-right (all (λ b. not (eqb (f x) (f b))) xs) (pairs (λ a b. not (eqb (f a) (f b))) xs) d)
-          (λ y j. in-keep others ys (f y) (i y (inr j))
-            (ap not (ne-eqb (f y) (f x) (λ q. eqb-false (f x) (f y) (not-true _ (all-in (λ b. not (eqb (f x) (f b))) xs y apart j)) (sym q))))) in
+      no-more f xs (keep others ys) (and-right (all (λ b. not (eqb (f x) (f b))) xs) (pairs (λ a b. not (eqb (f a) (f b))) xs) d)
+      (λ y j. in-keep others ys (f y) (i y (inr j))
+      (ap not (ne-eqb (f y) (f x) (λ q. eqb-false (f x) (f y) (not-true _ (all-in (λ b. not (eqb (f x) (f b))) xs y apart j)) (sym q))))) in
       omega arith

@@ -29,14 +29,15 @@ module _ (B : Book) where
   queued-waits s q i = in-any (λ p. eqb (p .asker) (q .asker)) (s .queue) q i (eq-eqb (q .asker) (q .asker) refl)
 
   still-waits : (qs : List (Q B)) (t u : ℕ) → any (λ q. eqb (q .asker) u) (leave B t qs) ≡ true
-    → (any (λ q. eqb (q .asker) u) qs ≡ true) × (eqb t u ≡ false)
+      → (any (λ q. eqb (q .asker) u) qs ≡ true) × (eqb t u ≡ false)
   unfolding leave
   still-waits qs t u h =
       let w = any-in (λ q. eqb (q .asker) u) (leave B t qs) h in
       let k = keep-in (λ q. not (eqb (q .asker) t)) qs (w .0) (w .1) in
-      let e = eqb-true (w .0 .asker) u (w .2) in
-      (in-any (λ q. eqb (q .asker) u) qs (w .0) (k .0) (w .2),
-        ne-eqb t u (λ same. eqb-false (w .0 .asker) t (not-true (eqb (w .0 .asker) t) (k .1)) (e ∙ sym same)))
+      let e = eqb-true (w .0 .asker) u (w .2) in (
+        in-any (λ q. eqb (q .asker) u) qs (w .0) (k .0) (w .2),
+        ne-eqb t u (λ same. eqb-false (w .0 .asker) t (not-true (eqb (w .0 .asker) t) (k .1)) (e ∙ sym same)),
+      )
 
   -- the answers of a queue worked: to ones that waited and don't any more, and to each once
   record Served (s : St B) (w : Worked B) : Type 0 where
@@ -46,7 +47,7 @@ module _ (B : Book) where
     still : (t : ℕ) → waitsNow B (w .state) t ≡ true → waitsNow B s t ≡ true
 
   served-turn : (s : St B) (t : Turn B) (w : Worked B) → turn B s ≡ some t → Served (t .state) w
-    → Served s (record { state = w .state; answers = t .answer ∷ w .answers })
+      → Served s (record { state = w .state; answers = t .answer ∷ w .answers })
   unfolding pairs
   served-turn s t w h v =
       record {
@@ -59,17 +60,21 @@ module _ (B : Book) where
     where
       l : Leaves B s t
       l = turn-leaves B s t h
+
       fewer : (u : ℕ) → waitsNow B (t .state) u ≡ true → (waitsNow B s u ≡ true) × (eqb (t .answer .asker) u ≡ false)
       fewer u k =
           subst (λ a. (waitsNow B s u ≡ true) × (eqb a u ≡ false)) (sym (l .answered))
           (still-waits (s .queue) (l .request .asker) u (subst (λ qs. any (λ q. eqb (q .asker) u) qs ≡ true) (l .queue) k))
+
       waited : (a : An B) → In a (t .answer ∷ w .answers) → waitsNow B s (a .asker) ≡ true
       waited a (inl e) =
           subst (λ u. waitsNow B s u ≡ true) (sym (l .answered) ∙ ap (λ (b : An B). b .asker) e) (queued-waits s (l .request) (l .queued))
       waited a (inr i) = fewer (a .asker) (v .waited a i) .0
+
       gone : (u : ℕ) → t .answer .asker ≡ u → (b : Bool) → waitsNow B (w .state) u ≡ b → b ≡ false
       gone u e false k = refl
       gone u e true k = absurd (true≢false (sym (eq-eqb (t .answer .asker) u e) ∙ fewer u (v .still u k) .1))
+
       freed : (a : An B) → In a (t .answer ∷ w .answers) → waitsNow B (w .state) (a .asker) ≡ false
       freed a (inl e) = gone (a .asker) (ap (λ (b : An B). b .asker) e) (waitsNow B (w .state) (a .asker)) refl
       freed a (inr i) = v .freed a i
@@ -115,12 +120,15 @@ module _ (B : Book) where
       where
         xs : List (An B)
         xs = worked B s .answers
+
         other : (a : An B) → In a xs → waitsNow B (worked B s .state) t ≡ true → a .asker ≡ t → ⊥
         other a i h e = true≢false (sym h ∙ subst (λ u. waitsNow B (worked B s .state) u ≡ false) e (worked-served s .freed a i))
+
         each : (a : An B) → In a xs ⊎ In a (says B t waiting ∷ []) → isTransaction B (a .asker) ≡ true
         each a (inl i) = worked-known a i
         each a (inr (inl e)) = subst (λ (b : An B). isTransaction B (b .asker) ≡ true) e known
         each a (inr (inr i)) = absurd i
+
         go : (b : Bool) → waitsNow B (worked B s .state) t ≡ b → OnceEach (xs ++ cond b (says B t waiting ∷ []) [])
         go true h =
             record {
@@ -166,11 +174,13 @@ module _ (B : Book) where
       where
         mine : List (Q B)
         mine = record { asker = t; asks = a } ∷ []
+
         among : (u : ℕ) (q : Q B) → eqb (q .asker) u ≡ true → In q (s .queue) ⊎ In q mine → isTransaction B u ≡ true
         among u q e (inl i) = waits-known u (in-any (λ p. eqb (p .asker) u) (s .queue) q i e)
         among u q e (inr (inl p)) =
             subst (λ v. isTransaction B v ≡ true) (ap (λ (x : Q B). x .asker) p ∙ eqb-true (q .asker) u e) known
         among u q e (inr (inr i)) = absurd i
+
         each : (u : ℕ) → waitsNow B (joined B s t a) u ≡ true → isTransaction B u ≡ true
         each u h =
             let w = any-in (λ q. eqb (q .asker) u) (s .queue ++ mine) h in
@@ -196,4 +206,4 @@ module _ (B : Book) where
     few-answers r =
         subst (λ n. length (step B s t r .answers) ≤ n) (length-tab (B .transactions) 1 (λ u. u))
         (no-more (λ a. a .asker) (step B s t r .answers) (everyone B) (step-answers r .once)
-          (λ a i. in-everyone B (a .asker) (all-in (λ b. isTransaction B (b .asker)) (step B s t r .answers) a (step-answers r .known) i)))
+        (λ a i. in-everyone B (a .asker) (all-in (λ b. isTransaction B (b .asker)) (step B s t r .answers) a (step-answers r .known) i)))

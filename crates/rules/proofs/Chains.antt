@@ -38,7 +38,7 @@ module _ (B : Book) (s : St B) where
   -- ---- parts of chains
   -- a chain that meets u has a part that ends there
   chain-to : (t : ℕ) (us : List ℕ) (u : ℕ) → Chain B s t us → In u us
-    → (v : ℕ) × (vs : List ℕ) × Chain B s t (v ∷ vs) × (endOf B v vs ≡ u)
+      → (v : ℕ) × (vs : List ℕ) × Chain B s t (v ∷ vs) × (endOf B v vs ≡ u)
   chain-to t [] u c i = absurd i
   chain-to t (v ∷ us) u c (inl e) = (v, [], (c .0, tt), e)
   chain-to t (v ∷ us) u c (inr i) = let r = chain-to v us u (c .1) i in (v, r .0 ∷ r .1, (c .0, r .2), r .3)
@@ -91,9 +91,9 @@ module _ (B : Book) (s : St B) where
   further-link xs t u k i b =
       let w = b .wait in
       let link : linked B (waits B s) xs u ≡ true =
-          in-any (λ v. member (v .request .asker) xs && member u (v .behind)) (waits B s) w (b .queued)
-          (and-both (member (w .request .asker) xs) (member u (w .behind))
-            (subst (λ a. member a xs ≡ true) (sym (b .asker)) (in-member t xs i)) (in-member u (w .behind) (b .blocker))) in
+      in-any (λ v. member (v .request .asker) xs && member u (v .behind)) (waits B s) w (b .queued)
+      (and-both (member (w .request .asker) xs) (member u (w .behind))
+      (subst (λ a. member a xs ≡ true) (sym (b .asker)) (in-member t xs i)) (in-member u (w .behind) (b .blocker))) in
       in-keep (λ v. member v xs || linked B (waits B s) xs v) (everyone B) u k (ap (λ b. member u xs || b) link ∙ or-true (member u xs))
 
   reached-stays : (n : ℕ) (xs : List ℕ) (u : ℕ) → In u (everyone B) → In u xs → In u (reached B n (waits B s) xs)
@@ -103,7 +103,7 @@ module _ (B : Book) (s : St B) where
 
   -- a chain of at most n links is followed to its end in n rounds
   reached-end : (n : ℕ) (xs : List ℕ) (t : ℕ) (us : List ℕ) → length us ≤ n → Chain B s t us
-    → ((u : ℕ) → In u (t ∷ us) → In u (everyone B)) → In t xs → In (endOf B t us) (reached B n (waits B s) xs)
+      → ((u : ℕ) → In u (t ∷ us) → In u (everyone B)) → In t xs → In (endOf B t us) (reached B n (waits B s) xs)
   unfolding reached
   reached-end n xs t [] l c k i = reached-stays n xs t (k t (inl refl)) i
   reached-end zero xs t (u ∷ us) l c k i = absurd (omega arith)
@@ -125,6 +125,7 @@ module _ (B : Book) (s : St B) where
     where
       t : ℕ
       t = r .first
+
       go : (b : Bool) → member t xs ≡ b → (b || linked B (waits B s) xs t) ≡ true → ChainFrom xs u
       go true h l = record { first = t; begins = member-in t xs h; steps = r .steps; chain = r .chain; arrives = r .arrives }
       go false h l =
@@ -177,10 +178,10 @@ module _ (B : Book) (s : St B) where
     chain-known t (v ∷ us) u c (inr i) = chain-known v us u (c .1) i
 
     few-links : (t : ℕ) (us : List ℕ) → ((u : ℕ) → In u (t ∷ us) → In u (everyone B)) → pairs different (t ∷ us) ≡ true
-      → length us ≤ B .transactions - 1
+        → length us ≤ B .transactions - 1
     few-links t us k d =
         let l : suc (length us) ≤ B .transactions =
-            subst (λ n. suc (length us) ≤ n) (length-tab (B .transactions) 1 (λ u. u)) (no-more (λ u. u) (t ∷ us) (everyone B) d k) in
+        subst (λ n. suc (length us) ≤ n) (length-tab (B .transactions) 1 (λ u. u)) (no-more (λ u. u) (t ∷ us) (everyone B) d k) in
         omega arith
 
     pub circle-is-found : (t : ℕ) (o : Circle B s t) → onCircle B (waits B s) (o .chain .0 .wait) ≡ true
@@ -188,15 +189,18 @@ module _ (B : Book) (s : St B) where
     circle-is-found t o =
         in-member (w .request .asker) (reached B (B .transactions - 1) (waits B s) (w .behind))
         (subst (λ u. In u (reached B (B .transactions - 1) (waits B s) (w .behind))) (r .arrives ∙ o .back ∙ sym (b .asker))
-          (reached-end (B .transactions - 1) (w .behind) (o .next) (r .steps) (few-links (o .next) (r .steps) known (r .once))
-            (r .chain) known (b .blocker)))
+        (reached-end (B .transactions - 1) (w .behind) (o .next) (r .steps) (few-links (o .next) (r .steps) known (r .once))
+        (r .chain) known (b .blocker)))
       where
         b : Behind B s t (o .next)
         b = o .chain .0
+
         w : Wait B
         w = b .wait
+
         r : Straight (o .next) (endOf B (o .next) (o .others))
         r = straight (o .next) (o .others) (o .chain .1)
+
         known : (u : ℕ) → In u (o .next ∷ r .steps) → In u (everyone B)
         known u i = chain-known t (o .next ∷ r .steps) u (b, r .chain) i
 
@@ -208,6 +212,7 @@ module _ (B : Book) (s : St B) where
       by-newest : (o : Option (Wait B)) → refused B s o ≡ none → o ≡ none
       by-newest none h = refl
       by-newest (some w) h = absurd (Option·none-ne-some _ (sym h))
+
       by-oldest : (o : Option (Wait B)) → oldest B s ≡ o → served B s o ≡ none → (oldest B s ≡ none) × (newest B s ≡ none)
       by-oldest none e h = (e, by-newest (newest B s) h)
       by-oldest (some w) e h = absurd (Option·none-ne-some _ (sym h))

@@ -35,9 +35,11 @@ module _ (B : Book) where
       goes w r i e =
           subst (Leaves s) (Option·some-injective (left B s (w .request) r) t e)
           (record { request = w .request; queued = placed B s w i .queued; answered = refl; queue = refl })
+
       by-newest : (o : Option (Wait B)) → newest B s ≡ o → refused B s o ≡ some t → Leaves s t
       by-newest none e h = absurd (Option·none-ne-some t h)
       by-newest (some w) e h = goes w _ (newest-waits B s w e) h
+
       by-oldest : (o : Option (Wait B)) → oldest B s ≡ o → served B s o ≡ some t → Leaves s t
       by-oldest none e h = by-newest (newest B s) refl h
       by-oldest (some w) e h = goes w _ (oldest-waits B s w e) h
@@ -52,15 +54,15 @@ module _ (B : Book) where
       (keep-shorter (λ q. not (eqb (q .asker) a)) (s .queue) (l .request) (l .queued) (ap not (eq-eqb a a refl)))
 
   pub turn-takes-one : (s : St B) (t : Turn B) → pairs (otherAsker B) (s .queue) ≡ true → turn B s ≡ some t
-    → suc (length (t .state .queue)) ≡ length (s .queue)
+      → suc (length (t .state .queue)) ≡ length (s .queue)
   unfolding leave
   turn-takes-one s t d h =
       let l = turn-leaves s t h in
       let a = l .request .asker in
       subst (λ qs. suc (length qs) ≡ length (s .queue)) (sym (l .queue))
       (keep-but-one (otherAsker B) (λ q. not (eqb (q .asker) a)) (s .queue) (l .request) d
-        (λ q e. ap not (ne-eqb (q .asker) a (λ same. eqb-false a (q .asker) (not-true (eqb a (q .asker)) e) (sym same))))
-        (λ q e. e) (l .queued) (ap not (eq-eqb a a refl)))
+      (λ q e. ap not (ne-eqb (q .asker) a (λ same. eqb-false a (q .asker) (not-true (eqb a (q .asker)) e) (sym same))))
+      (λ q e. e) (l .queued) (ap not (eq-eqb a a refl)))
 
   -- with nobody queued there is no turn
   pub empty-rests : (s : St B) → length (s .queue) ≤ 0 → AtRest B s
@@ -97,6 +99,7 @@ module _ (B : Book) where
     where
       n : ℕ
       n = length (s .queue)
+
       go : (o : Option (Turn B)) → turn B s ≡ o → onward B s (turns B n) o ≡ onward B s (worked B) o
       go none e = refl
       go (some t) e =
@@ -104,7 +107,7 @@ module _ (B : Book) where
           ap (λ (w : Worked B). record { state = w .state; answers = t .answer ∷ w .answers }) (turns-enough n (t .state) (omega arith))
 
   pub worked-turn : (s : St B) (t : Turn B) → turn B s ≡ some t
-    → worked B s ≡ record { state = worked B (t .state) .state; answers = t .answer ∷ worked B (t .state) .answers }
+      → worked B s ≡ record { state = worked B (t .state) .state; answers = t .answer ∷ worked B (t .state) .answers }
   worked-turn s t h = worked-onward s ∙ ap (onward B s (worked B)) h
 
   pub worked-done : (s : St B) → AtRest B s → worked B s ≡ record { state = s; answers = [] }
@@ -112,9 +115,9 @@ module _ (B : Book) where
 
   -- what holds of a desk at rest, and before a turn if it holds after it, holds of the queue worked
   pub worked-by-turns : (P : St B → Worked B → Type 0) → ((s : St B) → AtRest B s → P s (record { state = s; answers = [] }))
-    → ((s : St B) (t : Turn B) (w : Worked B) → turn B s ≡ some t → P (t .state) w
+      → ((s : St B) (t : Turn B) (w : Worked B) → turn B s ≡ some t → P (t .state) w
       → P s (record { state = w .state; answers = t .answer ∷ w .answers }))
-    → (s : St B) → P s (worked B s)
+      → (s : St B) → P s (worked B s)
   unfolding worked turns
   worked-by-turns P rest back s = go (length (s .queue)) s (omega arith)
     where
@@ -122,6 +125,7 @@ module _ (B : Book) where
           → P r (onward B r (turns B n) o)
       turned n r none e h = rest r e
       turned n r (some t) e h = back r t (turns B n (t .state)) e (h t e)
+
       go : (n : ℕ) (r : St B) → length (r .queue) ≤ n → P r (turns B n r)
       go zero r h = rest r (empty-rests r h)
       go (suc n) r h = turned n r (turn B r) refl (λ t e. go n (t .state) (omega (arith, turn-shorter r t e)))

@@ -29,7 +29,7 @@ module _ (B : Book) where
     pub behind : w .behind ≡ blockers B es ls ahead (w .request)
 
   placed-from : (es : Entries B) (ls : Slots B) (queue ahead qs : List (Q B)) → ((q : Q B) → In q ahead → In q queue)
-    → ((q : Q B) → In q qs → In q queue) → (w : Wait B) → In w (waitsFrom B es ls ahead qs) → Placed es ls queue w
+      → ((q : Q B) → In q qs → In q queue) → (w : Wait B) → In w (waitsFrom B es ls ahead qs) → Placed es ls queue w
   unfolding waitsFrom
   placed-from es ls queue ahead [] a h w i = absurd i
   placed-from es ls queue ahead (q ∷ qs) a h w (inl e) =
@@ -47,7 +47,7 @@ module _ (B : Book) where
   placed s = placed-from (s .entries) (s .slots) (s .queue) [] (s .queue) (λ q x. absurd x) (λ q i. i)
 
   wait-from : (es : Entries B) (ls : Slots B) (ahead qs : List (Q B)) (q : Q B) → In q qs
-    → (w : Wait B) × In w (waitsFrom B es ls ahead qs) × (w .request ≡ q)
+      → (w : Wait B) × In w (waitsFrom B es ls ahead qs) × (w .request ≡ q)
   unfolding waitsFrom
   wait-from es ls ahead [] q i = absurd i
   wait-from es ls ahead (p ∷ qs) q (inl e) = (record { request = p; behind = blockers B es ls ahead p }, inl refl, e)
@@ -77,7 +77,7 @@ module _ (B : Book) where
 
   -- whoever is kept as another one than t is another one, and one of all
   kept-other : {A : Type 0} (P : ℕ → Type 0) (f : A → ℕ) (t u : ℕ) (r : A → Bool) (xs : List A) → ((x : A) → In x xs → P (f x))
-    → In u (map f (keep (λ x. not (eqb (f x) t) && r x) xs)) → P u × (eqb u t ≡ false)
+      → In u (map f (keep (λ x. not (eqb (f x) t) && r x) xs)) → P u × (eqb u t ≡ false)
   kept-other P f t u r xs h i =
       let w = map-in f (keep (λ x. not (eqb (f x) t) && r x) xs) u i in
       let k = keep-in (λ x. not (eqb (f x) t) && r x) xs (w .0) (w .1) in
@@ -86,14 +86,15 @@ module _ (B : Book) where
 
   -- a blocker is another one than the asker, and holds a lock or is queued ahead
   blocker : (P : ℕ → Type 0) (es : Entries B) (ls : Slots B) (ahead : List (Q B)) (q : Q B) (u : ℕ)
-    → ((l : Lk B) → In l (inUse ls) → P (l .holder)) → ((p : Q B) → In p ahead → P (p .asker))
-    → In u (blockers B es ls ahead q) → P u × (eqb u (q .asker) ≡ false)
+      → ((l : Lk B) → In l (inUse ls) → P (l .holder)) → ((p : Q B) → In p ahead → P (p .asker))
+      → In u (blockers B es ls ahead q) → P u × (eqb u (q .asker) ≡ false)
   unfolding blockers holders earlier
   blocker P es ls ahead q u held queued i =
       go (holds B ls (q .asker) (w .name)) (append-in (holders B ls (q .asker) w) _ u i)
     where
       w : Want B
       w = wanted B es q
+
       go : (b : Bool) → In u (holders B ls (q .asker) w) ⊎ In u (cond b [] (earlier B es ahead (q .asker) w))
           → P u × (eqb u (q .asker) ≡ false)
       go b (inl j) =
@@ -117,6 +118,7 @@ module _ (B : Book) where
         low (no n) =
             let e : t ≡ 0 = omega arith in
             absurd (true≢false (sym (subst (λ u. runs B s u ≡ true) e h) ∙ good .nobody))
+
         high : Dec (t < length (s .marks)) → t ≤ B .transactions
         high (yes l) = let e = good .marks in omega arith
         high (no n) = absurd (false≢true (ap isRunning (sym (List·getD-eq-default (s .marks) idle (omega arith))) ∙ h))
