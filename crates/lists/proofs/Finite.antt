@@ -8,10 +8,10 @@ use mathlib.Core.List.{List, [], _∷_, _++_, map}
 use mathlib.Core.Option.{Option, none, some, Option·none-ne-some, Option·some-injective}
 use native.Mathlib.Omega.{arith}
 use native.Mathlib.Decide.{decLt}
-use borrow.Author.Tests.{eqb-false, eq-eqb, ne-eqb, not-true}
+use borrow.Author.Tests.{eqb-true, eqb-false, eq-eqb, ne-eqb, not-true}
 use lib.Dec.{eqb}
 use lib.ListN.{length}
-use Rattle.lists.specs.Lists.{orElse, all, any, keep, first, last, pairs, In, tab}
+use Rattle.lists.specs.Lists.{orElse, all, any, keep, first, last, pairs, isNil, In, member, tab}
 
 pub and-left : (a b : Bool) → (a && b) ≡ true → a ≡ true
 and-left true b e = refl
@@ -26,6 +26,10 @@ and-both true b p q = q
 and-both false b p q = p
 
 module _ {A : Type 0} where
+  pub some-in : (xs : List A) → isNil xs ≡ false → (x : A) × In x xs
+  some-in [] h = absurd (true≢false h)
+  some-in (x ∷ xs) h = (x, inl refl)
+
   -- ---- tests
   pub all-in : (p : A → Bool) (xs : List A) (x : A) → all p xs ≡ true → In x xs → p x ≡ true
   unfolding all
@@ -216,6 +220,12 @@ module _ {A : Type 0} where
   unfolding tab
   length-tab zero i f = refl
   length-tab (suc n) i f = ap suc (length-tab n (i + 1) f)
+
+pub in-member : (q : ℕ) (xs : List ℕ) → In q xs → member q xs ≡ true
+in-member q xs i = in-any (λ x. eqb x q) xs q i (eq-eqb q q refl)
+
+pub member-in : (q : ℕ) (xs : List ℕ) → member q xs ≡ true → In q xs
+member-in q xs h = let w = any-in (λ x. eqb x q) xs h in subst (λ x. In x xs) (eqb-true (w .0) q (w .2)) (w .1)
 
 module _ {A : Type 0} where
   pub map-in : {C : Type 0} (f : A → C) (xs : List A) (y : C) → In y (map f xs) → (x : A) × In x xs × (f x ≡ y)

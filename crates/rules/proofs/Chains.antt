@@ -7,11 +7,11 @@ use mathlib.Core.Bool.{Bool, true, false, not, _&&_, _||_, or-true, true≢false
 use mathlib.Core.List.{List, [], _∷_}
 use mathlib.Core.Option.{Option, none, some, Option·none-ne-some}
 use native.Mathlib.Omega.{arith}
-use borrow.Author.Tests.{eq-eqb, eqb-true, eqb-false, ne-eqb, not-false}
+use borrow.Author.Tests.{eqb-true, eqb-false, ne-eqb, not-false}
 use lib.Dec.{eqb}
 use lib.ListN.{length}
-use Rattle.lists.specs.Lists.{In, all, pairs, member, isNil}
-use Rattle.lists.proofs.Finite.{and-left, and-right, and-both, in-any, any-in, all-fails, in-all, in-keep, keep-in, length-tab, no-more}
+use Rattle.lists.specs.Lists.{In, all, pairs, member}
+use Rattle.lists.proofs.Finite.{and-left, and-right, and-both, some-in, all-fails, in-all, in-any, any-in, in-member, member-in, in-keep, keep-in, length-tab, no-more}
 use Rattle.rules.specs.Kinds.{Book}
 use Rattle.rules.specs.Queue.{St, Q, Wait, waits, oldest, newest, everyone, linked, further, reached, onCircle}
 use Rattle.rules.specs.Runs.{refused, served, turn, AtRest}
@@ -23,16 +23,6 @@ use Rattle.rules.proofs.Waits.{placed, wait-of, oldest-none, newest-non
 -- two transactions
 abbrev different : ℕ → ℕ → Bool
 different u v = not (eqb u v)
-
-in-member : (u : ℕ) (us : List ℕ) → In u us → member u us ≡ true
-in-member u us i = in-any (λ x. eqb x u) us u i (eq-eqb u u refl)
-
-member-in : (u : ℕ) (us : List ℕ) → member u us ≡ true → In u us
-member-in u us h = let w = any-in (λ x. eqb x u) us h in subst (λ x. In x us) (eqb-true (w .0) u (w .2)) (w .1)
-
-some-blocker : (us : List ℕ) → isNil us ≡ false → (u : ℕ) × In u us
-some-blocker [] h = absurd (true≢false h)
-some-blocker (u ∷ us) h = (u, inl refl)
 
 module _ (B : Book) (s : St B) where
   -- ---- parts of chains
@@ -222,7 +212,7 @@ module _ (B : Book) (s : St B) where
     someone t h =
         let q = any-in (λ p. eqb (p .asker) t) (s .queue) h in
         let w = wait-of B s (q .0) (q .1) in
-        let u = some-blocker (w .0 .behind) (oldest-none B s (w .0) (rest-choices rest .0) (w .1)) in
+        let u = some-in (w .0 .behind) (oldest-none B s (w .0) (rest-choices rest .0) (w .1)) in
         let asks = ap (λ (p : Q B). p .asker) (w .2) ∙ eqb-true (q .0 .asker) t (q .2) in
         (u .0, record { wait = w .0; queued = w .1; asker = asks; blocker = u .1 })
 

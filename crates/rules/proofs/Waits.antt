@@ -1,5 +1,5 @@
 -- Who waits behind whom: every wait is a queued request and every queued request has one, and whoever blocks it is another one, who holds
--- a lock or is queued. By induction on the queue, with those ahead at hand. Assumes nothing.
+-- a lock or is queued, and so runs. By induction on the queue, with those ahead at hand. The last part assumes the invariants of specs/Good.
 use Prim.Native.Nat.{ℕ, _≤_, _<_}
 use mathlib.Core.Path.{_≡_, refl, sym, ap, subst, _∙_}
 use mathlib.Core.Logic.{_⊎_, inl, inr}
