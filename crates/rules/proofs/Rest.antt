@@ -15,7 +15,7 @@ use Rattle.rules.specs.Kinds.{Book, Request, begin, commit, rollback, as
 use Rattle.rules.specs.Entries.{committed, rolledBack}
 use Rattle.rules.specs.Queue.{St, Q, Wait, waits, oldest, newest, leave}
 use Rattle.rules.specs.Runs.{Sy, Ran, Turn, left, refused, served, turn, Worked, onward, turns, worked, AtRest}
-use Rattle.rules.specs.Desk.{begun, ended, joined, refusal, acts, unless, step, Call, legalCall, call, stateAfter, fresh, after}
+use Rattle.rules.specs.Desk.{begun, ended, joined, refusal, acts, unless, step, Cl, legalCall, call, stateAfter, fresh, after}
 use Rattle.rules.specs.Good.{otherAsker}
 use Rattle.rules.proofs.Waits.{placed, oldest-waits, newest-waits}
 
@@ -149,7 +149,7 @@ module _ (B : Book) where
       go none = acts-rest s t r
       go (some m) = h
 
-  call-rests : (s : St B) (c : Call B) → AtRest B s → AtRest B (stateAfter B s (call B s c))
+  call-rests : (s : St B) (c : Cl B) → AtRest B s → AtRest B (stateAfter B s (call B s c))
   unfolding call
   call-rests s c h = go (legalCall B c)
     where
@@ -157,11 +157,11 @@ module _ (B : Book) where
       go true = step-rests s (c .asker) (c .request) h
       go false = h
 
-  rests-on : (s : St B) (cs : List (Call B)) → AtRest B s → AtRest B (after B s cs)
+  rests-on : (s : St B) (cs : List (Cl B)) → AtRest B s → AtRest B (after B s cs)
   unfolding after
   rests-on s [] h = h
   rests-on s (c ∷ cs) h = rests-on (stateAfter B s (call B s c)) cs (call-rests s c h)
 
-  pub after-rests : (cs : List (Call B)) → AtRest B (after B (fresh B) cs)
+  pub after-rests : (cs : List (Cl B)) → AtRest B (after B (fresh B) cs)
   unfolding fresh
   after-rests cs = rests-on (fresh B) cs (empty-rests (fresh B) (omega arith))
