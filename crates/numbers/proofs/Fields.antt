@@ -1,11 +1,11 @@
 -- Laws of a record in bytes, a list of widths with a number for each: the laws of numbers, once for every list of widths.
 -- Each by induction on the widths. Assumes nothing.
-use mathlib.Core.Path.{_≡_, refl, sym, ap, ap₂, _∙_}
+use mathlib.Core.Path.{_≡_, refl, ap, ap₂, _∙_}
 use mathlib.Core.List.{List, [], _∷_}
-use Prim.Native.Nat.{ℕ, zero, suc, _+_, _^_, _≤_, _<_}
+use Prim.Native.Nat.{ℕ, suc, _+_, _≤_}
 use native.Mathlib.Nat.{not-suc-le-zero}
 use native.Mathlib.Omega.{arith}
-use lib.ListN.{length, getD}
+use lib.ListN.{length}
 use Rattle.numbers.specs.Numbers.{numberAt, putNumber, widthOf, fieldsAt, putFields, Fits, Apart, Bytes}
 use Rattle.numbers.proofs.Agree.{Agree, Touches, agree-within, agree-front, agree-join, untouched, touches-wider, touches-then}
 use Rattle.numbers.proofs.Numbers.{numberAt-ext, length-putNumber, touches-putNumber, number-same, number-apart, number-below, numbers-inj}

@@ -78,7 +78,7 @@ put-byte s at v h = ap (set s at) (sym (mod-eq-of-lt h))
 -- ---- a number of w + u bytes is one of w bytes and one of u behind it
 pub number-split : (w u : ℕ) (s : List ℕ) (at : ℕ) → numberAt (w + u) s at ≡ numberAt w s at + 256 ^ w * numberAt u s (at + w)
 unfolding numberAt
-number-split zero u s at = rw (zero-add, add-zero) (omega arith)
+number-split zero u s at = rw (zero-add u, add-zero) (omega arith)
 number-split (suc w) u s at =
     let e : at + suc w ≡ at + 1 + w = omega arith in
     let r = number-split w u s (at + 1) in

@@ -1,14 +1,13 @@
 -- Laws of a table of records in bytes: a record written is one row set, a write elsewhere leaves the table, and the rows tell their bytes.
 -- By the laws of tables and of records, with the place and the stride as variables. Assumes nothing.
-use mathlib.Core.Path.{_≡_, refl, sym, ap, _∙_}
+use mathlib.Core.Path.{_≡_, sym, ap, _∙_}
 use mathlib.Core.Logic.{_≢_, _⊎_, inl, inr}
 use mathlib.Core.List.{List, []}
-use Prim.Native.Nat.{ℕ, zero, suc, _+_, _-_, _*_, _/_, _%_, _≤_, _<_}
+use Prim.Native.Nat.{ℕ, _+_, _-_, _*_, _/_, _%_, _≤_, _<_}
 use native.Mathlib.Nat.{mul-le-mul-left, div-add-mod, mod-lt, div-lt-iff-lt-mul, zero-add, eq-zero-or-pos}
 use native.Mathlib.Decide.{decLt}
 use native.Mathlib.Omega.{arith}
 use lib.ListN.{length, getD, set, take, drop}
-use Rattle.lists.specs.Lists.{tab}
 use Rattle.lists.proofs.Tables.{length-tab, getD-tab, tab-ext, tab-same, tab-set, take-tab, drop-tab}
 use Rattle.numbers.specs.Numbers.{widthOf, fieldsAt, putFields, rows, part, copied, Fits, Apart, Bytes}
 use Rattle.numbers.proofs.Agree.{Agree, Touches, agree-within, untouched}

@@ -1,14 +1,14 @@
 -- A table's tail moved up by one stride leaves a gap for a row, moved down by one stride it takes a row out.
 -- By the laws of tables: below the place nothing is touched, above it each row is the one beside it. Assumes nothing.
-use mathlib.Core.Path.{_≡_, refl, sym, ap, _∙_}
+use mathlib.Core.Path.{_≡_, _∙_}
 use mathlib.Core.List.{List}
-use Prim.Native.Nat.{ℕ, zero, suc, _+_, _-_, _*_, _≤_, _<_}
+use Prim.Native.Nat.{ℕ, _+_, _-_, _*_, _≤_, _<_}
 use native.Mathlib.Nat.{mul-le-mul-left, mul-sub}
 use native.Mathlib.Omega.{arith}
 use lib.ListN.{length}
 use Rattle.lists.specs.Lists.{insertAt, removeAt}
 use Rattle.lists.proofs.Tables.{tab-insert, tab-remove}
-use Rattle.numbers.specs.Numbers.{widthOf, fieldsAt, putFields, rows, moved, Fits, Apart}
+use Rattle.numbers.specs.Numbers.{widthOf, fieldsAt, putFields, rows, moved, Fits}
 use Rattle.numbers.proofs.Agree.{Agree, Touches, agree-within, touches-wider, touches-then}
 use Rattle.numbers.proofs.Fields.{fieldsAt-ext, touches-putFields, fields-same, fields-other, fields-apart}
 use Rattle.numbers.proofs.Moves.{touches-copied, agree-copied, length-copied}
