@@ -12,7 +12,7 @@ use Rattle.numbers.specs.Numbers.{widthOf, fieldsAt, putFields, rows, mo
 use Rattle.numbers.proofs.Agree.{Agree, Touches, agree-within, touches-wider, touches-then}
 use Rattle.numbers.proofs.Fields.{fieldsAt-ext, touches-putFields, fields-same, fields-other, fields-apart}
 use Rattle.numbers.proofs.Moves.{touches-copied, agree-copied, length-copied}
-use Rattle.numbers.proofs.Rows.{row-within, rows-apart}
+use Rattle.numbers.proofs.Rows.{row-within, rows-distinct}
 
 -- m bytes, at least those of the rows from i on, moved up by one stride, and a record written at i
 pub rows-insert : (ws : List ℕ) (base z n : ℕ) (s : List ℕ) (i m : ℕ) (vs : List ℕ) → i ≤ n → widthOf ws ≤ z → Fits ws vs
@@ -23,7 +23,7 @@ rows-insert ws base z n s i m vs h w f l r =
     tab-insert n (λ k. fieldsAt ws s (base + z * k)) (λ k. fieldsAt ws s₂ (base + z * k)) i vs h
     (λ k b. fields-apart ws (base + z * k) touched (omega (arith, row-within z (widthOf ws) k i w b)))
     (fields-same ws s₁ p vs f (omega (arith, length-copied m s p (p + z) s (omega arith) r)))
-    (λ k a b. fields-other ws (base + z * (k + 1)) ws s₁ p vs (rows-apart z (widthOf ws) base (k + 1) i w (omega arith))
+    (λ k a b. fields-other ws (base + z * (k + 1)) ws s₁ p vs (rows-distinct z (widthOf ws) base (k + 1) i w (omega arith))
     ∙ fieldsAt-ext ws (moved-row k a b))
   where
     p : ℕ
