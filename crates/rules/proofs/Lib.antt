@@ -3,3 +3,4 @@ pub mod Waits
 pub mod Rest
 pub mod Answers
 pub mod Chains
+pub mod Keeps
