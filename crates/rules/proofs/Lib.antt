@@ -4,3 +4,6 @@ pub mod Rest
 pub mod Answers
 pub mod Chains
 pub mod Keeps
+pub mod Keys
+pub mod Index
+pub mod LockTable

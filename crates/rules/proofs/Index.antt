@@ -1,0 +1,176 @@
+-- The sorted entries: which there are, and that they stay in order, after one is put in, some are changed where they stand, and a
+-- transaction's are settled. `put` is an insertion, `changed` a map, `settled` a map of what stays; the laws of those do the rest.
+-- Assumes nothing.
+use Prim.Native.Nat.{ℕ, zero, suc}
+use mathlib.Core.Path.{_≡_, refl, sym, ap, subst, _∙_}
+use mathlib.Core.Logic.{_⊎_, inl, inr, ⊎-elim}
+use mathlib.Core.Bool.{Bool, true, false, cond, not, _&&_, true≢false, false≢true}
+use mathlib.Core.List.{List, [], _∷_, _++_, map}
+use mathlib.Core.Option.{Option, none, some}
+use lib.Dec.{eqb}
+use borrow.Author.Tests.{not-true}
+use Rattle.lists.specs.Lists.{all, any, keep, first, pairs, In, join, insertAt}
+use Rattle.lists.proofs.Elements.{both, and, never, all-in, in-all, any-in, in-any, in-keep, keep-in, first-in, pairs-split, pairs-cons, pairs-keep, first-least, in-insert, insert-in, in-map, map-in, pairs-map}
+use Rattle.rules.specs.Kinds.{Book, Ordered, Entry, Name, on, end}
+use Rattle.rules.specs.Entries.{Entries, atMost, same, present, left, settled, takenOut, put, changed}
+use Rattle.rules.specs.Locks.{itself}
+use Rattle.rules.specs.Runs.{En}
+use Rattle.rules.specs.Good.{below, ascending, isName}
+use Rattle.rules.proofs.Keys.{same-equal, same-itself, atMost-itself, atMost-else, atMost-equal, atMost-along}
+
+-- the end of t, entry by entry: whether it stays, and what it is then
+module _ {K R : Type 0} (f : Entry K R → Entry K R) (t : ℕ) where
+  abbrev pub stays : Entry K R → Bool
+  stays e = not (eqb (e .owner) t && not (present (f e)))
+
+  abbrev pub settledOne : Entry K R → Entry K R
+  settledOne e = cond (eqb (e .owner) t) (f e) e
+
+  pub settled-is : (es : List (Entry K R)) → settled f t es ≡ map settledOne (keep stays es)
+  unfolding settled left join keep
+  settled-is [] = refl
+  settled-is (e ∷ es) = go (eqb (e .owner) t) (present (f e)) refl (settled-is es)
+    where
+      go : (o p : Bool) → eqb (e .owner) t ≡ o → settled f t es ≡ map settledOne (keep stays es)
+        → cond o (cond p (f e ∷ []) []) (e ∷ []) ++ settled f t es
+          ≡ map settledOne (cond (not (o && not p)) (e ∷ keep stays es) (keep stays es))
+      go true true q h = cc
+      go true false q h = h
+      go false p q h = cc
+
+  -- an entry of the settled list: another's as it was, or t's own, there after its end
+  pub in-settled : (es : List (Entry K R)) (y : Entry K R) → In y (settled f t es)
+    → (In y es × (eqb (y .owner) t ≡ false)) ⊎ ((e : Entry K R) × In e es × (eqb (e .owner) t ≡ true) × (present (f e) ≡ true) × (f e ≡ y))
+  in-settled es y i =
+      let w : (e : Entry K R) × In e (keep stays es) × (settledOne e ≡ y) = in-map settledOne (keep stays es) y (rw (settled-is es) at i) in
+      let k : In (w .0) es × (stays (w .0) ≡ true) = in-keep stays es (w .0) (w .1) in
+      go (w .0) (k .0) (k .1) (w .2) (eqb (w .0 .owner) t) (present (f (w .0))) refl refl
+    where
+      go : (e : Entry K R) → In e es → stays e ≡ true → settledOne e ≡ y → (o p : Bool) → eqb (e .owner) t ≡ o → present (f e) ≡ p
+        → (In y es × (eqb (y .owner) t ≡ false)) ⊎ ((e : Entry K R) × In e es × (eqb (e .owner) t ≡ true) × (present (f e) ≡ true) × (f e ≡ y))
+      go e j h m true true q r = inr (e, j, q, r, cc)
+      go e j h m true false q r = absurd (false≢true (rw (q, r) at h))
+      go e j h m false p q r = let z : e ≡ y = cc in inl (subst (λ (v : Entry K R). In v es) z j, subst (λ (v : Entry K R). eqb (v .owner) t ≡ false) z q)
+
+  pub settled-in : (es : List (Entry K R)) (e : Entry K R) → In e es → stays e ≡ true → In (settledOne e) (settled f t es)
+  settled-in es e i h = rw (settled-is es) (map-in settledOne (keep stays es) e (keep-in stays es e i h))
+
+  -- a key that is taken out was that of an entry of t's, absent after its end
+  pub in-takenOut : (es : List (Entry K R)) (k : K) → In k (takenOut f t es)
+    → (e : Entry K R) × In e es × (eqb (e .owner) t ≡ true) × (present (f e) ≡ false) × (e .key ≡ k)
+  unfolding takenOut
+  in-takenOut es k i =
+      let w = in-map (λ (e : Entry K R). e .key) (keep (λ e. eqb (e .owner) t && not (present (f e))) es) k i in
+      let j : In (w .0) es × (eqb (w .0 .owner) t && not (present (f (w .0))) ≡ true) = in-keep _ es (w .0) (w .1) in
+      let b : (eqb (w .0 .owner) t ≡ true) × (not (present (f (w .0))) ≡ true) = both _ _ (j .1) in
+      (w .0, j .0, b .0, not-true (present (f (w .0))) (b .1), w .2)
+
+module _ (B : Book) where
+  -- put, as an insertion
+  pub put-place : (e : En B) (es : Entries B) → (i : ℕ) × (put B e es ≡ insertAt i e es)
+  unfolding put insertAt
+  put-place e [] = (0, refl)
+  put-place e (x ∷ xs) = go (atMost B (e .key) (x .key)) (put-place e xs)
+    where
+      go : (b : Bool) → ((i : ℕ) × (put B e xs ≡ insertAt i e xs)) → (i : ℕ) × (cond b (e ∷ x ∷ xs) (x ∷ put B e xs) ≡ insertAt i e (x ∷ xs))
+      go true w = (0, refl)
+      go false w = (suc (w .0), ap (λ (ys : Entries B). x ∷ ys) (w .1))
+
+  pub in-put : (e : En B) (es : Entries B) (y : En B) → In y (put B e es) → (e ≡ y) ⊎ In y es
+  in-put e es y i = let w = put-place e es in in-insert (w .0) e es y (rw (w .1) at i)
+
+  pub put-in : (e : En B) (es : Entries B) (y : En B) → (e ≡ y) ⊎ In y es → In y (put B e es)
+  put-in e es y i = let w = put-place e es in rw (w .1) (insert-in (w .0) e es y i)
+
+  -- changed, as a map
+  pub in-changed : (k : B .Key) (f : En B → En B) (es : Entries B) (y : En B) → In y (changed B k f es)
+    → In y es ⊎ ((e : En B) × In e es × (same B (e .key) k ≡ true) × (f e ≡ y))
+  unfolding changed
+  in-changed k f es y i = let w = in-map _ es y i in go (w .0) (w .1) (same B (w .0 .key) k) refl (w .2)
+    where
+      go : (e : En B) → In e es → (b : Bool) → same B (e .key) k ≡ b → cond b (f e) e ≡ y
+        → In y es ⊎ ((e : En B) × In e es × (same B (e .key) k ≡ true) × (f e ≡ y))
+      go e j true q h = inr (e, j, q, h)
+      go e j false q h = inl (subst (λ (v : En B). In v es) h j)
+
+  -- the names of locks: an entry's key, or the end
+  pub in-name : (es : Entries B) (e : En B) (k : B .Key) → In e es → same B (e .key) k ≡ true → isName B es (on k) ≡ true
+  in-name es e k i h = in-any (λ x. same B (x .key) k) es e i h
+
+  -- order is kept
+  pub ascending-keep : (p : En B → Bool) (es : Entries B) → ascending B es ≡ true → ascending B (keep p es) ≡ true
+  unfolding ascending
+  ascending-keep p es h =
+      let b : (pairs (below B) es ≡ true) × (all (λ e. B .legal (e .key)) es ≡ true) = both _ _ h in
+      and _ _ (pairs-keep (below B) p es (b .0)) (in-all _ (keep p es) (λ e i. all-in _ es e (b .1) (in-keep p es e i .0)))
+
+  pub ascending-map : (f : En B → En B) (es : Entries B) → ((e : En B) → f e .key ≡ e .key) → ascending B es ≡ true → ascending B (map f es) ≡ true
+  unfolding ascending
+  ascending-map f es g h =
+      let b : (pairs (below B) es ≡ true) × (all (λ e. B .legal (e .key)) es ≡ true) = both _ _ h in
+      and _ _ (pairs-map f (below B) (below B) es (λ x y i j r. rw (g x, g y) r) (b .0))
+      (in-all _ (map f es) (λ y i. let w = in-map f es y i in rw (← w .2, g (w .0)) (all-in _ es (w .0) (b .1) (w .1))))
+
+  module _ (L : Ordered B) where
+    pub name-in : (es : Entries B) (k : B .Key) → isName B es (on k) ≡ true → (e : En B) × In e es × (e .key ≡ k)
+    name-in es k h = let w = any-in (λ x. same B (x .key) k) es h in (w .0, w .1, same-equal B L (w .0 .key) k (w .2))
+
+    -- e at or below x and not x's key, x below y: e is below y
+    below-along : (e x y : En B) → atMost B (e .key) (x .key) ≡ true → below B x y ≡ true → below B e y ≡ true
+    below-along e x y p q = go (atMost B (y .key) (e .key)) refl
+      where
+        go : (b : Bool) → atMost B (y .key) (e .key) ≡ b → not b ≡ true
+        go true h = rw (atMost-along B L (y .key) (e .key) (x .key) h p) at q
+        go false h = refl
+
+    below-other : (e x : En B) → atMost B (e .key) (x .key) ≡ true → same B (x .key) (e .key) ≡ false → below B e x ≡ true
+    below-other e x p q = go (atMost B (x .key) (e .key)) refl
+      where
+        go : (b : Bool) → atMost B (x .key) (e .key) ≡ b → not b ≡ true
+        go true h =
+            let z : x .key ≡ e .key = atMost-equal B L (x .key) (e .key) h p in
+            absurd (true≢false (sym (same-itself B L (e .key)) ∙ (rw z at q)))
+        go false h = refl
+
+    pub pairs-put : (e : En B) (es : Entries B) → ((x : En B) → In x es → same B (x .key) (e .key) ≡ false) → pairs (below B) es ≡ true
+      → pairs (below B) (put B e es) ≡ true
+    unfolding put
+    pairs-put e [] m h = pairs-cons (below B) e [] (λ y i. absurd i) h
+    pairs-put e (x ∷ xs) m h =
+        let b = pairs-split (below B) x xs h in
+        go (atMost B (e .key) (x .key)) refl (b .0) (pairs-put e xs (λ y i. m y (inr i)) (b .1))
+      where
+        go : (b : Bool) → atMost B (e .key) (x .key) ≡ b → ((y : En B) → In y xs → below B x y ≡ true) → pairs (below B) (put B e xs) ≡ true
+          → pairs (below B) (cond b (e ∷ x ∷ xs) (x ∷ put B e xs)) ≡ true
+        go true q f k =
+            pairs-cons (below B) e (x ∷ xs)
+            (λ y i. ⊎-elim (λ z. subst (λ (v : En B). below B e v ≡ true) z (below-other e x q (m x (inl refl)))) (λ j. below-along e x y q (f y j)) i) h
+        go false q f k =
+            pairs-cons (below B) x (put B e xs)
+            (λ y i. ⊎-elim (λ z. subst (λ (v : En B). below B x v ≡ true) z (rw q)) (λ j. f y j) (in-put e xs y i)) k
+
+    pub ascending-put : (e : En B) (es : Entries B) → ((x : En B) → In x es → same B (x .key) (e .key) ≡ false) → B .legal (e .key) ≡ true
+      → ascending B es ≡ true → ascending B (put B e es) ≡ true
+    unfolding ascending
+    ascending-put e es m l h =
+        let b : (pairs (below B) es ≡ true) × (all (λ e. B .legal (e .key)) es ≡ true) = both _ _ h in
+        and _ _ (pairs-put e es m (b .0))
+        (in-all _ (put B e es) (λ y i. ⊎-elim (λ z. subst (λ (v : En B). B .legal (v .key) ≡ true) z l) (λ j. all-in _ es y (b .1) j) (in-put e es y i)))
+
+    -- the first entry at or above k isn't k: k is missing
+    pub missing : (es : Entries B) (k : B .Key) → ascending B es ≡ true → itself B k (first (λ e. atMost B k (e .key)) es) ≡ none
+      → (e : En B) → In e es → same B (e .key) k ≡ false
+    unfolding ascending
+    missing es k h n e i = go (same B (e .key) k) refl
+      where
+        found : (x : En B) → first (λ e. atMost B k (e .key)) es ≡ some x → e .key ≡ k → (x ≡ e) ⊎ (below B x e ≡ true) → true ≡ false
+        found x d z (inl y) =
+            let r : same B (x .key) k ≡ true = rw (y, z) (same-itself B L k) in
+            let c : itself B k (some x) ≡ none = rw d at n in never (cc)
+        found x d z (inr r) = sym (rw (z, first-in (λ x. atMost B k (x .key)) es x d .1) at r)
+        go : (b : Bool) → same B (e .key) k ≡ b → b ≡ false
+        go false q = refl
+        go true q =
+            let z : e .key ≡ k = same-equal B L (e .key) k q in
+            let w = first-least (λ x. atMost B k (x .key)) (below B) es e (both _ _ h .0) i (rw z (atMost-itself B L k)) in
+            found (w .0) (w .1) z (w .2)
