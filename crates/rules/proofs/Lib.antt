@@ -7,3 +7,4 @@ pub mod Keeps
 pub mod Keys
 pub mod Index
 pub mod LockTable
+pub mod Did
