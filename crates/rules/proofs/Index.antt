@@ -52,8 +52,10 @@ module _ {K R : Type 0} (f : Entry K R → Entry K R) (t : ℕ) where
       go e j h m true false q r = absurd (false≢true (rw (q, r) at h))
       go e j h m false p q r = let z : e ≡ y = cc in inl (subst (λ (v : Entry K R). In v es) z j, subst (λ (v : Entry K R). eqb (v .owner) t ≡ false) z q)
 
-  pub settled-in : (es : List (Entry K R)) (e : Entry K R) → In e es → stays e ≡ true → In (settledOne e) (settled f t es)
-  settled-in es e i h = rw (settled-is es) (map-in settledOne (keep stays es) e (keep-in stays es e i h))
+  pub settled-other : (es : List (Entry K R)) (e : Entry K R) → In e es → eqb (e .owner) t ≡ false → In e (settled f t es)
+  settled-other es e i q =
+      let z : settledOne e ≡ e = rw q in
+      rw (settled-is es) (subst (λ (v : Entry K R). In v (map settledOne (keep stays es))) z (map-in settledOne (keep stays es) e (keep-in stays es e i (rw q))))
 
   -- a key that is taken out was that of an entry of t's, absent after its end
   pub in-takenOut : (es : List (Entry K R)) (k : K) → In k (takenOut f t es)
@@ -98,22 +100,57 @@ module _ (B : Book) where
   in-name es e k i h = in-any (λ x. same B (x .key) k) es e i h
 
   -- order is kept
-  pub ascending-keep : (p : En B → Bool) (es : Entries B) → ascending B es ≡ true → ascending B (keep p es) ≡ true
+  ascending-keep : (p : En B → Bool) (es : Entries B) → ascending B es ≡ true → ascending B (keep p es) ≡ true
   unfolding ascending
   ascending-keep p es h =
       let b : (pairs (below B) es ≡ true) × (all (λ e. B .legal (e .key)) es ≡ true) = both _ _ h in
       and _ _ (pairs-keep (below B) p es (b .0)) (in-all _ (keep p es) (λ e i. all-in _ es e (b .1) (in-keep p es e i .0)))
 
-  pub ascending-map : (f : En B → En B) (es : Entries B) → ((e : En B) → f e .key ≡ e .key) → ascending B es ≡ true → ascending B (map f es) ≡ true
+  ascending-map : (f : En B → En B) (es : Entries B) → ((e : En B) → f e .key ≡ e .key) → ascending B es ≡ true → ascending B (map f es) ≡ true
   unfolding ascending
   ascending-map f es g h =
       let b : (pairs (below B) es ≡ true) × (all (λ e. B .legal (e .key)) es ≡ true) = both _ _ h in
       and _ _ (pairs-map f (below B) (below B) es (λ x y i j r. rw (g x, g y) r) (b .0))
       (in-all _ (map f es) (λ y i. let w = in-map f es y i in rw (← w .2, g (w .0)) (all-in _ es (w .0) (b .1) (w .1))))
 
+  changed-key : (k : B .Key) (f : En B → En B) → ((e : En B) → f e .key ≡ e .key) → (e : En B) → cond (same B (e .key) k) (f e) e .key ≡ e .key
+  changed-key k f g e = go (same B (e .key) k)
+    where
+      go : (b : Bool) → cond b (f e) e .key ≡ e .key
+      go true = g e
+      go false = refl
+
+  pub ascending-changed : (k : B .Key) (f : En B → En B) (es : Entries B) → ((e : En B) → f e .key ≡ e .key) → ascending B es ≡ true
+    → ascending B (changed B k f es) ≡ true
+  unfolding changed
+  ascending-changed k f es g h = ascending-map _ es (changed-key k f g) h
+
+  pub ascending-settled : (f : En B → En B) (t : ℕ) (es : Entries B) → ((e : En B) → f e .key ≡ e .key) → ascending B es ≡ true
+    → ascending B (settled f t es) ≡ true
+  ascending-settled f t es g h = rw (settled-is f t es) (ascending-map (settledOne f t) (keep (stays f t) es) one (ascending-keep (stays f t) es h))
+    where
+      one : (e : En B) → settledOne f t e .key ≡ e .key
+      one e = go (eqb (e .owner) t)
+        where
+          go : (b : Bool) → cond b (f e) e .key ≡ e .key
+          go true = g e
+          go false = refl
+
   module _ (L : Ordered B) where
     pub name-in : (es : Entries B) (k : B .Key) → isName B es (on k) ≡ true → (e : En B) × In e es × (e .key ≡ k)
     name-in es k h = let w = any-in (λ x. same B (x .key) k) es h in (w .0, w .1, same-equal B L (w .0 .key) k (w .2))
+
+    pub name-put : (e : En B) (es : Entries B) (n : Name (B .Key)) → isName B es n ≡ true → isName B (put B e es) n ≡ true
+    name-put e es end h = refl
+    name-put e es (on k) h = let w = name-in es k h in in-name (put B e es) (w .0) k (put-in e es (w .0) (inr (w .1))) (rw (w .2) (same-itself B L k))
+
+    pub name-changed : (k : B .Key) (f : En B → En B) (es : Entries B) (n : Name (B .Key)) → ((e : En B) → f e .key ≡ e .key) → isName B es n ≡ true
+      → isName B (changed B k f es) n ≡ true
+    unfolding changed
+    name-changed k f es end g h = refl
+    name-changed k f es (on j) g h =
+        let w = name-in es j h in
+        in-name (changed B k f es) _ j (map-in (λ e. cond (same B (e .key) k) (f e) e) es (w .0) (w .1)) (rw (changed-key k f g (w .0) ∙ w .2) (same-itself B L j))
 
     -- e at or below x and not x's key, x below y: e is below y
     below-along : (e x y : En B) → atMost B (e .key) (x .key) ≡ true → below B x y ≡ true → below B e y ≡ true

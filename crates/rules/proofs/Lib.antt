@@ -8,3 +8,4 @@ pub mod Keys
 pub mod Index
 pub mod LockTable
 pub mod Did
+pub mod Sound
