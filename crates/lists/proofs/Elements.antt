@@ -60,6 +60,13 @@ module _ {A : Type 0} where
   in-any p (y ∷ ys) x (inl e) h = or-left (p y) (any p ys) (subst (λ (z : A). p z ≡ true) (sym e) h)
   in-any p (y ∷ ys) x (inr i) h = or-right (p y) (any p ys) (in-any p ys x i h)
 
+  pub not-any : (p : A → Bool) (xs : List A) (x : A) → any p xs ≡ false → In x xs → p x ≡ false
+  not-any p xs x h i = go (p x) refl
+    where
+      go : (b : Bool) → p x ≡ b → b ≡ false
+      go true q = sym (in-any p xs x i q) ∙ h
+      go false q = refl
+
   -- the elements that are kept
   kept-one : (p : A → Bool) (x y : A) (ys : List A) (b : Bool) → p x ≡ b → In y (cond b (x ∷ ys) ys) → ((x ≡ y) × (p y ≡ true)) ⊎ In y ys
   kept-one p x y ys true q (inl e) = inl (e, subst (λ (z : A). p z ≡ true) e q)

@@ -9,20 +9,36 @@ use mathlib.Core.Option.{Option, none, some}
 use lib.Dec.{eqb}
 use borrow.Author.Tests.{eqb-true}
 use Rattle.lists.specs.Lists.{keep, first, In}
-use Rattle.lists.proofs.Elements.{and, never, keep-in, map-in}
+use Rattle.lists.proofs.Elements.{and, never, keep-in, first-in, map-in}
 use Rattle.rules.specs.Kinds.{Book, Ordered, Mode, S, X, Name, on, Lock, Ask, read, insert, delete}
 use Rattle.rules.specs.Entries.{Entries, atMost, same, inserted, deleted, revived, put, changed}
 use Rattle.rules.specs.Locks.{Slots, inUse, conflict, sameName, taken, target, named, itself, modeIf, mode, Want, wanted, holders, blockers}
 use Rattle.rules.specs.Queue.{St, Q, Wait, waitsFrom, waits}
 use Rattle.rules.specs.Runs.{done, isPresent, nothing, locksShort, pagesShort, Sy, En, Ran, unmoved, locked, given, taking, readSays, insertMissing, insertThere, insertAs, deleteThere, deleteAs, runOn, run}
-use Rattle.rules.specs.Good.{Lk}
-use Rattle.rules.proofs.Keys.{name-itself}
+use Rattle.rules.specs.Good.{Lk, isName}
+use Rattle.rules.proofs.Keys.{same-itself, name-itself}
+use Rattle.rules.proofs.Index.{in-name}
 use Rattle.rules.proofs.LockTable.{Clear}
 
 module _ (B : Book) where
   -- the first entry at or above k
   abbrev pub atOrAbove : B .Key → Entries B → Option (En B)
   atOrAbove k es = first (λ e. atMost B k (e .key)) es
+
+  -- a target is an entry or the end
+  pub target-in : (es : Entries B) (t : ℕ) (a : Ask (B .Key) (B .Rec)) (e : En B) → target B es t a ≡ some e → In e es
+  unfolding target
+  target-in es t (read lo hi) e h = first-in _ es e h .0
+  target-in es t (insert k r) e h = first-in _ es e h .0
+  target-in es t (delete k) e h = first-in _ es e h .0
+
+  pub wanted-name : (L : Ordered B) (es : Entries B) (q : Q B) → isName B es (wanted B es q .name) ≡ true
+  unfolding wanted
+  wanted-name L es q = go (target B es (q .asker) (q .asks)) refl
+    where
+      go : (x : Option (En B)) → target B es (q .asker) (q .asks) ≡ x → isName B es (named B x) ≡ true
+      go none h = refl
+      go (some e) h = in-name B es e (e .key) (target-in es (q .asker) (q .asks) e h) (same-itself B L (e .key))
 
   pub data Did (s : St B) (q : Q B) : Ran B → Type 0 where
     refused : (m : Sy B) → Did s q (unmoved B s m)

@@ -9,3 +9,4 @@ pub mod Index
 pub mod LockTable
 pub mod Did
 pub mod Sound
+pub mod GoodKept

@@ -10,7 +10,7 @@ use lib.Dec.{eqb}
 use lib.ListN.{length, length-map}
 use borrow.Author.Tests.{eqb-true, eqb-false, eq-eqb, ne-eqb, not-true}
 use Rattle.lists.specs.Lists.{any, keep, pairs, In, insertAt}
-use Rattle.lists.proofs.Elements.{both, and, never, any-in, in-any, in-keep, keep-in, pairs-in, pairs-keep, pairs-insert, in-insert, insert-in, in-map, map-in, pairs-map}
+use Rattle.lists.proofs.Elements.{both, and, never, any-in, in-any, not-any, in-keep, keep-in, pairs-in, pairs-keep, pairs-insert, in-insert, insert-in, in-map, map-in, pairs-map}
 use Rattle.rules.specs.Kinds.{Book, Ordered, Mode, S, X, Name, on, end, Lock}
 use Rattle.rules.specs.Locks.{Slots, conflict, stronger, inUse, sameName, isOf, holds, raised, behind, added, taken, freed, released}
 use Rattle.rules.specs.Good.{Lk, isX, together, holdsX}
@@ -269,7 +269,7 @@ module _ (B : Book) where
             new : Lk B
             new = record { name = n; holder = t; mode = m }
             other : holds B ls t n ≡ false → (l : Lk B) → In l (inUse ls) → l .name ≡ n → l .holder ≡ t → ⊥
-            other q l i z o = true≢false (sym (in-any (isOf B t n) (inUse ls) l i (is-of t n l o z)) ∙ q)
+            other q l i z o = true≢false (sym (is-of t n l o z) ∙ not-any (isOf B t n) (inUse ls) l q i)
 
     -- the locks of t released
     pub in-released : (t : ℕ) (ls : Slots B) (l : Lk B) → In l (inUse (released B t ls)) → In l (inUse ls) × (l .holder ≡ t → ⊥)
