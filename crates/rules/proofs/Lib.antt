@@ -10,3 +10,4 @@ pub mod LockTable
 pub mod Did
 pub mod Sound
 pub mod GoodKept
+pub mod Orders
