@@ -3,7 +3,7 @@
 use Prim.Native.Nat.{ℕ, zero, suc}
 use mathlib.Core.Path.{_≡_, refl, sym, ap, subst, _∙_}
 use mathlib.Core.Logic.{_⊎_, inl, inr, ⊎-elim}
-use mathlib.Core.Bool.{Bool, true, false, cond, not, _&&_, _||_, false≢true, and-eq-true-iff}
+use mathlib.Core.Bool.{Bool, true, false, cond, _&&_, _||_, false≢true, and-eq-true-iff}
 use mathlib.Core.List.{List, [], _∷_, _++_, map}
 use mathlib.Core.Option.{Option, none, some}
 use native.Mathlib.Omega.{arith}
@@ -107,25 +107,26 @@ module _ {A : Type 0} where
       own : (b : Bool) → p y ≡ b → cond b (some y) none ≡ some x → In x (y ∷ ys) × (p x ≡ true)
       own true q e = let z : y ≡ x = cc in (inl z, subst (λ (z : A). p z ≡ true) z q)
       own false q e = never (cc)
+
       go : (o : Option A) → orElse o (cond (p y) (some y) none) ≡ some x → (o ≡ some x → In x ys × (p x ≡ true)) → In x (y ∷ ys) × (p x ≡ true)
       go (some z) e f = let w : In x ys × (p x ≡ true) = f e in (inr (w .0), w .1)
       go none e f = own (p y) refl e
 
   -- every two elements
   pub pairs-split : (r : A → A → Bool) (x : A) (xs : List A) → pairs r (x ∷ xs) ≡ true
-    → ((y : A) → In y xs → r x y ≡ true) × (pairs r xs ≡ true)
+      → ((y : A) → In y xs → r x y ≡ true) × (pairs r xs ≡ true)
   unfolding pairs
   pairs-split r x xs h =
       let k : (all (r x) xs ≡ true) × (pairs r xs ≡ true) = both (all (r x) xs) (pairs r xs) h in
       (λ y i. all-in (r x) xs y (k .0) i, k .1)
 
   pub pairs-cons : (r : A → A → Bool) (x : A) (xs : List A) → ((y : A) → In y xs → r x y ≡ true) → pairs r xs ≡ true
-    → pairs r (x ∷ xs) ≡ true
+      → pairs r (x ∷ xs) ≡ true
   unfolding pairs
   pairs-cons r x xs f h = and (all (r x) xs) (pairs r xs) (in-all (r x) xs f) h
 
   pub pairs-in : (r : A → A → Bool) (xs : List A) (x y : A) → pairs r xs ≡ true → In x xs → In y xs
-    → (x ≡ y) ⊎ ((r x y ≡ true) ⊎ (r y x ≡ true))
+      → (x ≡ y) ⊎ ((r x y ≡ true) ⊎ (r y x ≡ true))
   pairs-in r (z ∷ zs) x y h (inl d) (inl e) = inl (sym d ∙ e)
   pairs-in r (z ∷ zs) x y h (inl d) (inr j) = inr (inl (subst (λ (v : A). r v y ≡ true) d (pairs-split r z zs h .0 y j)))
   pairs-in r (z ∷ zs) x y h (inr i) (inl e) = inr (inr (subst (λ (v : A). r v x ≡ true) e (pairs-split r z zs h .0 x i)))
@@ -137,19 +138,19 @@ module _ {A : Type 0} where
   pairs-keep r p (x ∷ xs) h = go (p x) (pairs-split r x xs h .0) (pairs-keep r p xs (pairs-split r x xs h .1))
     where
       go : (b : Bool) → ((y : A) → In y xs → r x y ≡ true) → pairs r (keep p xs) ≡ true
-        → pairs r (cond b (x ∷ keep p xs) (keep p xs)) ≡ true
+          → pairs r (cond b (x ∷ keep p xs) (keep p xs)) ≡ true
       go true f k = pairs-cons r x (keep p xs) (λ y i. f y (in-keep p xs y i .0)) k
       go false f k = k
 
   -- where every pair passes r, the first to pass p comes before each other that does
   pub first-least : (p : A → Bool) (r : A → A → Bool) (xs : List A) (y : A) → pairs r xs ≡ true → In y xs → p y ≡ true
-    → (x : A) × (first p xs ≡ some x) × ((x ≡ y) ⊎ (r x y ≡ true))
+      → (x : A) × (first p xs ≡ some x) × ((x ≡ y) ⊎ (r x y ≡ true))
   unfolding first
   first-least p r (x ∷ xs) y h (inl e) q = (x, rw (subst (λ (z : A). p z ≡ true) (sym e) q) refl, inl e)
   first-least p r (x ∷ xs) y h (inr i) q = go (p x) refl (first-least p r xs y (pairs-split r x xs h .1) i q)
     where
       go : (b : Bool) → p x ≡ b → ((z : A) × (first p xs ≡ some z) × ((z ≡ y) ⊎ (r z y ≡ true)))
-        → (z : A) × (cond (p x) (some x) (first p xs) ≡ some z) × ((z ≡ y) ⊎ (r z y ≡ true))
+          → (z : A) × (cond (p x) (some x) (first p xs) ≡ some z) × ((z ≡ y) ⊎ (r z y ≡ true))
       go true e w = (x, rw e refl, inr (pairs-split r x xs h .0 y i))
       go false e w = (w .0, rw e (w .1), w .2)
 
@@ -170,7 +171,7 @@ module _ {A : Type 0} where
   insert-in (suc i) x (z ∷ zs) y (inr (inr k)) = inr (insert-in i x zs y (inr k))
 
   pub pairs-insert : (r : A → A → Bool) (i : ℕ) (x : A) (ys : List A) → pairs r ys ≡ true
-    → ((y : A) → In y ys → (r x y ≡ true) × (r y x ≡ true)) → pairs r (insertAt i x ys) ≡ true
+      → ((y : A) → In y ys → (r x y ≡ true) × (r y x ≡ true)) → pairs r (insertAt i x ys) ≡ true
   unfolding insertAt
   pairs-insert r zero x ys h f = pairs-cons r x ys (λ y j. f y j .0) h
   pairs-insert r (suc i) x [] h f = pairs-cons r x [] (λ y j. absurd j) h
@@ -195,11 +196,11 @@ module _ {A B : Type 0} where
   map-in f (y ∷ ys) x (inr i) = inr (map-in f ys x i)
 
   pub pairs-map : (f : A → B) (r : A → A → Bool) (q : B → B → Bool) (xs : List A)
-    → ((x y : A) → In x xs → In y xs → r x y ≡ true → q (f x) (f y) ≡ true) → pairs r xs ≡ true → pairs q (map f xs) ≡ true
+      → ((x y : A) → In x xs → In y xs → r x y ≡ true → q (f x) (f y) ≡ true) → pairs r xs ≡ true → pairs q (map f xs) ≡ true
   unfolding pairs
   pairs-map f r q [] g h = refl
   pairs-map f r q (x ∷ xs) g h =
       pairs-cons q (f x) (map f xs)
       (λ z j. let w = in-map f xs z j in
-        subst (λ (v : B). q (f x) v ≡ true) (w .2) (g x (w .0) (inl refl) (inr (w .1)) (pairs-split r x xs h .0 (w .0) (w .1))))
+      subst (λ (v : B). q (f x) v ≡ true) (w .2) (g x (w .0) (inl refl) (inr (w .1)) (pairs-split r x xs h .0 (w .0) (w .1))))
       (pairs-map f r q xs (λ y z i j. g y z (inr i) (inr j)) (pairs-split r x xs h .1))

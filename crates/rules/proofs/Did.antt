@@ -1,20 +1,20 @@
 -- What a run can have done: refused, only locked, put a missing key in, brought its own ghost back, or deleted; and what it means that
 -- nothing blocked it. By the cases of the run's definition. Assumes nothing.
 use Prim.Native.Nat.{ℕ}
-use mathlib.Core.Path.{_≡_, refl, sym, ap, subst, _∙_}
-use mathlib.Core.Logic.{_⊎_, inl, inr}
+use mathlib.Core.Path.{_≡_, refl, ap, subst, _∙_}
+use mathlib.Core.Logic.{inl, inr}
 use mathlib.Core.Bool.{Bool, true, false, cond, not, _&&_}
 use mathlib.Core.List.{List, [], _∷_, _++_, map}
 use mathlib.Core.Option.{Option, none, some}
 use lib.Dec.{eqb}
 use borrow.Author.Tests.{eqb-true}
 use Rattle.lists.specs.Lists.{keep, first, In}
-use Rattle.lists.proofs.Elements.{and, never, keep-in, first-in, map-in}
-use Rattle.rules.specs.Kinds.{Book, Ordered, Mode, S, X, Name, on, Lock, Ask, read, insert, delete}
+use Rattle.lists.proofs.Elements.{never, keep-in, first-in, map-in}
+use Rattle.rules.specs.Kinds.{Book, Ordered, Mode, S, X, Name, on, Ask, read, insert, delete}
 use Rattle.rules.specs.Entries.{Entries, atMost, same, inserted, deleted, revived, put, changed}
-use Rattle.rules.specs.Locks.{Slots, inUse, conflict, sameName, taken, target, named, itself, modeIf, mode, Want, wanted, holders, blockers}
+use Rattle.rules.specs.Locks.{Slots, inUse, conflict, sameName, taken, target, named, itself, mode, Want, wanted, holders, blockers}
 use Rattle.rules.specs.Queue.{St, Q, Wait, waitsFrom, waits}
-use Rattle.rules.specs.Runs.{done, isPresent, nothing, locksShort, pagesShort, Sy, En, Ran, unmoved, locked, given, taking, readSays, insertMissing, insertThere, insertAs, deleteThere, deleteAs, runOn, run}
+use Rattle.rules.specs.Runs.{done, isPresent, nothing, locksShort, pagesShort, Sy, En, Ran, unmoved, locked, given, taking, insertMissing, insertThere, insertAs, deleteThere, deleteAs, runOn, run}
 use Rattle.rules.specs.Good.{Lk, isName}
 use Rattle.rules.proofs.Keys.{same-itself, name-itself}
 use Rattle.rules.proofs.Index.{in-name}
@@ -43,17 +43,17 @@ module _ (B : Book) where
   pub data Did (s : St B) (q : Q B) : Ran B → Type 0 where
     refused : (m : Sy B) → Did s q (unmoved B s m)
     looked : (m : Sy B) (ls : Slots B) → taken B (s .slots) (q .asker) (wanted B (s .entries) q .name) (wanted B (s .entries) q .mode) ≡ some ls
-      → Did s q (locked B s m ls)
+        → Did s q (locked B s m ls)
     putIn : (k : B .Key) (r : B .Rec) (ls : Slots B) → q .asks ≡ insert k r → itself B k (atOrAbove k (s .entries)) ≡ none
-      → wanted B (s .entries) q ≡ record { name = named B (atOrAbove k (s .entries)); mode = X }
-      → taken B (s .slots) (q .asker) (on k) X ≡ some ls
-      → Did s q (record { says = done; entries = put B (inserted (q .asker) k r) (s .entries); pages = B .paging .grown (s .pages) k; slots = ls })
+        → wanted B (s .entries) q ≡ record { name = named B (atOrAbove k (s .entries)); mode = X }
+        → taken B (s .slots) (q .asker) (on k) X ≡ some ls
+        → Did s q (record { says = done; entries = put B (inserted (q .asker) k r) (s .entries); pages = B .paging .grown (s .pages) k; slots = ls })
     broughtBack : (e : En B) (r : B .Rec) (ls : Slots B) → target B (s .entries) (q .asker) (q .asks) ≡ some e → e .now ≡ none
-      → wanted B (s .entries) q ≡ record { name = on (e .key); mode = S } → taken B (s .slots) (q .asker) (on (e .key)) S ≡ some ls
-      → Did s q (record { says = done; entries = changed B (e .key) (revived (q .asker) r) (s .entries); pages = s .pages; slots = ls })
+        → wanted B (s .entries) q ≡ record { name = on (e .key); mode = S } → taken B (s .slots) (q .asker) (on (e .key)) S ≡ some ls
+        → Did s q (record { says = done; entries = changed B (e .key) (revived (q .asker) r) (s .entries); pages = s .pages; slots = ls })
     tookAway : (e : En B) (ls : Slots B) → target B (s .entries) (q .asker) (q .asks) ≡ some e
-      → wanted B (s .entries) q ≡ record { name = on (e .key); mode = X } → taken B (s .slots) (q .asker) (on (e .key)) X ≡ some ls
-      → Did s q (record { says = done; entries = changed B (e .key) (deleted (q .asker)) (s .entries); pages = s .pages; slots = ls })
+        → wanted B (s .entries) q ≡ record { name = on (e .key); mode = X } → taken B (s .slots) (q .asker) (on (e .key)) X ≡ some ls
+        → Did s q (record { says = done; entries = changed B (e .key) (deleted (q .asker)) (s .entries); pages = s .pages; slots = ls })
 
   itself-is : (k : B .Key) (x : Option (En B)) (e : En B) → itself B k x ≡ some e → x ≡ some e
   itself-is k none e h = never (cc)
@@ -65,7 +65,7 @@ module _ (B : Book) where
 
   module _ (s : St B) (t : ℕ) where
     did-taking : (q : Q B) (n : Name (B .Key)) (m : Mode) (f : Slots B → Ran B)
-      → ((ls : Slots B) → taken B (s .slots) t n m ≡ some ls → Did s q (f ls)) → Did s q (taking B s t n m f)
+        → ((ls : Slots B) → taken B (s .slots) t n m ≡ some ls → Did s q (f ls)) → Did s q (taking B s t n m f)
     did-taking q n m f g = go (taken B (s .slots) t n m) refl
       where
         go : (o : Option (Slots B)) → taken B (s .slots) t n m ≡ o → Did s q (given B s f o)
@@ -73,12 +73,12 @@ module _ (B : Book) where
         go (some ls) e = g ls e
 
     did-insert : (k : B .Key) (r : B .Rec) (o : Option (En B)) → itself B k (atOrAbove k (s .entries)) ≡ o
-      → Did s (record { asker = t; asks = insert k r }) (insertAs B s t k r o)
+        → Did s (record { asker = t; asks = insert k r }) (insertAs B s t k r o)
     unfolding insertAs insertMissing insertThere wanted target mode
     did-insert k r none n = did-taking _ (on k) X _ (λ ls h. go ls h (B .paging .fits (s .pages) k))
       where
         go : (ls : Slots B) → taken B (s .slots) t (on k) X ≡ some ls → (b : Bool)
-          → Did s (record { asker = t; asks = insert k r })
+            → Did s (record { asker = t; asks = insert k r })
             (cond b (record { says = done; entries = put B (inserted t k r) (s .entries); pages = B .paging .grown (s .pages) k; slots = ls }) (unmoved B s pagesShort))
         go ls h true = putIn k r ls refl n (cc) h
         go ls h false = refused pagesShort
@@ -86,21 +86,23 @@ module _ (B : Book) where
       where
         x : atOrAbove k (s .entries) ≡ some e
         x = itself-is k (atOrAbove k (s .entries)) e n
+
         go : (ls : Slots B) → taken B (s .slots) t (on (e .key)) S ≡ some ls → (o : Option (B .Rec)) → e .now ≡ o
-          → Did s (record { asker = t; asks = insert k r }) (insertThere B s t r e o ls)
+            → Did s (record { asker = t; asks = insert k r }) (insertThere B s t r e o ls)
         go ls h (some was) w = looked (isPresent (e .key) (some was)) ls (rw (n, x) h)
         go ls h none w = broughtBack e r ls x w (cc x) h
 
     did-delete : (k : B .Key) (o : Option (En B)) → itself B k (atOrAbove k (s .entries)) ≡ o
-      → Did s (record { asker = t; asks = delete k }) (deleteAs B s t (named B (atOrAbove k (s .entries))) o)
+        → Did s (record { asker = t; asks = delete k }) (deleteAs B s t (named B (atOrAbove k (s .entries))) o)
     unfolding deleteAs deleteThere wanted target mode
     did-delete k none n = did-taking _ _ S _ (λ ls h. looked nothing ls (rw n h))
     did-delete k (some e) n = did-taking _ (on (e .key)) X _ (λ ls h. go ls h (e .now))
       where
         x : atOrAbove k (s .entries) ≡ some e
         x = itself-is k (atOrAbove k (s .entries)) e n
+
         go : (ls : Slots B) → taken B (s .slots) t (on (e .key)) X ≡ some ls → (o : Option (B .Rec))
-          → Did s (record { asker = t; asks = delete k }) (deleteThere B s t e o ls)
+            → Did s (record { asker = t; asks = delete k }) (deleteThere B s t e o ls)
         go ls h (some was) = tookAway e ls x (cc x) h
         go ls h none = looked nothing ls (rw (n, x) h)
 
@@ -115,7 +117,7 @@ module _ (B : Book) where
 
   -- a wait is of a queued request, behind those who block it
   waits-from : (es : Entries B) (ls : Slots B) (ahead qs : List (Q B)) (w : Wait B) → In w (waitsFrom B es ls ahead qs)
-    → In (w .request) qs × ((before : List (Q B)) × (blockers B es ls before (w .request) ≡ w .behind))
+      → In (w .request) qs × ((before : List (Q B)) × (blockers B es ls before (w .request) ≡ w .behind))
   unfolding waitsFrom
   waits-from es ls ahead (q ∷ qs) w (inl e) = (inl (ap (λ (v : Wait B). v .request) e), (ahead, go))
     where
@@ -138,15 +140,16 @@ module _ (B : Book) where
     where
       stands : Lk B → Bool
       stands l = not (eqb (l .holder) t) && (sameName B (l .name) (w .name) && conflict (l .mode) (w .mode))
+
       go : (b : Bool) → eqb (l .holder) t ≡ b → l .holder ≡ t
       go true q = eqb-true (l .holder) t q
       go false q =
           let o : In (l .holder) (map (λ l. l .holder) (keep stands (inUse ls))) =
-            map-in (λ l. l .holder) (keep stands (inUse ls)) l (keep-in stands (inUse ls) l i (rw (q, e, name-itself B L (w .name)) c)) in
+          map-in (λ l. l .holder) (keep stands (inUse ls)) l (keep-in stands (inUse ls) l i (rw (q, e, name-itself B L (w .name)) c)) in
           absurd (subst (λ (ks : List ℕ). In (l .holder) ks) n o)
 
   pub unblocked : (L : Ordered B) (s : St B) (w : Wait B) → In w (waits B s) → w .behind ≡ []
-    → Clear B (s .slots) (w .request .asker) (wanted B (s .entries) (w .request) .name) (wanted B (s .entries) (w .request) .mode)
+      → Clear B (s .slots) (w .request .asker) (wanted B (s .entries) (w .request) .name) (wanted B (s .entries) (w .request) .mode)
   unfolding waits blockers
   unblocked L s w i n =
       no-holder L (s .slots) (w .request .asker) (wanted B (s .entries) (w .request))

@@ -2,28 +2,28 @@
 -- of sound tables; the rest is the principle of Keeps. Assumes nothing.
 use Prim.Native.Nat.{ℕ, zero, suc, _≤_, _<_}
 use mathlib.Core.Path.{_≡_, refl, sym, ap, subst, _∙_}
-use mathlib.Core.Logic.{_⊎_, inl, inr, ⊎-elim}
-use mathlib.Core.Bool.{Bool, true, false, cond, not, _&&_, _||_, true≢false, false≢true}
-use mathlib.Core.List.{List, [], _∷_, _++_}
-use mathlib.Core.Option.{Option, none, some}
+use mathlib.Core.Logic.{inl, inr, ⊎-elim}
+use mathlib.Core.Bool.{Bool, true, false, not, true≢false}
+use mathlib.Core.List.{List, []}
+use mathlib.Core.Option.{none, some}
 use native.Mathlib.Omega.{arith}
 use lib.Dec.{eqb, leb}
 use lib.ListN.{length, getD, set, replicate, length-set, length-replicate}
 use lib.Seq.{getD-set-same, getD-set-other}
 use borrow.Author.Tests.{eqb-true, eqb-false, eq-eqb, ne-eqb, leb-true, not-true}
-use Rattle.lists.specs.Lists.{all, any, keep, pairs, In, insertAt}
+use Rattle.lists.specs.Lists.{all, pairs, In}
 use Rattle.lists.proofs.Elements.{both, and, either, or-left, or-right, all-in, in-all, not-any, in-keep, pairs-keep, pairs-insert, in-insert, insert-end}
-use Rattle.rules.specs.Kinds.{Book, Ordered, Mode, S, X, Name, on, Lock, Ask, insert, Request, begin, commit, rollback, ask, Mark, idle, running}
-use Rattle.rules.specs.Entries.{Entries, isThere, inserted, deleted, revived, committed, rolledBack}
+use Rattle.rules.specs.Kinds.{Book, Ordered, Mode, S, X, on, Ask, Request, begin, commit, rollback, ask, Mark, idle, running}
+use Rattle.rules.specs.Entries.{isThere, deleted, revived, committed, rolledBack}
 use Rattle.rules.specs.Locks.{Slots, inUse, taken, target, Want, wanted}
 use Rattle.rules.specs.Queue.{St, Q, Wait, waits, leave}
 use Rattle.rules.specs.Runs.{circle, En, Ran, unmoved, left, run}
 use Rattle.rules.specs.Desk.{isRunning, runs, waitsNow, begun, ended, joined, step, isTransaction, legalAsk, legalRequest, Call, legalCall, fresh, after}
-use Rattle.rules.specs.Good.{Lk, ascending, lockStands, together, ownerHolds, queueStands, otherAsker, Settled, Good}
+use Rattle.rules.specs.Good.{ascending, lockStands, ownerHolds, queueStands, otherAsker, Good}
 use Rattle.rules.proofs.LockTable.{Held, Clear, x-conflicts, holdsX-held, held-holdsX, held-kept, held-taken}
 use Rattle.rules.proofs.Index.{missing, in-name}
 use Rattle.rules.proofs.Keys.{same-itself}
-use Rattle.rules.proofs.Sound.{Settles, Changes, Sound, sound-more, owner-holds, sound-taken, sound-changed, sound-put, sound-ended}
+use Rattle.rules.proofs.Sound.{Settles, Sound, sound-more, owner-holds, sound-taken, sound-changed, sound-put, sound-ended}
 use Rattle.rules.proofs.Did.{Did, refused, looked, putIn, broughtBack, tookAway, run-did, target-in, wanted-name, waits-in, unblocked}
 use Rattle.rules.proofs.Keeps.{Kept, MayEnd, step-keeps, after-keeps}
 
@@ -31,11 +31,15 @@ module _ (B : Book) (L : Ordered B) where
   pub good-sound : (s : St B) → Good B s → Sound B (runs B s) (s .entries) (s .slots)
   unfolding lockStands ownerHolds
   good-sound s g = record {
-    slots = g .slots; keys = g .keys; modes = g .modes; settled = g .settled;
+    slots = g .slots;
+    keys = g .keys;
+    modes = g .modes;
+    settled = g .settled;
     names = λ l i. both _ _ (all-in (lockStands B s) (inUse (s .slots)) l (g .names) i);
     owners = λ e i. ⊎-elim (λ z. inl (eqb-true (e .owner) 0 z))
-      (λ w. let b = both (runs B s (e .owner)) _ w in inr (b .0, holdsX-held B L (s .slots) (e .owner) (on (e .key)) (b .1)))
-      (either _ _ (all-in (ownerHolds B s) (s .entries) e (g .owners) i)) }
+        (λ w. let b = both (runs B s (e .owner)) _ w in inr (b .0, holdsX-held B L (s .slots) (e .owner) (on (e .key)) (b .1)))
+        (either _ _ (all-in (ownerHolds B s) (s .entries) e (g .owners) i));
+  }
 
   -- the queue stands: without repeats, of running transactions, each legal
   pub record Queues (s : St B) : Type 0 where
@@ -49,18 +53,26 @@ module _ (B : Book) (L : Ordered B) where
   pub sound-good : (s : St B) → length (s .marks) ≡ suc (B .transactions) → runs B s 0 ≡ false → Sound B (runs B s) (s .entries) (s .slots) → Queues s → Good B s
   unfolding lockStands ownerHolds queueStands
   sound-good s m z h q = record {
-    slots = h .slots; marks = m; nobody = z; keys = h .keys; modes = h .modes; settled = h .settled; askers = q .askers;
+    slots = h .slots;
+    marks = m;
+    nobody = z;
+    keys = h .keys;
+    modes = h .modes;
+    settled = h .settled;
+    askers = q .askers;
     names = in-all (lockStands B s) (inUse (s .slots)) (λ l i. let w = h .names l i in and _ _ (w .0) (w .1));
     owners = in-all (ownerHolds B s) (s .entries) (λ e i. ⊎-elim (λ z. or-left _ _ (eq-eqb (e .owner) 0 z))
-      (λ w. or-right (eqb (e .owner) 0) _ (and _ _ (w .0) (held-holdsX B L (s .slots) (e .owner) (on (e .key)) (w .1)))) (h .owners e i));
-    queued = in-all (queueStands B s) (s .queue) (λ p i. let w = q .queued p i in and _ _ (w .0) (w .1)) }
+        (λ w. or-right (eqb (e .owner) 0) _ (and _ _ (w .0) (held-holdsX B L (s .slots) (e .owner) (on (e .key)) (w .1)))) (h .owners e i));
+    queued = in-all (queueStands B s) (s .queue) (λ p i. let w = q .queued p i in and _ _ (w .0) (w .1));
+  }
 
   -- a request that leaves the queue
   left-good : (s : St B) (q : Q B) (r : Ran B) → Good B s → Sound B (runs B s) (r .entries) (r .slots) → Good B (left B s q r .state)
   unfolding leave
   left-good s q r g h = sound-good (left B s q r .state) (g .marks) (g .nobody) h (record {
     queued = λ p i. good-queues s g .queued p (in-keep _ (s .queue) p i .0);
-    askers = pairs-keep (otherAsker B) _ (s .queue) (g .askers) })
+    askers = pairs-keep (otherAsker B) _ (s .queue) (g .askers);
+  })
 
   -- a run that nothing blocks
   module _ (s : St B) (w : Wait B) (i : In w (waits B s)) (n : w .behind ≡ []) (g : Good B s) where
@@ -86,7 +98,7 @@ module _ (B : Book) (L : Ordered B) where
 
     -- the lock on an entry that is the target
     target-locked : (x : En B) (m : Mode) (ls : Slots B) → target B (s .entries) t (w .request .asks) ≡ some x
-      → wanted B (s .entries) (w .request) ≡ record { name = on (x .key); mode = m } → taken B (s .slots) t (on (x .key)) m ≡ some ls → Sound B (runs B s) (s .entries) ls
+        → wanted B (s .entries) (w .request) ≡ record { name = on (x .key); mode = m } → taken B (s .slots) t (on (x .key)) m ≡ some ls → Sound B (runs B s) (s .entries) ls
     target-locked x m ls a y e =
         sound-taken B L (runs B s) (s .entries) (s .slots) ls t (on (x .key)) m (asks .0)
         (in-name B (s .entries) x (x .key) (target-in B (s .entries) t (w .request .asks) x a) (same-itself B L (x .key))) (clear-as _ y) e (good-sound s g)
@@ -101,7 +113,7 @@ module _ (B : Book) (L : Ordered B) where
         (subst (λ (q : Ask (B .Key) (B .Rec)). legalAsk B q ≡ true) a (asks .1)) (missing B L (s .entries) k (g .keys) m) e (good-sound s g)
     did-sound r (broughtBack x v ls a o y e) =
         sound-changed B L (runs B s) (s .entries) ls t (x .key) (revived t v) (asks .0) somebody (record { key = λ e. refl; owner = λ e. refl })
-        (held-kept B L (s .slots) ls t (on (x .key)) S e t (on (x .key)) X (own-ghost x (target-in B (s .entries) t (w .request .asks) x a) o (clear-as _ y)))
+        (held-kept B (s .slots) ls t (on (x .key)) S e t (on (x .key)) X (own-ghost x (target-in B (s .entries) t (w .request .asks) x a) o (clear-as _ y)))
         (target-locked x S ls a y e)
     did-sound r (tookAway x ls a y e) =
         sound-changed B L (runs B s) (s .entries) ls t (x .key) (deleted t) (asks .0) somebody (record { key = λ e. refl; owner = λ e. refl })
@@ -123,8 +135,8 @@ module _ (B : Book) (L : Ordered B) where
     begun-good : Good B (begun B s t)
     unfolding begun
     begun-good = sound-good (begun B s t) (length-set (s .marks) t running ∙ g .marks) (marked running 0 (λ z. known .1 (sym z)) ∙ g .nobody)
-      (sound-more B L (runs B s) (runs B (begun B s t)) (s .entries) (s .slots) more (good-sound s g))
-      (record { askers = g .askers; queued = λ q i. let w = good-queues s g .queued q i in (more (q .asker) (w .0), w .1) })
+        (sound-more B L (runs B s) (runs B (begun B s t)) (s .entries) (s .slots) more (good-sound s g))
+        (record { askers = g .askers; queued = λ q i. let w = good-queues s g .queued q i in (more (q .asker) (w .0), w .1) })
       where
         more : (u : ℕ) → runs B s u ≡ true → runs B (begun B s t) u ≡ true
         more u r = go (eqb u t) refl
@@ -136,11 +148,12 @@ module _ (B : Book) (L : Ordered B) where
     ended-good : (f : En B → En B) → Settles B f → Good B (ended B f s t)
     unfolding ended leave
     ended-good f c = sound-good (ended B f s t) (length-set (s .marks) t idle ∙ g .marks) (marked idle 0 (λ z. known .1 (sym z)) ∙ g .nobody)
-      (sound-ended B L (runs B s) (runs B (ended B f s t)) (s .entries) (s .slots) t f (known .1) c others (good-sound s g))
-      (record {
-        askers = pairs-keep (otherAsker B) _ (s .queue) (g .askers);
-        queued = λ q i. let k = in-keep _ (s .queue) q i in let w = good-queues s g .queued q (k .0) in
-          (others (q .asker) (eqb-false (q .asker) t (not-true _ (k .1))) (w .0), w .1) })
+        (sound-ended B L (runs B s) (runs B (ended B f s t)) (s .entries) (s .slots) t f (known .1) c others (good-sound s g))
+        (record {
+          askers = pairs-keep (otherAsker B) _ (s .queue) (g .askers);
+          queued = λ q i. let k = in-keep _ (s .queue) q i in let w = good-queues s g .queued q (k .0) in
+              (others (q .asker) (eqb-false (q .asker) t (not-true _ (k .1))) (w .0), w .1);
+        })
       where
         others : (u : ℕ) → (u ≡ t → ⊥) → runs B s u ≡ true → runs B (ended B f s t) u ≡ true
         others u o r = marked idle u o ∙ r
@@ -148,13 +161,15 @@ module _ (B : Book) (L : Ordered B) where
   joined-good : (s : St B) (t : ℕ) (a : Ask (B .Key) (B .Rec)) → runs B s t ≡ true → waitsNow B s t ≡ false → legalAsk B a ≡ true → Good B s → Good B (joined B s t a)
   unfolding joined
   joined-good s t a r w l g = sound-good (joined B s t a) (g .marks) (g .nobody) (good-sound s g) (record {
-      askers = rw (insert-end new (s .queue)) (pairs-insert (otherAsker B) (length (s .queue)) new (s .queue) (g .askers)
+    askers = rw (insert-end new (s .queue)) (pairs-insert (otherAsker B) (length (s .queue)) new (s .queue) (g .askers)
         (λ q i. let o = other q i in (ap not (ne-eqb t (q .asker) (λ z. eqb-false (q .asker) t o (sym z))), ap not o)));
-      queued = λ q i. ⊎-elim (λ z. subst (λ (p : Q B). (runs B s (p .asker) ≡ true) × (legalAsk B (p .asks) ≡ true)) z (r, l)) (good-queues s g .queued q)
-        (in-insert (length (s .queue)) new (s .queue) q (rw (insert-end new (s .queue)) at i)) })
+    queued = λ q i. ⊎-elim (λ z. subst (λ (p : Q B). (runs B s (p .asker) ≡ true) × (legalAsk B (p .asks) ≡ true)) z (r, l)) (good-queues s g .queued q)
+        (in-insert (length (s .queue)) new (s .queue) q (rw (insert-end new (s .queue)) at i));
+  })
     where
       new : Q B
       new = record { asker = t; asks = a }
+
       other : (q : Q B) → In q (s .queue) → eqb (q .asker) t ≡ false
       other q i = not-any (λ p. eqb (p .asker) t) (s .queue) q w i
 
@@ -168,7 +183,8 @@ module _ (B : Book) (L : Ordered B) where
     commits = λ s t o h r g. ended-good s t g h committed (record { key = λ e. refl; owner = λ e. refl; equal = λ e. refl });
     rollsBack = λ s t o h r g. ended-good s t g h rolledBack (record { key = λ e. refl; owner = λ e. refl; equal = λ e. refl });
     goes = λ s w i n g. left-good s (w .request) (run B s (w .request)) g (did-sound s w i n g (run B s (w .request)) (run-did B s (w .request)));
-    givesWay = λ s w i g. left-good s (w .request) (unmoved B s circle) g (good-sound s g) }
+    givesWay = λ s w i g. left-good s (w .request) (unmoved B s circle) g (good-sound s g);
+  }
 
   may-end : (t : ℕ) (r : Request (B .Key) (B .Rec)) → MayEnd B everyone t r
   may-end t begin = tt
@@ -190,10 +206,15 @@ module _ (B : Book) (L : Ordered B) where
   pub fresh-good : Good B (fresh B)
   unfolding fresh ascending all pairs
   fresh-good = sound-good (fresh B) (length-replicate (suc (B .transactions)) idle) refl
-    (record {
-      slots = length-replicate (B .locks) none; keys = refl; modes = rw (free-none (B .locks)); owners = λ e i. absurd i; settled = λ e i. absurd i;
-      names = λ l i. absurd (rw (free-none (B .locks)) at i) })
-    (record { queued = λ q i. absurd i; askers = refl })
+      (record {
+        slots = length-replicate (B .locks) none;
+        keys = refl;
+        modes = rw (free-none (B .locks));
+        owners = λ e i. absurd i;
+        settled = λ e i. absurd i;
+        names = λ l i. absurd (rw (free-none (B .locks)) at i);
+      })
+      (record { queued = λ q i. absurd i; askers = refl })
 
   -- whatever was asked since the start
   pub after-good : (cs : List (Call B)) → Good B (after B (fresh B) cs)

@@ -1,22 +1,22 @@
 -- The sorted entries: which there are, and that they stay in order, after one is put in, some are changed where they stand, and a
 -- transaction's are settled. `put` is an insertion, `changed` a map, `settled` a map of what stays; the laws of those do the rest.
 -- Assumes nothing.
-use Prim.Native.Nat.{ℕ, zero, suc}
+use Prim.Native.Nat.{ℕ, suc}
 use mathlib.Core.Path.{_≡_, refl, sym, ap, subst, _∙_}
 use mathlib.Core.Logic.{_⊎_, inl, inr, ⊎-elim}
 use mathlib.Core.Bool.{Bool, true, false, cond, not, _&&_, true≢false, false≢true}
 use mathlib.Core.List.{List, [], _∷_, _++_, map}
-use mathlib.Core.Option.{Option, none, some}
+use mathlib.Core.Option.{none, some}
 use lib.Dec.{eqb}
 use borrow.Author.Tests.{not-true}
-use Rattle.lists.specs.Lists.{all, any, keep, first, pairs, In, join, insertAt}
+use Rattle.lists.specs.Lists.{all, keep, first, pairs, In, join, insertAt}
 use Rattle.lists.proofs.Elements.{both, and, never, all-in, in-all, any-in, in-any, in-keep, keep-in, first-in, pairs-split, pairs-cons, pairs-keep, first-least, in-insert, insert-in, in-map, map-in, pairs-map}
 use Rattle.rules.specs.Kinds.{Book, Ordered, Entry, Name, on, end}
 use Rattle.rules.specs.Entries.{Entries, atMost, same, present, left, settled, takenOut, put, changed}
 use Rattle.rules.specs.Locks.{itself}
 use Rattle.rules.specs.Runs.{En}
 use Rattle.rules.specs.Good.{below, ascending, isName}
-use Rattle.rules.proofs.Keys.{same-equal, same-itself, atMost-itself, atMost-else, atMost-equal, atMost-along}
+use Rattle.rules.proofs.Keys.{same-equal, same-itself, atMost-itself, atMost-equal, atMost-along}
 
 -- the end of t, entry by entry: whether it stays, and what it is then
 module _ {K R : Type 0} (f : Entry K R → Entry K R) (t : ℕ) where
@@ -32,7 +32,7 @@ module _ {K R : Type 0} (f : Entry K R → Entry K R) (t : ℕ) where
   settled-is (e ∷ es) = go (eqb (e .owner) t) (present (f e)) refl (settled-is es)
     where
       go : (o p : Bool) → eqb (e .owner) t ≡ o → settled f t es ≡ map settledOne (keep stays es)
-        → cond o (cond p (f e ∷ []) []) (e ∷ []) ++ settled f t es
+          → cond o (cond p (f e ∷ []) []) (e ∷ []) ++ settled f t es
           ≡ map settledOne (cond (not (o && not p)) (e ∷ keep stays es) (keep stays es))
       go true true q h = cc
       go true false q h = h
@@ -40,14 +40,14 @@ module _ {K R : Type 0} (f : Entry K R → Entry K R) (t : ℕ) where
 
   -- an entry of the settled list: another's as it was, or t's own, there after its end
   pub in-settled : (es : List (Entry K R)) (y : Entry K R) → In y (settled f t es)
-    → (In y es × (eqb (y .owner) t ≡ false)) ⊎ ((e : Entry K R) × In e es × (eqb (e .owner) t ≡ true) × (present (f e) ≡ true) × (f e ≡ y))
+      → (In y es × (eqb (y .owner) t ≡ false)) ⊎ ((e : Entry K R) × In e es × (eqb (e .owner) t ≡ true) × (present (f e) ≡ true) × (f e ≡ y))
   in-settled es y i =
       let w : (e : Entry K R) × In e (keep stays es) × (settledOne e ≡ y) = in-map settledOne (keep stays es) y (rw (settled-is es) at i) in
       let k : In (w .0) es × (stays (w .0) ≡ true) = in-keep stays es (w .0) (w .1) in
       go (w .0) (k .0) (k .1) (w .2) (eqb (w .0 .owner) t) (present (f (w .0))) refl refl
     where
       go : (e : Entry K R) → In e es → stays e ≡ true → settledOne e ≡ y → (o p : Bool) → eqb (e .owner) t ≡ o → present (f e) ≡ p
-        → (In y es × (eqb (y .owner) t ≡ false)) ⊎ ((e : Entry K R) × In e es × (eqb (e .owner) t ≡ true) × (present (f e) ≡ true) × (f e ≡ y))
+          → (In y es × (eqb (y .owner) t ≡ false)) ⊎ ((e : Entry K R) × In e es × (eqb (e .owner) t ≡ true) × (present (f e) ≡ true) × (f e ≡ y))
       go e j h m true true q r = inr (e, j, q, r, cc)
       go e j h m true false q r = absurd (false≢true (rw (q, r) at h))
       go e j h m false p q r = let z : e ≡ y = cc in inl (subst (λ (v : Entry K R). In v es) z j, subst (λ (v : Entry K R). eqb (v .owner) t ≡ false) z q)
@@ -59,7 +59,7 @@ module _ {K R : Type 0} (f : Entry K R → Entry K R) (t : ℕ) where
 
   -- a key that is taken out was that of an entry of t's, absent after its end
   pub in-takenOut : (es : List (Entry K R)) (k : K) → In k (takenOut f t es)
-    → (e : Entry K R) × In e es × (eqb (e .owner) t ≡ true) × (present (f e) ≡ false) × (e .key ≡ k)
+      → (e : Entry K R) × In e es × (eqb (e .owner) t ≡ true) × (present (f e) ≡ false) × (e .key ≡ k)
   unfolding takenOut
   in-takenOut es k i =
       let w = in-map (λ (e : Entry K R). e .key) (keep (λ e. eqb (e .owner) t && not (present (f e))) es) k i in
@@ -86,12 +86,12 @@ module _ (B : Book) where
 
   -- changed, as a map
   pub in-changed : (k : B .Key) (f : En B → En B) (es : Entries B) (y : En B) → In y (changed B k f es)
-    → In y es ⊎ ((e : En B) × In e es × (same B (e .key) k ≡ true) × (f e ≡ y))
+      → In y es ⊎ ((e : En B) × In e es × (same B (e .key) k ≡ true) × (f e ≡ y))
   unfolding changed
   in-changed k f es y i = let w = in-map _ es y i in go (w .0) (w .1) (same B (w .0 .key) k) refl (w .2)
     where
       go : (e : En B) → In e es → (b : Bool) → same B (e .key) k ≡ b → cond b (f e) e ≡ y
-        → In y es ⊎ ((e : En B) × In e es × (same B (e .key) k ≡ true) × (f e ≡ y))
+          → In y es ⊎ ((e : En B) × In e es × (same B (e .key) k ≡ true) × (f e ≡ y))
       go e j true q h = inr (e, j, q, h)
       go e j false q h = inl (subst (λ (v : En B). In v es) h j)
 
@@ -121,12 +121,12 @@ module _ (B : Book) where
       go false = refl
 
   pub ascending-changed : (k : B .Key) (f : En B → En B) (es : Entries B) → ((e : En B) → f e .key ≡ e .key) → ascending B es ≡ true
-    → ascending B (changed B k f es) ≡ true
+      → ascending B (changed B k f es) ≡ true
   unfolding changed
   ascending-changed k f es g h = ascending-map _ es (changed-key k f g) h
 
   pub ascending-settled : (f : En B → En B) (t : ℕ) (es : Entries B) → ((e : En B) → f e .key ≡ e .key) → ascending B es ≡ true
-    → ascending B (settled f t es) ≡ true
+      → ascending B (settled f t es) ≡ true
   ascending-settled f t es g h = rw (settled-is f t es) (ascending-map (settledOne f t) (keep (stays f t) es) one (ascending-keep (stays f t) es h))
     where
       one : (e : En B) → settledOne f t e .key ≡ e .key
@@ -145,7 +145,7 @@ module _ (B : Book) where
     name-put e es (on k) h = let w = name-in es k h in in-name (put B e es) (w .0) k (put-in e es (w .0) (inr (w .1))) (rw (w .2) (same-itself B L k))
 
     pub name-changed : (k : B .Key) (f : En B → En B) (es : Entries B) (n : Name (B .Key)) → ((e : En B) → f e .key ≡ e .key) → isName B es n ≡ true
-      → isName B (changed B k f es) n ≡ true
+        → isName B (changed B k f es) n ≡ true
     unfolding changed
     name-changed k f es end g h = refl
     name-changed k f es (on j) g h =
@@ -170,7 +170,7 @@ module _ (B : Book) where
         go false h = refl
 
     pub pairs-put : (e : En B) (es : Entries B) → ((x : En B) → In x es → same B (x .key) (e .key) ≡ false) → pairs (below B) es ≡ true
-      → pairs (below B) (put B e es) ≡ true
+        → pairs (below B) (put B e es) ≡ true
     unfolding put
     pairs-put e [] m h = pairs-cons (below B) e [] (λ y i. absurd i) h
     pairs-put e (x ∷ xs) m h =
@@ -178,7 +178,7 @@ module _ (B : Book) where
         go (atMost B (e .key) (x .key)) refl (b .0) (pairs-put e xs (λ y i. m y (inr i)) (b .1))
       where
         go : (b : Bool) → atMost B (e .key) (x .key) ≡ b → ((y : En B) → In y xs → below B x y ≡ true) → pairs (below B) (put B e xs) ≡ true
-          → pairs (below B) (cond b (e ∷ x ∷ xs) (x ∷ put B e xs)) ≡ true
+            → pairs (below B) (cond b (e ∷ x ∷ xs) (x ∷ put B e xs)) ≡ true
         go true q f k =
             pairs-cons (below B) e (x ∷ xs)
             (λ y i. ⊎-elim (λ z. subst (λ (v : En B). below B e v ≡ true) z (below-other e x q (m x (inl refl)))) (λ j. below-along e x y q (f y j)) i) h
@@ -187,7 +187,7 @@ module _ (B : Book) where
             (λ y i. ⊎-elim (λ z. subst (λ (v : En B). below B x v ≡ true) z (rw q)) (λ j. f y j) (in-put e xs y i)) k
 
     pub ascending-put : (e : En B) (es : Entries B) → ((x : En B) → In x es → same B (x .key) (e .key) ≡ false) → B .legal (e .key) ≡ true
-      → ascending B es ≡ true → ascending B (put B e es) ≡ true
+        → ascending B es ≡ true → ascending B (put B e es) ≡ true
     unfolding ascending
     ascending-put e es m l h =
         let b : (pairs (below B) es ≡ true) × (all (λ e. B .legal (e .key)) es ≡ true) = both _ _ h in
@@ -196,7 +196,7 @@ module _ (B : Book) where
 
     -- the first entry at or above k isn't k: k is missing
     pub missing : (es : Entries B) (k : B .Key) → ascending B es ≡ true → itself B k (first (λ e. atMost B k (e .key)) es) ≡ none
-      → (e : En B) → In e es → same B (e .key) k ≡ false
+        → (e : En B) → In e es → same B (e .key) k ≡ false
     unfolding ascending
     missing es k h n e i = go (same B (e .key) k) refl
       where
@@ -205,6 +205,7 @@ module _ (B : Book) where
             let r : same B (x .key) k ≡ true = rw (y, z) (same-itself B L k) in
             let c : itself B k (some x) ≡ none = rw d at n in never (cc)
         found x d z (inr r) = sym (rw (z, first-in (λ x. atMost B k (x .key)) es x d .1) at r)
+
         go : (b : Bool) → same B (e .key) k ≡ b → b ≡ false
         go false q = refl
         go true q =

@@ -1,9 +1,9 @@
 -- One principle for every invariant: what the moves of the desk keep, a turn, a worked queue, a call and a run of calls keep.
 -- A move is a begin, a request that joins, a commit, a rollback, a run that nothing blocks, or a refusal on a circle. Assumes nothing.
 use Prim.Native.Nat.{ℕ, zero, suc}
-use mathlib.Core.Path.{_≡_, refl, sym, subst}
-use mathlib.Core.Logic.{_⊎_, inl, inr}
-use mathlib.Core.Bool.{Bool, true, false, cond, _&&_, false≢true}
+use mathlib.Core.Path.{_≡_, refl, subst}
+use mathlib.Core.Logic.{inl, inr}
+use mathlib.Core.Bool.{Bool, true, false, cond, false≢true}
 use mathlib.Core.List.{List, [], _∷_}
 use mathlib.Core.Option.{Option, none, some}
 use lib.ListN.{length}
@@ -12,7 +12,7 @@ use Rattle.lists.proofs.Elements.{both, never, first-in, last-in}
 use Rattle.rules.specs.Kinds.{Book, Ask, Request, begin, commit, rollback, ask}
 use Rattle.rules.specs.Entries.{committed, rolledBack}
 use Rattle.rules.specs.Queue.{St, Wait, waits, oldest, newest}
-use Rattle.rules.specs.Runs.{runsAlready, waitsAlready, circle, run, unmoved, left, Turn, refused, served, turn, Worked, onward, turns, worked}
+use Rattle.rules.specs.Runs.{runsAlready, waitsAlready, circle, run, unmoved, left, Turn, refused, served, turn, onward, turns, worked}
 use Rattle.rules.specs.Desk.{runs, waitsNow, refusal, unlessRuns, ifSo, begun, ended, joined, acts, unless, step, isTransaction, legalAsk, legalRequest, Call, legalCall, call, stateAfter, after}
 
 module _ (B : Book) where
@@ -20,7 +20,7 @@ module _ (B : Book) where
   pub record Kept (Ends : ℕ → Type 0) (P : St B → Type 0) : Type 0 where
     pub begins : (s : St B) (t : ℕ) → isTransaction B t ≡ true → runs B s t ≡ false → P s → P (begun B s t)
     pub joins : (s : St B) (t : ℕ) (a : Ask (B .Key) (B .Rec)) → runs B s t ≡ true → waitsNow B s t ≡ false → legalAsk B a ≡ true
-      → P s → P (joined B s t a)
+        → P s → P (joined B s t a)
     pub commits : (s : St B) (t : ℕ) → Ends t → isTransaction B t ≡ true → runs B s t ≡ true → P s → P (ended B committed s t)
     pub rollsBack : (s : St B) (t : ℕ) → Ends t → isTransaction B t ≡ true → runs B s t ≡ true → P s → P (ended B rolledBack s t)
     pub goes : (s : St B) (w : Wait B) → In w (waits B s) → w .behind ≡ [] → P s → P (left B s (w .request) (run B s (w .request)) .state)
@@ -47,6 +47,7 @@ module _ (B : Book) where
         by-newest (some w) q e =
             let z : left B s (w .request) (unmoved B s circle) ≡ o = cc in
             subst (λ (u : Turn B). P (u .state)) z (K .givesWay s w (last-in _ (waits B s) w q .0) p)
+
         by-oldest : (w : Option (Wait B)) → oldest B s ≡ w → served B s w ≡ some o → P (o .state)
         by-oldest none q e = by-newest (newest B s) refl e
         by-oldest (some w) q e =
@@ -68,7 +69,7 @@ module _ (B : Book) where
     worked-keeps s p = turns-keep (length (s .queue)) s p
 
     pub step-keeps : (s : St B) (t : ℕ) (r : Request (B .Key) (B .Rec)) → isTransaction B t ≡ true → legalRequest B r ≡ true → MayEnd Ends t r
-      → P s → P (step B s t r .state)
+        → P s → P (step B s t r .state)
     unfolding step refusal acts legalRequest
     step-keeps s t begin h l m p = go (runs B s t) refl
       where

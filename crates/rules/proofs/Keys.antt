@@ -1,8 +1,8 @@
 -- The order of keys and the names of locks as tests: what passing and failing them says. From the five laws of the order, by the three
 -- answers that a comparison gives. Assumes nothing.
-use Prim.Native.Nat.{ℕ, Ordering, Ordering·lt, Ordering·eq, Ordering·gt}
-use mathlib.Core.Path.{_≡_, refl, sym, ap, subst, _∙_}
-use mathlib.Core.Bool.{Bool, true, false, not, true≢false, false≢true}
+use Prim.Native.Nat.{Ordering, Ordering·lt, Ordering·eq, Ordering·gt}
+use mathlib.Core.Path.{_≡_, refl, sym, ap, _∙_}
+use mathlib.Core.Bool.{true, false, true≢false, false≢true}
 use lib.Dec.{isLe, isEq}
 use Rattle.rules.specs.Kinds.{Book, Ordered, Name, on, end}
 use Rattle.rules.specs.Entries.{atMost, same}

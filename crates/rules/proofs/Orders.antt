@@ -1,7 +1,7 @@
 -- The keys of document 01 are ordered: the five laws of the comparison of numbers. A comparison that says less or more is turned into
 -- an inequality and back. Assumes nothing.
-use Prim.Native.Nat.{ℕ, zero, suc, _≤_, _<_, compare, Ordering, Ordering·lt, Ordering·eq, Ordering·gt, compare·zero-zero, compare·zero-suc, compare·suc-zero, compare·suc-suc}
-use mathlib.Core.Path.{_≡_, refl, sym, ap, _∙_}
+use Prim.Native.Nat.{ℕ, zero, suc, _≤_, _<_, compare, Ordering·lt, Ordering·eq, Ordering·gt, compare·zero-zero, compare·zero-suc, compare·suc-zero, compare·suc-suc}
+use mathlib.Core.Path.{_≡_, ap, _∙_}
 use native.Mathlib.Nat.{le-of-suc-le-suc, not-suc-le-zero}
 use native.Mathlib.Omega.{arith}
 use lib.Dec.{isLe, isEq}
@@ -32,4 +32,5 @@ document-ordered P = record {
   itself = itself;
   below = λ a b e. compared a b (less a b e) .1;
   above = λ a b e. compared b a (more a b e) .0;
-  along = λ a b c d e. let p : a < b = less a b d in let q : b < c = less b c e in compared a c (omega arith) .0 }
+  along = λ a b c d e. let p : a < b = less a b d in let q : b < c = less b c e in compared a c (omega arith) .0;
+}
