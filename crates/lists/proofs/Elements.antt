@@ -5,7 +5,7 @@ use mathlib.Core.Path.{_≡_, refl, sym, ap, subst, _∙_}
 use mathlib.Core.Logic.{_⊎_, inl, inr, ⊎-elim}
 use mathlib.Core.Bool.{Bool, true, false, cond, _&&_, _||_, false≢true, and-eq-true-iff}
 use mathlib.Core.List.{List, [], _∷_, _++_, map}
-use mathlib.Core.Option.{Option, none, some}
+use mathlib.Core.Option.{Option, none, some, Option·map}
 use native.Mathlib.Omega.{arith}
 use lib.ListN.{length}
 use Rattle.lists.specs.Lists.{orElse, all, any, keep, first, last, pairs, In, insertAt}
@@ -154,6 +154,20 @@ module _ {A : Type 0} where
       go true e w = (x, rw e refl, inr (pairs-split r x xs h .0 y i))
       go false e w = (w .0, rw e (w .1), w .2)
 
+  -- the first to pass p, where it is kept
+  pub first-keep : (p q : A → Bool) (xs : List A) → ((x : A) → first p xs ≡ some x → q x ≡ true) → first p (keep q xs) ≡ first p xs
+  unfolding first keep
+  first-keep p q [] f = refl
+  first-keep p q (x ∷ xs) f = go (p x) (q x) refl refl f (first-keep p q xs)
+    where
+      go : (b c : Bool) → p x ≡ b → q x ≡ c → ((y : A) → cond b (some x) (first p xs) ≡ some y → q y ≡ true)
+        → (((y : A) → first p xs ≡ some y → q y ≡ true) → first p (keep q xs) ≡ first p xs)
+        → first p (cond c (x ∷ keep q xs) (keep q xs)) ≡ cond b (some x) (first p xs)
+      go true true d e g h = rw d
+      go true false d e g h = absurd (false≢true (sym e ∙ g x refl))
+      go false true d e g h = rw d (h g)
+      go false false d e g h = h g
+
   -- an element put in
   pub in-insert : (i : ℕ) (x : A) (ys : List A) (y : A) → In y (insertAt i x ys) → (x ≡ y) ⊎ In y ys
   unfolding insertAt
@@ -190,6 +204,16 @@ module _ {A B : Type 0} where
   pub in-map : (f : A → B) (xs : List A) (y : B) → In y (map f xs) → (x : A) × In x xs × (f x ≡ y)
   in-map f (x ∷ xs) y (inl e) = (x, inl refl, e)
   in-map f (x ∷ xs) y (inr i) = let w = in-map f xs y i in (w .0, inr (w .1), w .2)
+
+  pub first-map : (f : A → B) (p : A → Bool) (q : B → Bool) (xs : List A) → ((x : A) → q (f x) ≡ p x) → first q (map f xs) ≡ Option·map f (first p xs)
+  unfolding first
+  first-map f p q [] g = refl
+  first-map f p q (x ∷ xs) g = go (p x) refl (first-map f p q xs g)
+    where
+      go : (b : Bool) → p x ≡ b → first q (map f xs) ≡ Option·map f (first p xs)
+        → cond (q (f x)) (some (f x)) (first q (map f xs)) ≡ Option·map f (cond b (some x) (first p xs))
+      go true e h = rw (g x ∙ e)
+      go false e h = rw (g x ∙ e) h
 
   pub map-in : (f : A → B) (xs : List A) (x : A) → In x xs → In (f x) (map f xs)
   map-in f (y ∷ ys) x (inl e) = inl (ap f e)

@@ -8,23 +8,19 @@ use mathlib.Core.List.{List, [], _∷_, _++_, map}
 use mathlib.Core.Option.{Option, none, some}
 use lib.Dec.{eqb}
 use borrow.Author.Tests.{eqb-true}
-use Rattle.lists.specs.Lists.{keep, first, In}
+use Rattle.lists.specs.Lists.{keep, In}
 use Rattle.lists.proofs.Elements.{never, keep-in, first-in, map-in}
 use Rattle.rules.specs.Kinds.{Book, Ordered, Mode, S, X, Name, on, Ask, read, insert, delete}
-use Rattle.rules.specs.Entries.{Entries, atMost, same, inserted, deleted, revived, put, changed}
+use Rattle.rules.specs.Entries.{Entries, same, inserted, deleted, revived, put, changed}
 use Rattle.rules.specs.Locks.{Slots, inUse, conflict, sameName, taken, target, named, itself, mode, Want, wanted, holders, blockers}
 use Rattle.rules.specs.Queue.{St, Q, Wait, waitsFrom, waits}
 use Rattle.rules.specs.Runs.{done, isPresent, nothing, locksShort, pagesShort, Sy, En, Ran, unmoved, locked, given, taking, insertMissing, insertThere, insertAs, deleteThere, deleteAs, runOn, run}
 use Rattle.rules.specs.Good.{Lk, isName}
 use Rattle.rules.proofs.Keys.{same-itself, name-itself}
-use Rattle.rules.proofs.Index.{in-name}
+use Rattle.rules.proofs.Index.{atOrAbove, in-name}
 use Rattle.rules.proofs.LockTable.{Clear}
 
 module _ (B : Book) where
-  -- the first entry at or above k
-  abbrev pub atOrAbove : B .Key → Entries B → Option (En B)
-  atOrAbove k es = first (λ e. atMost B k (e .key)) es
-
   -- a target is an entry or the end
   pub target-in : (es : Entries B) (t : ℕ) (a : Ask (B .Key) (B .Rec)) (e : En B) → target B es t a ≡ some e → In e es
   unfolding target
@@ -44,8 +40,8 @@ module _ (B : Book) where
     refused : (m : Sy B) → Did s q (unmoved B s m)
     looked : (m : Sy B) (ls : Slots B) → taken B (s .slots) (q .asker) (wanted B (s .entries) q .name) (wanted B (s .entries) q .mode) ≡ some ls
         → Did s q (locked B s m ls)
-    putIn : (k : B .Key) (r : B .Rec) (ls : Slots B) → q .asks ≡ insert k r → itself B k (atOrAbove k (s .entries)) ≡ none
-        → wanted B (s .entries) q ≡ record { name = named B (atOrAbove k (s .entries)); mode = X }
+    putIn : (k : B .Key) (r : B .Rec) (ls : Slots B) → q .asks ≡ insert k r → itself B k (atOrAbove B k (s .entries)) ≡ none
+        → wanted B (s .entries) q ≡ record { name = named B (atOrAbove B k (s .entries)); mode = X }
         → taken B (s .slots) (q .asker) (on k) X ≡ some ls
         → Did s q (record { says = done; entries = put B (inserted (q .asker) k r) (s .entries); pages = B .paging .grown (s .pages) k; slots = ls })
     broughtBack : (e : En B) (r : B .Rec) (ls : Slots B) → target B (s .entries) (q .asker) (q .asks) ≡ some e → e .now ≡ none
@@ -72,7 +68,7 @@ module _ (B : Book) where
         go none e = refused locksShort
         go (some ls) e = g ls e
 
-    did-insert : (k : B .Key) (r : B .Rec) (o : Option (En B)) → itself B k (atOrAbove k (s .entries)) ≡ o
+    did-insert : (k : B .Key) (r : B .Rec) (o : Option (En B)) → itself B k (atOrAbove B k (s .entries)) ≡ o
         → Did s (record { asker = t; asks = insert k r }) (insertAs B s t k r o)
     unfolding insertAs insertMissing insertThere wanted target mode
     did-insert k r none n = did-taking _ (on k) X _ (λ ls h. go ls h (B .paging .fits (s .pages) k))
@@ -84,22 +80,22 @@ module _ (B : Book) where
         go ls h false = refused pagesShort
     did-insert k r (some e) n = did-taking _ (on (e .key)) S _ (λ ls h. go ls h (e .now) refl)
       where
-        x : atOrAbove k (s .entries) ≡ some e
-        x = itself-is k (atOrAbove k (s .entries)) e n
+        x : atOrAbove B k (s .entries) ≡ some e
+        x = itself-is k (atOrAbove B k (s .entries)) e n
 
         go : (ls : Slots B) → taken B (s .slots) t (on (e .key)) S ≡ some ls → (o : Option (B .Rec)) → e .now ≡ o
             → Did s (record { asker = t; asks = insert k r }) (insertThere B s t r e o ls)
         go ls h (some was) w = looked (isPresent (e .key) (some was)) ls (rw (n, x) h)
         go ls h none w = broughtBack e r ls x w (cc x) h
 
-    did-delete : (k : B .Key) (o : Option (En B)) → itself B k (atOrAbove k (s .entries)) ≡ o
-        → Did s (record { asker = t; asks = delete k }) (deleteAs B s t (named B (atOrAbove k (s .entries))) o)
+    did-delete : (k : B .Key) (o : Option (En B)) → itself B k (atOrAbove B k (s .entries)) ≡ o
+        → Did s (record { asker = t; asks = delete k }) (deleteAs B s t (named B (atOrAbove B k (s .entries))) o)
     unfolding deleteAs deleteThere wanted target mode
     did-delete k none n = did-taking _ _ S _ (λ ls h. looked nothing ls (rw n h))
     did-delete k (some e) n = did-taking _ (on (e .key)) X _ (λ ls h. go ls h (e .now))
       where
-        x : atOrAbove k (s .entries) ≡ some e
-        x = itself-is k (atOrAbove k (s .entries)) e n
+        x : atOrAbove B k (s .entries) ≡ some e
+        x = itself-is k (atOrAbove B k (s .entries)) e n
 
         go : (ls : Slots B) → taken B (s .slots) t (on (e .key)) X ≡ some ls → (o : Option (B .Rec))
             → Did s (record { asker = t; asks = delete k }) (deleteThere B s t e o ls)
@@ -109,8 +105,8 @@ module _ (B : Book) where
     did-run : (a : Ask (B .Key) (B .Rec)) → Did s (record { asker = t; asks = a }) (run B s (record { asker = t; asks = a }))
     unfolding run runOn target mode wanted
     did-run (read lo hi) = did-taking _ _ S _ (λ ls h. looked _ ls h)
-    did-run (insert k r) = did-insert k r (itself B k (atOrAbove k (s .entries))) refl
-    did-run (delete k) = did-delete k (itself B k (atOrAbove k (s .entries))) refl
+    did-run (insert k r) = did-insert k r (itself B k (atOrAbove B k (s .entries))) refl
+    did-run (delete k) = did-delete k (itself B k (atOrAbove B k (s .entries))) refl
 
   pub run-did : (s : St B) (q : Q B) → Did s q (run B s q)
   run-did s q = did-run s (q .asker) (q .asks)

@@ -2,55 +2,32 @@
 -- of sound tables; the rest is the principle of Keeps. Assumes nothing.
 use Prim.Native.Nat.{ℕ, zero, suc, _≤_, _<_}
 use mathlib.Core.Path.{_≡_, refl, sym, ap, subst, _∙_}
-use mathlib.Core.Logic.{inl, inr, ⊎-elim}
-use mathlib.Core.Bool.{Bool, true, false, not, true≢false}
+use mathlib.Core.Logic.{⊎-elim}
+use mathlib.Core.Bool.{Bool, true, false, not}
 use mathlib.Core.List.{List, []}
-use mathlib.Core.Option.{none, some}
+use mathlib.Core.Option.{none}
 use native.Mathlib.Omega.{arith}
 use lib.Dec.{eqb, leb}
 use lib.ListN.{length, getD, set, replicate, length-set, length-replicate}
 use lib.Seq.{getD-set-same, getD-set-other}
 use borrow.Author.Tests.{eqb-true, eqb-false, eq-eqb, ne-eqb, leb-true, not-true}
 use Rattle.lists.specs.Lists.{all, pairs, In}
-use Rattle.lists.proofs.Elements.{both, and, either, or-left, or-right, all-in, in-all, not-any, in-keep, pairs-keep, pairs-insert, in-insert, insert-end}
-use Rattle.rules.specs.Kinds.{Book, Ordered, Mode, S, X, on, Ask, Request, begin, commit, rollback, ask, Mark, idle, running}
-use Rattle.rules.specs.Entries.{isThere, deleted, revived, committed, rolledBack}
-use Rattle.rules.specs.Locks.{Slots, inUse, taken, target, Want, wanted}
-use Rattle.rules.specs.Queue.{St, Q, Wait, waits, leave}
+use Rattle.lists.proofs.Elements.{both, and, or-left, or-right, in-all, not-any, in-keep, pairs-keep, pairs-insert, in-insert, insert-end}
+use Rattle.rules.specs.Kinds.{Book, Ordered, on, Ask, Request, begin, commit, rollback, ask, Mark, idle, running}
+use Rattle.rules.specs.Entries.{committed, rolledBack}
+use Rattle.rules.specs.Locks.{inUse}
+use Rattle.rules.specs.Queue.{St, Q, leave}
 use Rattle.rules.specs.Runs.{circle, En, Ran, unmoved, left, run}
 use Rattle.rules.specs.Desk.{isRunning, runs, waitsNow, begun, ended, joined, step, isTransaction, legalAsk, legalRequest, Call, legalCall, fresh, after}
 use Rattle.rules.specs.Good.{ascending, lockStands, ownerHolds, queueStands, otherAsker, Good}
-use Rattle.rules.proofs.LockTable.{Held, Clear, x-conflicts, holdsX-held, held-holdsX, held-kept, held-taken}
-use Rattle.rules.proofs.Index.{missing, in-name}
-use Rattle.rules.proofs.Keys.{same-itself}
-use Rattle.rules.proofs.Sound.{Settles, Sound, sound-more, owner-holds, sound-taken, sound-changed, sound-put, sound-ended}
-use Rattle.rules.proofs.Did.{Did, refused, looked, putIn, broughtBack, tookAway, run-did, target-in, wanted-name, waits-in, unblocked}
+use Rattle.rules.proofs.LockTable.{held-holdsX}
+use Rattle.rules.proofs.Sound.{Settles, Sound, sound-more, sound-ended}
+use Rattle.rules.proofs.Did.{run-did}
 use Rattle.rules.proofs.Keeps.{Kept, MayEnd, step-keeps, after-keeps}
+use Rattle.rules.proofs.Unblocked.{good-sound, Queues, good-queues, did-sound}
 
 module _ (B : Book) (L : Ordered B) where
-  pub good-sound : (s : St B) → Good B s → Sound B (runs B s) (s .entries) (s .slots)
-  unfolding lockStands ownerHolds
-  good-sound s g = record {
-    slots = g .slots;
-    keys = g .keys;
-    modes = g .modes;
-    settled = g .settled;
-    names = λ l i. both _ _ (all-in (lockStands B s) (inUse (s .slots)) l (g .names) i);
-    owners = λ e i. ⊎-elim (λ z. inl (eqb-true (e .owner) 0 z))
-        (λ w. let b = both (runs B s (e .owner)) _ w in inr (b .0, holdsX-held B L (s .slots) (e .owner) (on (e .key)) (b .1)))
-        (either _ _ (all-in (ownerHolds B s) (s .entries) e (g .owners) i));
-  }
-
-  -- the queue stands: without repeats, of running transactions, each legal
-  pub record Queues (s : St B) : Type 0 where
-    pub queued : (q : Q B) → In q (s .queue) → (runs B s (q .asker) ≡ true) × (legalAsk B (q .asks) ≡ true)
-    pub askers : pairs (otherAsker B) (s .queue) ≡ true
-
-  pub good-queues : (s : St B) → Good B s → Queues s
-  unfolding queueStands
-  good-queues s g = record { askers = g .askers; queued = λ q i. both _ _ (all-in (queueStands B s) (s .queue) q (g .queued) i) }
-
-  pub sound-good : (s : St B) → length (s .marks) ≡ suc (B .transactions) → runs B s 0 ≡ false → Sound B (runs B s) (s .entries) (s .slots) → Queues s → Good B s
+  pub sound-good : (s : St B) → length (s .marks) ≡ suc (B .transactions) → runs B s 0 ≡ false → Sound B (runs B s) (s .entries) (s .slots) → Queues B s → Good B s
   unfolding lockStands ownerHolds queueStands
   sound-good s m z h q = record {
     slots = h .slots;
@@ -70,54 +47,9 @@ module _ (B : Book) (L : Ordered B) where
   left-good : (s : St B) (q : Q B) (r : Ran B) → Good B s → Sound B (runs B s) (r .entries) (r .slots) → Good B (left B s q r .state)
   unfolding leave
   left-good s q r g h = sound-good (left B s q r .state) (g .marks) (g .nobody) h (record {
-    queued = λ p i. good-queues s g .queued p (in-keep _ (s .queue) p i .0);
+    queued = λ p i. good-queues B s g .queued p (in-keep _ (s .queue) p i .0);
     askers = pairs-keep (otherAsker B) _ (s .queue) (g .askers);
   })
-
-  -- a run that nothing blocks
-  module _ (s : St B) (w : Wait B) (i : In w (waits B s)) (n : w .behind ≡ []) (g : Good B s) where
-    abbrev t : ℕ
-    t = w .request .asker
-
-    asks : (runs B s t ≡ true) × (legalAsk B (w .request .asks) ≡ true)
-    asks = good-queues s g .queued (w .request) (waits-in B s w i)
-
-    somebody : t ≡ 0 → ⊥
-    somebody z = true≢false (sym (asks .0) ∙ (rw (← z) at (g .nobody)))
-
-    clear-as : (v : Want B) → wanted B (s .entries) (w .request) ≡ v → Clear B (s .slots) t (v .name) (v .mode)
-    clear-as v e = subst (λ (v : Want B). Clear B (s .slots) t (v .name) (v .mode)) e (unblocked B L s w i n)
-
-    -- a ghost has an owner, who holds X on it; where nobody else does, it is the asker's own
-    own-ghost : (e : En B) → In e (s .entries) → e .now ≡ none → Clear B (s .slots) t (on (e .key)) S → Held B (s .slots) t (on (e .key)) X
-    own-ghost e j a c =
-        let h = good-sound s g in
-        let x = owner-holds B L (runs B s) (s .slots) e (h .owners e j) (λ z. true≢false (sym (h .settled e j z .isThere) ∙ ap isThere a)) in
-        let o : e .owner ≡ t = sym (x .holder) ∙ c (x .lock) (x .stands) (x .name) (x-conflicts (x .lock .mode) S (x .strong)) in
-        subst (λ (u : ℕ). Held B (s .slots) u (on (e .key)) X) o x
-
-    -- the lock on an entry that is the target
-    target-locked : (x : En B) (m : Mode) (ls : Slots B) → target B (s .entries) t (w .request .asks) ≡ some x
-        → wanted B (s .entries) (w .request) ≡ record { name = on (x .key); mode = m } → taken B (s .slots) t (on (x .key)) m ≡ some ls → Sound B (runs B s) (s .entries) ls
-    target-locked x m ls a y e =
-        sound-taken B L (runs B s) (s .entries) (s .slots) ls t (on (x .key)) m (asks .0)
-        (in-name B (s .entries) x (x .key) (target-in B (s .entries) t (w .request .asks) x a) (same-itself B L (x .key))) (clear-as _ y) e (good-sound s g)
-
-    did-sound : (r : Ran B) → Did B s (w .request) r → Sound B (runs B s) (r .entries) (r .slots)
-    unfolding legalAsk
-    did-sound r (refused m) = good-sound s g
-    did-sound r (looked m ls e) =
-        sound-taken B L (runs B s) (s .entries) (s .slots) ls t _ _ (asks .0) (wanted-name B L (s .entries) (w .request)) (unblocked B L s w i n) e (good-sound s g)
-    did-sound r (putIn k v ls a m x e) =
-        sound-put B L (runs B s) (s .entries) (s .slots) ls t k v (asks .0) somebody
-        (subst (λ (q : Ask (B .Key) (B .Rec)). legalAsk B q ≡ true) a (asks .1)) (missing B L (s .entries) k (g .keys) m) e (good-sound s g)
-    did-sound r (broughtBack x v ls a o y e) =
-        sound-changed B L (runs B s) (s .entries) ls t (x .key) (revived t v) (asks .0) somebody (record { key = λ e. refl; owner = λ e. refl })
-        (held-kept B (s .slots) ls t (on (x .key)) S e t (on (x .key)) X (own-ghost x (target-in B (s .entries) t (w .request .asks) x a) o (clear-as _ y)))
-        (target-locked x S ls a y e)
-    did-sound r (tookAway x ls a y e) =
-        sound-changed B L (runs B s) (s .entries) ls t (x .key) (deleted t) (asks .0) somebody (record { key = λ e. refl; owner = λ e. refl })
-        (held-taken B L (s .slots) ls t (on (x .key)) X e) (target-locked x X ls a y e)
 
   -- who runs after a begin and after an end
   module _ (s : St B) (t : ℕ) (g : Good B s) (h : isTransaction B t ≡ true) where
@@ -135,8 +67,8 @@ module _ (B : Book) (L : Ordered B) where
     begun-good : Good B (begun B s t)
     unfolding begun
     begun-good = sound-good (begun B s t) (length-set (s .marks) t running ∙ g .marks) (marked running 0 (λ z. known .1 (sym z)) ∙ g .nobody)
-        (sound-more B L (runs B s) (runs B (begun B s t)) (s .entries) (s .slots) more (good-sound s g))
-        (record { askers = g .askers; queued = λ q i. let w = good-queues s g .queued q i in (more (q .asker) (w .0), w .1) })
+        (sound-more B (runs B s) (runs B (begun B s t)) (s .entries) (s .slots) more (good-sound B L s g))
+        (record { askers = g .askers; queued = λ q i. let w = good-queues B s g .queued q i in (more (q .asker) (w .0), w .1) })
       where
         more : (u : ℕ) → runs B s u ≡ true → runs B (begun B s t) u ≡ true
         more u r = go (eqb u t) refl
@@ -148,10 +80,10 @@ module _ (B : Book) (L : Ordered B) where
     ended-good : (f : En B → En B) → Settles B f → Good B (ended B f s t)
     unfolding ended leave
     ended-good f c = sound-good (ended B f s t) (length-set (s .marks) t idle ∙ g .marks) (marked idle 0 (λ z. known .1 (sym z)) ∙ g .nobody)
-        (sound-ended B L (runs B s) (runs B (ended B f s t)) (s .entries) (s .slots) t f (known .1) c others (good-sound s g))
+        (sound-ended B L (runs B s) (runs B (ended B f s t)) (s .entries) (s .slots) t f (known .1) c others (good-sound B L s g))
         (record {
           askers = pairs-keep (otherAsker B) _ (s .queue) (g .askers);
-          queued = λ q i. let k = in-keep _ (s .queue) q i in let w = good-queues s g .queued q (k .0) in
+          queued = λ q i. let k = in-keep _ (s .queue) q i in let w = good-queues B s g .queued q (k .0) in
               (others (q .asker) (eqb-false (q .asker) t (not-true _ (k .1))) (w .0), w .1);
         })
       where
@@ -160,10 +92,10 @@ module _ (B : Book) (L : Ordered B) where
 
   joined-good : (s : St B) (t : ℕ) (a : Ask (B .Key) (B .Rec)) → runs B s t ≡ true → waitsNow B s t ≡ false → legalAsk B a ≡ true → Good B s → Good B (joined B s t a)
   unfolding joined
-  joined-good s t a r w l g = sound-good (joined B s t a) (g .marks) (g .nobody) (good-sound s g) (record {
+  joined-good s t a r w l g = sound-good (joined B s t a) (g .marks) (g .nobody) (good-sound B L s g) (record {
     askers = rw (insert-end new (s .queue)) (pairs-insert (otherAsker B) (length (s .queue)) new (s .queue) (g .askers)
         (λ q i. let o = other q i in (ap not (ne-eqb t (q .asker) (λ z. eqb-false (q .asker) t o (sym z))), ap not o)));
-    queued = λ q i. ⊎-elim (λ z. subst (λ (p : Q B). (runs B s (p .asker) ≡ true) × (legalAsk B (p .asks) ≡ true)) z (r, l)) (good-queues s g .queued q)
+    queued = λ q i. ⊎-elim (λ z. subst (λ (p : Q B). (runs B s (p .asker) ≡ true) × (legalAsk B (p .asks) ≡ true)) z (r, l)) (good-queues B s g .queued q)
         (in-insert (length (s .queue)) new (s .queue) q (rw (insert-end new (s .queue)) at i));
   })
     where
@@ -182,8 +114,8 @@ module _ (B : Book) (L : Ordered B) where
     joins = λ s t a r w l g. joined-good s t a r w l g;
     commits = λ s t o h r g. ended-good s t g h committed (record { key = λ e. refl; owner = λ e. refl; equal = λ e. refl });
     rollsBack = λ s t o h r g. ended-good s t g h rolledBack (record { key = λ e. refl; owner = λ e. refl; equal = λ e. refl });
-    goes = λ s w i n g. left-good s (w .request) (run B s (w .request)) g (did-sound s w i n g (run B s (w .request)) (run-did B s (w .request)));
-    givesWay = λ s w i g. left-good s (w .request) (unmoved B s circle) g (good-sound s g);
+    goes = λ s w i n g. left-good s (w .request) (run B s (w .request)) g (did-sound B L s w i n g (run B s (w .request)) (run-did B s (w .request)));
+    givesWay = λ s w i g. left-good s (w .request) (unmoved B s circle) g (good-sound B L s g);
   }
 
   may-end : (t : ℕ) (r : Request (B .Key) (B .Rec)) → MayEnd B everyone t r

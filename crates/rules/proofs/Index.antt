@@ -6,14 +6,14 @@ use mathlib.Core.Path.{_≡_, refl, sym, ap, subst, _∙_}
 use mathlib.Core.Logic.{_⊎_, inl, inr, ⊎-elim}
 use mathlib.Core.Bool.{Bool, true, false, cond, not, _&&_, true≢false, false≢true}
 use mathlib.Core.List.{List, [], _∷_, _++_, map}
-use mathlib.Core.Option.{none, some}
+use mathlib.Core.Option.{Option, none, some, Option·map}
 use lib.Dec.{eqb}
 use borrow.Author.Tests.{not-true}
 use Rattle.lists.specs.Lists.{all, keep, first, pairs, In, join, insertAt}
-use Rattle.lists.proofs.Elements.{both, and, never, all-in, in-all, any-in, in-any, in-keep, keep-in, first-in, pairs-split, pairs-cons, pairs-keep, first-least, in-insert, insert-in, in-map, map-in, pairs-map}
+use Rattle.lists.proofs.Elements.{both, and, never, all-in, in-all, any-in, in-any, in-keep, keep-in, first-in, pairs-split, pairs-cons, pairs-keep, first-least, first-keep, first-map, in-insert, insert-in, in-map, map-in, pairs-map}
 use Rattle.rules.specs.Kinds.{Book, Ordered, Entry, Name, on, end}
 use Rattle.rules.specs.Entries.{Entries, atMost, same, present, left, settled, takenOut, put, changed}
-use Rattle.rules.specs.Locks.{itself}
+use Rattle.rules.specs.Locks.{named, itself}
 use Rattle.rules.specs.Runs.{En}
 use Rattle.rules.specs.Good.{below, ascending, isName}
 use Rattle.rules.proofs.Keys.{same-equal, same-itself, atMost-itself, atMost-equal, atMost-along}
@@ -68,6 +68,10 @@ module _ {K R : Type 0} (f : Entry K R → Entry K R) (t : ℕ) where
       (w .0, j .0, b .0, not-true (present (f (w .0))) (b .1), w .2)
 
 module _ (B : Book) where
+  -- the first entry at or above k
+  abbrev pub atOrAbove : B .Key → Entries B → Option (En B)
+  atOrAbove k es = first (λ e. atMost B k (e .key)) es
+
   -- put, as an insertion
   pub put-place : (e : En B) (es : Entries B) → (i : ℕ) × (put B e es ≡ insertAt i e es)
   unfolding put insertAt
@@ -113,28 +117,48 @@ module _ (B : Book) where
       and _ _ (pairs-map f (below B) (below B) es (λ x y i j r. rw (g x, g y) r) (b .0))
       (in-all _ (map f es) (λ y i. let w = in-map f es y i in rw (← w .2, g (w .0)) (all-in _ es (w .0) (b .1) (w .1))))
 
-  changed-key : (k : B .Key) (f : En B → En B) → ((e : En B) → f e .key ≡ e .key) → (e : En B) → cond (same B (e .key) k) (f e) e .key ≡ e .key
-  changed-key k f g e = go (same B (e .key) k)
-    where
-      go : (b : Bool) → cond b (f e) e .key ≡ e .key
-      go true = g e
-      go false = refl
+  -- an entry changed or not, by something that keeps keys
+  kept-key : (f : En B → En B) → ((e : En B) → f e .key ≡ e .key) → (b : Bool) (e : En B) → cond b (f e) e .key ≡ e .key
+  kept-key f g true e = g e
+  kept-key f g false e = refl
 
   pub ascending-changed : (k : B .Key) (f : En B → En B) (es : Entries B) → ((e : En B) → f e .key ≡ e .key) → ascending B es ≡ true
       → ascending B (changed B k f es) ≡ true
   unfolding changed
-  ascending-changed k f es g h = ascending-map _ es (changed-key k f g) h
+  ascending-changed k f es g h = ascending-map _ es (λ e. kept-key f g (same B (e .key) k) e) h
 
   pub ascending-settled : (f : En B → En B) (t : ℕ) (es : Entries B) → ((e : En B) → f e .key ≡ e .key) → ascending B es ≡ true
       → ascending B (settled f t es) ≡ true
-  ascending-settled f t es g h = rw (settled-is f t es) (ascending-map (settledOne f t) (keep (stays f t) es) one (ascending-keep (stays f t) es h))
+  ascending-settled f t es g h =
+      rw (settled-is f t es) (ascending-map (settledOne f t) (keep (stays f t) es) (λ e. kept-key f g (eqb (e .owner) t) e) (ascending-keep (stays f t) es h))
+
+  unmapped : (g : En B → En B) (o : Option (En B)) → ((e : En B) → o ≡ some e → g e ≡ e) → Option·map g o ≡ o
+  unmapped g none h = refl
+  unmapped g (some e) h = ap some (h e refl)
+
+  -- the first at or above x stays the one it was, if it isn't changed or settled; in any case its name stays
+  pub first-changed : (k : B .Key) (f : En B → En B) (x : B .Key) (es : Entries B) → ((e : En B) → f e .key ≡ e .key)
+      → ((e : En B) → atOrAbove x es ≡ some e → same B (e .key) k ≡ false) → atOrAbove x (changed B k f es) ≡ atOrAbove x es
+  unfolding changed
+  first-changed k f x es g h =
+      first-map (λ e. cond (same B (e .key) k) (f e) e) _ _ es (λ e. rw (kept-key f g (same B (e .key) k) e))
+      ∙ unmapped (λ e. cond (same B (e .key) k) (f e) e) (atOrAbove x es) (λ e q. rw (h e q))
+
+  pub named-changed : (k : B .Key) (f : En B → En B) (x : B .Key) (es : Entries B) → ((e : En B) → f e .key ≡ e .key)
+      → named B (atOrAbove x (changed B k f es)) ≡ named B (atOrAbove x es)
+  unfolding changed
+  named-changed k f x es g = ap (named B) (first-map (λ e. cond (same B (e .key) k) (f e) e) _ _ es (λ e. rw (kept-key f g (same B (e .key) k) e))) ∙ go (atOrAbove x es)
     where
-      one : (e : En B) → settledOne f t e .key ≡ e .key
-      one e = go (eqb (e .owner) t)
-        where
-          go : (b : Bool) → cond b (f e) e .key ≡ e .key
-          go true = g e
-          go false = refl
+      go : (o : Option (En B)) → named B (Option·map (λ e. cond (same B (e .key) k) (f e) e) o) ≡ named B o
+      go none = refl
+      go (some e) = ap on (kept-key f g (same B (e .key) k) e)
+
+  pub first-settled : (f : En B → En B) (t : ℕ) (x : B .Key) (es : Entries B) → ((e : En B) → f e .key ≡ e .key)
+      → ((e : En B) → atOrAbove x es ≡ some e → eqb (e .owner) t ≡ false) → atOrAbove x (settled f t es) ≡ atOrAbove x es
+  first-settled f t x es g h = rw (settled-is f t es)
+    (first-map (settledOne f t) _ _ (keep (stays f t) es) (λ e. rw (kept-key f g (eqb (e .owner) t) e))
+      ∙ ap (Option·map (settledOne f t)) (first-keep _ (stays f t) es (λ e q. rw (h e q)))
+      ∙ unmapped (settledOne f t) (atOrAbove x es) (λ e q. rw (h e q)))
 
   module _ (L : Ordered B) where
     pub name-in : (es : Entries B) (k : B .Key) → isName B es (on k) ≡ true → (e : En B) × In e es × (e .key ≡ k)
@@ -150,7 +174,7 @@ module _ (B : Book) where
     name-changed k f es end g h = refl
     name-changed k f es (on j) g h =
         let w = name-in es j h in
-        in-name (changed B k f es) _ j (map-in (λ e. cond (same B (e .key) k) (f e) e) es (w .0) (w .1)) (rw (changed-key k f g (w .0) ∙ w .2) (same-itself B L j))
+        in-name (changed B k f es) _ j (map-in (λ e. cond (same B (e .key) k) (f e) e) es (w .0) (w .1)) (rw (kept-key f g (same B (w .0 .key) k) (w .0) ∙ w .2) (same-itself B L j))
 
     -- e at or below x and not x's key, x below y: e is below y
     below-along : (e x y : En B) → atMost B (e .key) (x .key) ≡ true → below B x y ≡ true → below B e y ≡ true
@@ -195,12 +219,12 @@ module _ (B : Book) where
         (in-all _ (put B e es) (λ y i. ⊎-elim (λ z. subst (λ (v : En B). B .legal (v .key) ≡ true) z l) (λ j. all-in _ es y (b .1) j) (in-put e es y i)))
 
     -- the first entry at or above k isn't k: k is missing
-    pub missing : (es : Entries B) (k : B .Key) → ascending B es ≡ true → itself B k (first (λ e. atMost B k (e .key)) es) ≡ none
+    pub missing : (es : Entries B) (k : B .Key) → ascending B es ≡ true → itself B k (atOrAbove k es) ≡ none
         → (e : En B) → In e es → same B (e .key) k ≡ false
     unfolding ascending
     missing es k h n e i = go (same B (e .key) k) refl
       where
-        found : (x : En B) → first (λ e. atMost B k (e .key)) es ≡ some x → e .key ≡ k → (x ≡ e) ⊎ (below B x e ≡ true) → true ≡ false
+        found : (x : En B) → atOrAbove k es ≡ some x → e .key ≡ k → (x ≡ e) ⊎ (below B x e ≡ true) → true ≡ false
         found x d z (inl y) =
             let r : same B (x .key) k ≡ true = rw (y, z) (same-itself B L k) in
             let c : itself B k (some x) ≡ none = rw d at n in never (cc)
@@ -212,3 +236,24 @@ module _ (B : Book) where
             let z : e .key ≡ k = same-equal B L (e .key) k q in
             let w = first-least (λ x. atMost B k (x .key)) (below B) es e (both _ _ h .0) i (rw z (atMost-itself B L k)) in
             found (w .0) (w .1) z (w .2)
+
+    -- with e put in, the first at or above x is the one it was, or e, and then it was the first at or above e too
+    pub first-put : (e : En B) (x : B .Key) (es : Entries B)
+        → (atOrAbove x (put B e es) ≡ atOrAbove x es) ⊎ ((atOrAbove x (put B e es) ≡ some e) × (atOrAbove x es ≡ atOrAbove (e .key) es))
+    unfolding put first
+    first-put e x [] = go (atMost B x (e .key))
+      where
+        go : (b : Bool) → (_≡_ {A = Option (En B)} (cond b (some e) none) none) ⊎ ((_≡_ {A = Option (En B)} (cond b (some e) none) (some e)) × (_≡_ {A = Option (En B)} none none))
+        go true = inr (refl, refl)
+        go false = inl refl
+    first-put e x (y ∷ ys) = go (atMost B (e .key) (y .key)) (atMost B x (e .key)) (atMost B x (y .key)) refl refl refl (first-put e x ys)
+      where
+        go : (b c d : Bool) → atMost B (e .key) (y .key) ≡ b → atMost B x (e .key) ≡ c → atMost B x (y .key) ≡ d
+            → (atOrAbove x (put B e ys) ≡ atOrAbove x ys) ⊎ ((atOrAbove x (put B e ys) ≡ some e) × (atOrAbove x ys ≡ atOrAbove (e .key) ys))
+            → (atOrAbove x (cond b (e ∷ y ∷ ys) (y ∷ put B e ys)) ≡ cond d (some y) (atOrAbove x ys))
+              ⊎ ((atOrAbove x (cond b (e ∷ y ∷ ys) (y ∷ put B e ys)) ≡ some e) × (cond d (some y) (atOrAbove x ys) ≡ cond b (some y) (atOrAbove (e .key) ys)))
+        go true true true p q r h = inr (rw q, refl)
+        go true true false p q r h = absurd (true≢false (sym (atMost-along B L x (e .key) (y .key) q p) ∙ r))
+        go true false d p q r h = inl (rw (q, r))
+        go false c true p q r h = inl (rw r)
+        go false c false p q r h = ⊎-elim (λ k. inl (rw r k)) (λ k. inr (rw r (k .0), k .1)) h

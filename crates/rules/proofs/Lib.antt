@@ -9,5 +9,6 @@ pub mod Index
 pub mod LockTable
 pub mod Did
 pub mod Sound
+pub mod Unblocked
 pub mod GoodKept
 pub mod Orders

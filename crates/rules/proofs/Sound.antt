@@ -43,23 +43,23 @@ module _ (B : Book) where
     pub owners : (e : En B) → In e es → OwnerHolds r ls e
     pub settled : (e : En B) → In e es → e .owner ≡ 0 → Settled B e
 
+  -- more may run
+  pub sound-more : (r r′ : ℕ → Bool) (es : Entries B) (ls : Slots B) → ((u : ℕ) → r u ≡ true → r′ u ≡ true) → Sound r es ls → Sound r′ es ls
+  sound-more r r′ es ls f h = record {
+    slots = h .slots;
+    keys = h .keys;
+    modes = h .modes;
+    settled = h .settled;
+    names = λ l i. let w = h .names l i in (f (l .holder) (w .0), w .1);
+    owners = λ e i. ⊎-elim inl (λ w. inr (f (e .owner) (w .0), w .1)) (h .owners e i);
+  }
+
+  -- the owner of an entry that has one
+  pub owner-holds : (r : ℕ → Bool) (ls : Slots B) (e : En B) → OwnerHolds r ls e → (e .owner ≡ 0 → ⊥) → Held B ls (e .owner) (on (e .key)) X
+  owner-holds r ls e (inl z) n = absurd (n z)
+  owner-holds r ls e (inr w) n = w .1
+
   module _ (L : Ordered B) where
-    -- more may run
-    pub sound-more : (r r′ : ℕ → Bool) (es : Entries B) (ls : Slots B) → ((u : ℕ) → r u ≡ true → r′ u ≡ true) → Sound r es ls → Sound r′ es ls
-    sound-more r r′ es ls f h = record {
-      slots = h .slots;
-      keys = h .keys;
-      modes = h .modes;
-      settled = h .settled;
-      names = λ l i. let w = h .names l i in (f (l .holder) (w .0), w .1);
-      owners = λ e i. ⊎-elim inl (λ w. inr (f (e .owner) (w .0), w .1)) (h .owners e i);
-    }
-
-    -- the owner of an entry that has one
-    pub owner-holds : (r : ℕ → Bool) (ls : Slots B) (e : En B) → OwnerHolds r ls e → (e .owner ≡ 0 → ⊥) → Held B ls (e .owner) (on (e .key)) X
-    owner-holds r ls e (inl z) n = absurd (n z)
-    owner-holds r ls e (inr w) n = w .1
-
     -- a lock taken on an entry or the end, where nobody else holds against it
     pub sound-taken : (r : ℕ → Bool) (es : Entries B) (ls ls′ : Slots B) (t : ℕ) (n : Name (B .Key)) (m : Mode) → r t ≡ true → isName B es n ≡ true
         → Clear B ls t n m → taken B ls t n m ≡ some ls′ → Sound r es ls → Sound r es ls′
