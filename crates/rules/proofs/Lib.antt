@@ -11,4 +11,5 @@ pub mod Did
 pub mod Sound
 pub mod Unblocked
 pub mod GoodKept
+pub mod Cover
 pub mod Orders

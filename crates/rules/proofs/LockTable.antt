@@ -50,6 +50,10 @@ x-strong : (m : Mode) → isX m ≡ true → stronger m X ≡ m
 x-strong S h = absurd (false≢true h)
 x-strong X h = refl
 
+pub conflicts-x : (a : Mode) → conflict a X ≡ true
+conflicts-x S = refl
+conflicts-x X = refl
+
 pub x-conflicts : (a b : Mode) → stronger a X ≡ a → conflict a b ≡ true
 x-conflicts S b h = never (cc)
 x-conflicts X S h = refl
@@ -141,6 +145,9 @@ module _ (B : Book) where
   -- whoever holds n in a mode that goes not with m is t
   abbrev pub Clear : Slots B → ℕ → Name (B .Key) → Mode → Type 0
   Clear ls t n m = (l : Lk B) → In l (inUse ls) → l .name ≡ n → conflict (l .mode) m ≡ true → l .holder ≡ t
+
+  pub held-weaker : (ls : Slots B) (t : ℕ) (n : Name (B .Key)) (m : Mode) → Held ls t n m → Held ls t n S
+  held-weaker ls t n m h = record { lock = h .lock; stands = h .stands; holder = h .holder; name = h .name; strong = stronger-s (h .lock .mode) }
 
   -- taking a lock weakens none
   pub held-kept : (ls ls′ : Slots B) (t : ℕ) (n : Name (B .Key)) (m : Mode) → taken B ls t n m ≡ some ls′ → (u : ℕ) (p : Name (B .Key)) (x : Mode)
