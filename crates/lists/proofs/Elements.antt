@@ -3,12 +3,12 @@
 use Prim.Native.Nat.{ℕ, zero, suc}
 use mathlib.Core.Path.{_≡_, refl, sym, ap, subst, _∙_}
 use mathlib.Core.Logic.{_⊎_, inl, inr, ⊎-elim}
-use mathlib.Core.Bool.{Bool, true, false, cond, _&&_, _||_, false≢true, and-eq-true-iff}
+use mathlib.Core.Bool.{Bool, true, false, cond, _&&_, _||_, true≢false, false≢true, and-eq-true-iff}
 use mathlib.Core.List.{List, [], _∷_, _++_, map}
 use mathlib.Core.Option.{Option, none, some, Option·map}
 use native.Mathlib.Omega.{arith}
 use lib.ListN.{length}
-use Rattle.lists.specs.Lists.{orElse, all, any, keep, first, last, pairs, In, insertAt}
+use Rattle.lists.specs.Lists.{orElse, all, any, keep, first, last, pairs, isNil, In, insertAt}
 
 -- tests joined by && and ||
 pub both : (a b : Bool) → a && b ≡ true → (a ≡ true) × (b ≡ true)
@@ -29,6 +29,10 @@ pub or-right : (a b : Bool) → b ≡ true → a || b ≡ true
 or-right true b q = refl
 or-right false b q = q
 
+pub fails : (b : Bool) → (b ≡ true → ⊥) → b ≡ false
+fails true f = absurd (f refl)
+fails false f = refl
+
 -- what two different numbers being equal would give
 pub never {ℓ} : {A : Type ℓ} → _≡_ {A = ℕ} 0 1 → A
 never e = absurd (absurd-eq e)
@@ -37,6 +41,16 @@ never e = absurd (absurd-eq e)
     absurd-eq e = omega arith
 
 module _ {A : Type 0} where
+  -- the empty list
+  pub nil-is : (xs : List A) → isNil xs ≡ true → xs ≡ []
+  nil-is [] h = refl
+  nil-is (x ∷ xs) h = absurd (false≢true h)
+
+  pub append-nil : (xs ys : List A) → xs ++ ys ≡ [] → xs ≡ []
+  append-nil [] ys h = refl
+  append-nil (x ∷ xs) ys h = never (cc)
+
+  -- the elements, where all pass a test or some does
   pub all-in : (p : A → Bool) (xs : List A) (x : A) → all p xs ≡ true → In x xs → p x ≡ true
   unfolding all
   all-in p (y ∷ ys) x h (inl e) = subst (λ (z : A). p z ≡ true) e (both (p y) (all p ys) h .0)
@@ -61,11 +75,7 @@ module _ {A : Type 0} where
   in-any p (y ∷ ys) x (inr i) h = or-right (p y) (any p ys) (in-any p ys x i h)
 
   pub not-any : (p : A → Bool) (xs : List A) (x : A) → any p xs ≡ false → In x xs → p x ≡ false
-  not-any p xs x h i = go (p x) refl
-    where
-      go : (b : Bool) → p x ≡ b → b ≡ false
-      go true q = sym (in-any p xs x i q) ∙ h
-      go false q = refl
+  not-any p xs x h i = fails (p x) (λ q. true≢false (sym (in-any p xs x i q) ∙ h))
 
   -- the elements that are kept
   kept-one : (p : A → Bool) (x y : A) (ys : List A) (b : Bool) → p x ≡ b → In y (cond b (x ∷ ys) ys) → ((x ≡ y) × (p y ≡ true)) ⊎ In y ys
@@ -161,8 +171,8 @@ module _ {A : Type 0} where
   first-keep p q (x ∷ xs) f = go (p x) (q x) refl refl f (first-keep p q xs)
     where
       go : (b c : Bool) → p x ≡ b → q x ≡ c → ((y : A) → cond b (some x) (first p xs) ≡ some y → q y ≡ true)
-        → (((y : A) → first p xs ≡ some y → q y ≡ true) → first p (keep q xs) ≡ first p xs)
-        → first p (cond c (x ∷ keep q xs) (keep q xs)) ≡ cond b (some x) (first p xs)
+          → (((y : A) → first p xs ≡ some y → q y ≡ true) → first p (keep q xs) ≡ first p xs)
+          → first p (cond c (x ∷ keep q xs) (keep q xs)) ≡ cond b (some x) (first p xs)
       go true true d e g h = rw d
       go true false d e g h = absurd (false≢true (sym e ∙ g x refl))
       go false true d e g h = rw d (h g)
@@ -211,7 +221,7 @@ module _ {A B : Type 0} where
   first-map f p q (x ∷ xs) g = go (p x) refl (first-map f p q xs g)
     where
       go : (b : Bool) → p x ≡ b → first q (map f xs) ≡ Option·map f (first p xs)
-        → cond (q (f x)) (some (f x)) (first q (map f xs)) ≡ Option·map f (cond b (some x) (first p xs))
+          → cond (q (f x)) (some (f x)) (first q (map f xs)) ≡ Option·map f (cond b (some x) (first p xs))
       go true e h = rw (g x ∙ e)
       go false e h = rw (g x ∙ e) h
 

@@ -4,12 +4,12 @@ use Prim.Native.Nat.{ℕ}
 use mathlib.Core.Path.{_≡_, refl, ap, subst, _∙_}
 use mathlib.Core.Logic.{inl, inr}
 use mathlib.Core.Bool.{Bool, true, false, cond, not, _&&_}
-use mathlib.Core.List.{List, [], _∷_, _++_, map}
+use mathlib.Core.List.{List, [], _∷_, _++_}
 use mathlib.Core.Option.{Option, none, some}
 use lib.Dec.{eqb}
 use borrow.Author.Tests.{eqb-true}
 use Rattle.lists.specs.Lists.{keep, In}
-use Rattle.lists.proofs.Elements.{never, keep-in, first-in, map-in}
+use Rattle.lists.proofs.Elements.{never, append-nil, keep-in, first-in, map-in}
 use Rattle.rules.specs.Kinds.{Book, Ordered, Mode, S, X, Name, on, Ask, read, insert, delete}
 use Rattle.rules.specs.Entries.{Entries, same, inserted, deleted, revived, put, changed}
 use Rattle.rules.specs.Locks.{Slots, inUse, conflict, sameName, taken, target, named, itself, mode, Want, wanted, holders, blockers}
@@ -18,7 +18,7 @@ use Rattle.rules.specs.Runs.{done, isPresent, nothing, locksShort, pages
 use Rattle.rules.specs.Good.{Lk, isName}
 use Rattle.rules.proofs.Keys.{same-itself, name-itself}
 use Rattle.rules.proofs.Index.{atOrAbove, in-name}
-use Rattle.rules.proofs.LockTable.{Clear}
+use Rattle.rules.proofs.LockTable.{Clear, Took, taken-took}
 
 module _ (B : Book) where
   -- a target is an entry or the end
@@ -36,19 +36,25 @@ module _ (B : Book) where
       go none h = refl
       go (some e) h = in-name B es e (e .key) (target-in es (q .asker) (q .asks) e h) (same-itself B L (e .key))
 
+  -- what became of a request that ran
   pub data Did (s : St B) (q : Q B) : Ran B → Type 0 where
+    -- 17 or 18: nothing is done
     refused : (m : Sy B) → Did s q (unmoved B s m)
-    looked : (m : Sy B) (ls : Slots B) → taken B (s .slots) (q .asker) (wanted B (s .entries) q .name) (wanted B (s .entries) q .mode) ≡ some ls
+    -- 1, 2 or 16: the target's lock is taken
+    looked : (m : Sy B) (ls : Slots B) → Took B (s .slots) ls (q .asker) (wanted B (s .entries) q .name) (wanted B (s .entries) q .mode)
         → Did s q (locked B s m ls)
+    -- 0 to an insert of a missing key: X on the key, the target's lock only for the instant
     putIn : (k : B .Key) (r : B .Rec) (ls : Slots B) → q .asks ≡ insert k r → itself B k (atOrAbove B k (s .entries)) ≡ none
         → wanted B (s .entries) q ≡ record { name = named B (atOrAbove B k (s .entries)); mode = X }
-        → taken B (s .slots) (q .asker) (on k) X ≡ some ls
+        → Took B (s .slots) ls (q .asker) (on k) X
         → Did s q (record { says = done; entries = put B (inserted (q .asker) k r) (s .entries); pages = B .paging .grown (s .pages) k; slots = ls })
+    -- 0 to an insert over a ghost
     broughtBack : (e : En B) (r : B .Rec) (ls : Slots B) → target B (s .entries) (q .asker) (q .asks) ≡ some e → e .now ≡ none
-        → wanted B (s .entries) q ≡ record { name = on (e .key); mode = S } → taken B (s .slots) (q .asker) (on (e .key)) S ≡ some ls
+        → wanted B (s .entries) q ≡ record { name = on (e .key); mode = S } → Took B (s .slots) ls (q .asker) (on (e .key)) S
         → Did s q (record { says = done; entries = changed B (e .key) (revived (q .asker) r) (s .entries); pages = s .pages; slots = ls })
+    -- 0 to a delete
     tookAway : (e : En B) (ls : Slots B) → target B (s .entries) (q .asker) (q .asks) ≡ some e
-        → wanted B (s .entries) q ≡ record { name = on (e .key); mode = X } → taken B (s .slots) (q .asker) (on (e .key)) X ≡ some ls
+        → wanted B (s .entries) q ≡ record { name = on (e .key); mode = X } → Took B (s .slots) ls (q .asker) (on (e .key)) X
         → Did s q (record { says = done; entries = changed B (e .key) (deleted (q .asker)) (s .entries); pages = s .pages; slots = ls })
 
   itself-is : (k : B .Key) (x : Option (En B)) (e : En B) → itself B k x ≡ some e → x ≡ some e
@@ -61,19 +67,19 @@ module _ (B : Book) where
 
   module _ (s : St B) (t : ℕ) where
     did-taking : (q : Q B) (n : Name (B .Key)) (m : Mode) (f : Slots B → Ran B)
-        → ((ls : Slots B) → taken B (s .slots) t n m ≡ some ls → Did s q (f ls)) → Did s q (taking B s t n m f)
+        → ((ls : Slots B) → Took B (s .slots) ls t n m → Did s q (f ls)) → Did s q (taking B s t n m f)
     did-taking q n m f g = go (taken B (s .slots) t n m) refl
       where
         go : (o : Option (Slots B)) → taken B (s .slots) t n m ≡ o → Did s q (given B s f o)
         go none e = refused locksShort
-        go (some ls) e = g ls e
+        go (some ls) e = g ls (taken-took B (s .slots) ls t n m e)
 
     did-insert : (k : B .Key) (r : B .Rec) (o : Option (En B)) → itself B k (atOrAbove B k (s .entries)) ≡ o
         → Did s (record { asker = t; asks = insert k r }) (insertAs B s t k r o)
     unfolding insertAs insertMissing insertThere wanted target mode
     did-insert k r none n = did-taking _ (on k) X _ (λ ls h. go ls h (B .paging .fits (s .pages) k))
       where
-        go : (ls : Slots B) → taken B (s .slots) t (on k) X ≡ some ls → (b : Bool)
+        go : (ls : Slots B) → Took B (s .slots) ls t (on k) X → (b : Bool)
             → Did s (record { asker = t; asks = insert k r })
             (cond b (record { says = done; entries = put B (inserted t k r) (s .entries); pages = B .paging .grown (s .pages) k; slots = ls }) (unmoved B s pagesShort))
         go ls h true = putIn k r ls refl n (cc) h
@@ -83,7 +89,7 @@ module _ (B : Book) where
         x : atOrAbove B k (s .entries) ≡ some e
         x = itself-is k (atOrAbove B k (s .entries)) e n
 
-        go : (ls : Slots B) → taken B (s .slots) t (on (e .key)) S ≡ some ls → (o : Option (B .Rec)) → e .now ≡ o
+        go : (ls : Slots B) → Took B (s .slots) ls t (on (e .key)) S → (o : Option (B .Rec)) → e .now ≡ o
             → Did s (record { asker = t; asks = insert k r }) (insertThere B s t r e o ls)
         go ls h (some was) w = looked (isPresent (e .key) (some was)) ls (rw (n, x) h)
         go ls h none w = broughtBack e r ls x w (cc x) h
@@ -97,7 +103,7 @@ module _ (B : Book) where
         x : atOrAbove B k (s .entries) ≡ some e
         x = itself-is k (atOrAbove B k (s .entries)) e n
 
-        go : (ls : Slots B) → taken B (s .slots) t (on (e .key)) X ≡ some ls → (o : Option (B .Rec))
+        go : (ls : Slots B) → Took B (s .slots) ls t (on (e .key)) X → (o : Option (B .Rec))
             → Did s (record { asker = t; asks = delete k }) (deleteThere B s t e o ls)
         go ls h (some was) = tookAway e ls x (cc x) h
         go ls h none = looked nothing ls (rw (n, x) h)
@@ -125,10 +131,6 @@ module _ (B : Book) where
   unfolding waits
   waits-in s w i = waits-from (s .entries) (s .slots) [] (s .queue) w i .0
 
-  no-front : {A : Type 0} (xs ys : List A) → xs ++ ys ≡ [] → xs ≡ []
-  no-front [] ys h = refl
-  no-front (x ∷ xs) ys h = never (cc)
-
   -- "if U holds the target in a conflicting mode": where nobody blocks, nobody else does
   no-holder : (L : Ordered B) (ls : Slots B) (t : ℕ) (w : Want B) → holders B ls t w ≡ [] → Clear B ls t (w .name) (w .mode)
   unfolding holders
@@ -140,13 +142,12 @@ module _ (B : Book) where
       go : (b : Bool) → eqb (l .holder) t ≡ b → l .holder ≡ t
       go true q = eqb-true (l .holder) t q
       go false q =
-          let o : In (l .holder) (map (λ l. l .holder) (keep stands (inUse ls))) =
-          map-in (λ l. l .holder) (keep stands (inUse ls)) l (keep-in stands (inUse ls) l i (rw (q, e, name-itself B L (w .name)) c)) in
-          absurd (subst (λ (ks : List ℕ). In (l .holder) ks) n o)
+          let k : In l (keep stands (inUse ls)) = keep-in stands (inUse ls) l i (rw (q, e, name-itself B L (w .name)) c) in
+          absurd (subst (λ (ks : List ℕ). In (l .holder) ks) n (map-in (λ l. l .holder) (keep stands (inUse ls)) l k))
 
   pub unblocked : (L : Ordered B) (s : St B) (w : Wait B) → In w (waits B s) → w .behind ≡ []
       → Clear B (s .slots) (w .request .asker) (wanted B (s .entries) (w .request) .name) (wanted B (s .entries) (w .request) .mode)
   unfolding waits blockers
   unblocked L s w i n =
       no-holder L (s .slots) (w .request .asker) (wanted B (s .entries) (w .request))
-      (no-front _ _ (waits-from (s .entries) (s .slots) [] (s .queue) w i .1 .1 ∙ n))
+      (append-nil _ _ (waits-from (s .entries) (s .slots) [] (s .queue) w i .1 .1 ∙ n))

@@ -13,7 +13,7 @@ use lib.Seq.{getD-set-same, getD-set-other}
 use borrow.Author.Tests.{eqb-true, eqb-false, eq-eqb, ne-eqb, leb-true, not-true}
 use Rattle.lists.specs.Lists.{all, pairs, In}
 use Rattle.lists.proofs.Elements.{both, and, or-left, or-right, in-all, not-any, in-keep, pairs-keep, pairs-insert, in-insert, insert-end}
-use Rattle.rules.specs.Kinds.{Book, Ordered, on, Ask, Request, begin, commit, rollback, ask, Mark, idle, running}
+use Rattle.rules.specs.Kinds.{Book, Ordered, on, Ask, Mark, idle, running}
 use Rattle.rules.specs.Entries.{committed, rolledBack}
 use Rattle.rules.specs.Locks.{inUse}
 use Rattle.rules.specs.Queue.{St, Q, leave}
@@ -21,9 +21,9 @@ use Rattle.rules.specs.Runs.{circle, En, Ran, unmoved, left, run}
 use Rattle.rules.specs.Desk.{isRunning, runs, waitsNow, begun, ended, joined, step, isTransaction, legalAsk, legalRequest, Call, legalCall, fresh, after}
 use Rattle.rules.specs.Good.{ascending, lockStands, ownerHolds, queueStands, otherAsker, Good}
 use Rattle.rules.proofs.LockTable.{held-holdsX}
-use Rattle.rules.proofs.Sound.{Settles, Sound, sound-more, sound-ended}
+use Rattle.rules.proofs.Sound.{Settles, committed-settles, rolledBack-settles, Sound, sound-more, sound-ended}
 use Rattle.rules.proofs.Did.{run-did}
-use Rattle.rules.proofs.Keeps.{Kept, MayEnd, step-keeps, after-keeps}
+use Rattle.rules.proofs.Keeps.{Kept, Anyone, anyone-may, step-keeps, after-keeps}
 use Rattle.rules.proofs.Unblocked.{good-sound, Queues, good-queues, did-sound}
 
 module _ (B : Book) (L : Ordered B) where
@@ -105,29 +105,20 @@ module _ (B : Book) (L : Ordered B) where
       other : (q : Q B) → In q (s .queue) → eqb (q .asker) t ≡ false
       other q i = not-any (λ p. eqb (p .asker) t) (s .queue) q w i
 
-  abbrev pub everyone : ℕ → Type 0
-  everyone t = Unit {0}
-
-  pub good-kept : Kept B everyone (Good B)
+  pub good-kept : Kept B (Anyone B) (Good B)
   good-kept = record {
     begins = λ s t h r g. begun-good s t g h;
     joins = λ s t a r w l g. joined-good s t a r w l g;
-    commits = λ s t o h r g. ended-good s t g h committed (record { key = λ e. refl; owner = λ e. refl; equal = λ e. refl });
-    rollsBack = λ s t o h r g. ended-good s t g h rolledBack (record { key = λ e. refl; owner = λ e. refl; equal = λ e. refl });
+    commits = λ s t o h r g. ended-good s t g h committed (committed-settles B);
+    rollsBack = λ s t o h r g. ended-good s t g h rolledBack (rolledBack-settles B);
     goes = λ s w i n g. left-good s (w .request) (run B s (w .request)) g (did-sound B L s w i n g (run B s (w .request)) (run-did B s (w .request)));
     givesWay = λ s w i g. left-good s (w .request) (unmoved B s circle) g (good-sound B L s g);
   }
 
-  may-end : (t : ℕ) (r : Request (B .Key) (B .Rec)) → MayEnd B everyone t r
-  may-end t begin = tt
-  may-end t commit = tt
-  may-end t rollback = tt
-  may-end t (ask a) = tt
-
   pub step-good : (s : St B) (c : Call B) → legalCall B c ≡ true → Good B s → Good B (step B s (c .asker) (c .request) .state)
   step-good s c l g =
       let b : (isTransaction B (c .asker) ≡ true) × (legalRequest B (c .request) ≡ true) = both _ _ l in
-      step-keeps B everyone (Good B) good-kept s (c .asker) (c .request) (b .0) (b .1) (may-end (c .asker) (c .request)) g
+      step-keeps B (Anyone B) (Good B) good-kept s (c .asker) (c .request) (b .0) (b .1) (anyone-may B (c .asker) (c .request)) g
 
   -- no lock, no entry, nobody runs
   free-none : (n : ℕ) → inUse {K = B .Key} (replicate n none) ≡ []
@@ -150,4 +141,4 @@ module _ (B : Book) (L : Ordered B) where
 
   -- whatever was asked since the start
   pub after-good : (cs : List (Call B)) → Good B (after B (fresh B) cs)
-  after-good cs = after-keeps B everyone (Good B) good-kept (fresh B) cs (λ c i. may-end (c .asker) (c .request)) fresh-good
+  after-good cs = after-keeps B (Anyone B) (Good B) good-kept (fresh B) cs (λ c i. anyone-may B (c .asker) (c .request)) fresh-good

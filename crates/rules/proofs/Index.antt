@@ -10,7 +10,7 @@ use mathlib.Core.Option.{Option, none, some, Option·map}
 use lib.Dec.{eqb}
 use borrow.Author.Tests.{not-true}
 use Rattle.lists.specs.Lists.{all, keep, first, pairs, In, join, insertAt}
-use Rattle.lists.proofs.Elements.{both, and, never, all-in, in-all, any-in, in-any, in-keep, keep-in, first-in, pairs-split, pairs-cons, pairs-keep, first-least, first-keep, first-map, in-insert, insert-in, in-map, map-in, pairs-map}
+use Rattle.lists.proofs.Elements.{both, and, fails, never, all-in, in-all, any-in, in-any, in-keep, keep-in, first-in, pairs-split, pairs-cons, pairs-keep, first-least, first-keep, first-map, in-insert, insert-in, in-map, map-in, pairs-map}
 use Rattle.rules.specs.Kinds.{Book, Ordered, Entry, Name, on, end}
 use Rattle.rules.specs.Entries.{Entries, atMost, same, present, left, settled, takenOut, put, changed}
 use Rattle.rules.specs.Locks.{named, itself}
@@ -73,7 +73,7 @@ module _ (B : Book) where
   atOrAbove k es = first (λ e. atMost B k (e .key)) es
 
   -- put, as an insertion
-  pub put-place : (e : En B) (es : Entries B) → (i : ℕ) × (put B e es ≡ insertAt i e es)
+  put-place : (e : En B) (es : Entries B) → (i : ℕ) × (put B e es ≡ insertAt i e es)
   unfolding put insertAt
   put-place e [] = (0, refl)
   put-place e (x ∷ xs) = go (atMost B (e .key) (x .key)) (put-place e xs)
@@ -156,7 +156,7 @@ module _ (B : Book) where
   pub first-settled : (f : En B → En B) (t : ℕ) (x : B .Key) (es : Entries B) → ((e : En B) → f e .key ≡ e .key)
       → ((e : En B) → atOrAbove x es ≡ some e → eqb (e .owner) t ≡ false) → atOrAbove x (settled f t es) ≡ atOrAbove x es
   first-settled f t x es g h = rw (settled-is f t es)
-    (first-map (settledOne f t) _ _ (keep (stays f t) es) (λ e. rw (kept-key f g (eqb (e .owner) t) e))
+      (first-map (settledOne f t) _ _ (keep (stays f t) es) (λ e. rw (kept-key f g (eqb (e .owner) t) e))
       ∙ ap (Option·map (settledOne f t)) (first-keep _ (stays f t) es (λ e q. rw (h e q)))
       ∙ unmapped (settledOne f t) (atOrAbove x es) (λ e q. rw (h e q)))
 
@@ -176,24 +176,16 @@ module _ (B : Book) where
         let w = name-in es j h in
         in-name (changed B k f es) _ j (map-in (λ e. cond (same B (e .key) k) (f e) e) es (w .0) (w .1)) (rw (kept-key f g (same B (w .0 .key) k) (w .0) ∙ w .2) (same-itself B L j))
 
-    -- e at or below x and not x's key, x below y: e is below y
+    -- e at or below x: below what x is below, and below x itself where the keys differ
     below-along : (e x y : En B) → atMost B (e .key) (x .key) ≡ true → below B x y ≡ true → below B e y ≡ true
-    below-along e x y p q = go (atMost B (y .key) (e .key)) refl
-      where
-        go : (b : Bool) → atMost B (y .key) (e .key) ≡ b → not b ≡ true
-        go true h = rw (atMost-along B L (y .key) (e .key) (x .key) h p) at q
-        go false h = refl
+    below-along e x y p q =
+        ap not (fails (atMost B (y .key) (e .key)) (λ h. false≢true (rw (atMost-along B L (y .key) (e .key) (x .key) h p) at q)))
 
     below-other : (e x : En B) → atMost B (e .key) (x .key) ≡ true → same B (x .key) (e .key) ≡ false → below B e x ≡ true
-    below-other e x p q = go (atMost B (x .key) (e .key)) refl
-      where
-        go : (b : Bool) → atMost B (x .key) (e .key) ≡ b → not b ≡ true
-        go true h =
-            let z : x .key ≡ e .key = atMost-equal B L (x .key) (e .key) h p in
-            absurd (true≢false (sym (same-itself B L (e .key)) ∙ (rw z at q)))
-        go false h = refl
+    below-other e x p q =
+        ap not (fails (atMost B (x .key) (e .key)) (λ h. true≢false (sym (same-itself B L (e .key)) ∙ (rw (atMost-equal B L (x .key) (e .key) h p) at q))))
 
-    pub pairs-put : (e : En B) (es : Entries B) → ((x : En B) → In x es → same B (x .key) (e .key) ≡ false) → pairs (below B) es ≡ true
+    pairs-put : (e : En B) (es : Entries B) → ((x : En B) → In x es → same B (x .key) (e .key) ≡ false) → pairs (below B) es ≡ true
         → pairs (below B) (put B e es) ≡ true
     unfolding put
     pairs-put e [] m h = pairs-cons (below B) e [] (λ y i. absurd i) h
@@ -222,20 +214,16 @@ module _ (B : Book) where
     pub missing : (es : Entries B) (k : B .Key) → ascending B es ≡ true → itself B k (atOrAbove k es) ≡ none
         → (e : En B) → In e es → same B (e .key) k ≡ false
     unfolding ascending
-    missing es k h n e i = go (same B (e .key) k) refl
+    missing es k h n e i = fails (same B (e .key) k) (λ q.
+        let z : e .key ≡ k = same-equal B L (e .key) k q in
+        let w = first-least (λ x. atMost B k (x .key)) (below B) es e (both _ _ h .0) i (rw z (atMost-itself B L k)) in
+        found (w .0) (w .1) z (w .2))
       where
-        found : (x : En B) → atOrAbove k es ≡ some x → e .key ≡ k → (x ≡ e) ⊎ (below B x e ≡ true) → true ≡ false
+        found : (x : En B) → atOrAbove k es ≡ some x → e .key ≡ k → (x ≡ e) ⊎ (below B x e ≡ true) → ⊥
         found x d z (inl y) =
             let r : same B (x .key) k ≡ true = rw (y, z) (same-itself B L k) in
             let c : itself B k (some x) ≡ none = rw d at n in never (cc)
-        found x d z (inr r) = sym (rw (z, first-in (λ x. atMost B k (x .key)) es x d .1) at r)
-
-        go : (b : Bool) → same B (e .key) k ≡ b → b ≡ false
-        go false q = refl
-        go true q =
-            let z : e .key ≡ k = same-equal B L (e .key) k q in
-            let w = first-least (λ x. atMost B k (x .key)) (below B) es e (both _ _ h .0) i (rw z (atMost-itself B L k)) in
-            found (w .0) (w .1) z (w .2)
+        found x d z (inr r) = false≢true (rw (z, first-in (λ x. atMost B k (x .key)) es x d .1) at r)
 
     -- with e put in, the first at or above x is the one it was, or e, and then it was the first at or above e too
     pub first-put : (e : En B) (x : B .Key) (es : Entries B)
@@ -251,7 +239,7 @@ module _ (B : Book) where
         go : (b c d : Bool) → atMost B (e .key) (y .key) ≡ b → atMost B x (e .key) ≡ c → atMost B x (y .key) ≡ d
             → (atOrAbove x (put B e ys) ≡ atOrAbove x ys) ⊎ ((atOrAbove x (put B e ys) ≡ some e) × (atOrAbove x ys ≡ atOrAbove (e .key) ys))
             → (atOrAbove x (cond b (e ∷ y ∷ ys) (y ∷ put B e ys)) ≡ cond d (some y) (atOrAbove x ys))
-              ⊎ ((atOrAbove x (cond b (e ∷ y ∷ ys) (y ∷ put B e ys)) ≡ some e) × (cond d (some y) (atOrAbove x ys) ≡ cond b (some y) (atOrAbove (e .key) ys)))
+            ⊎ ((atOrAbove x (cond b (e ∷ y ∷ ys) (y ∷ put B e ys)) ≡ some e) × (cond d (some y) (atOrAbove x ys) ≡ cond b (some y) (atOrAbove (e .key) ys)))
         go true true true p q r h = inr (rw q, refl)
         go true true false p q r h = absurd (true≢false (sym (atMost-along B L x (e .key) (y .key) q p) ∙ r))
         go true false d p q r h = inl (rw (q, r))

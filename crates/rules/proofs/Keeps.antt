@@ -3,12 +3,12 @@
 use Prim.Native.Nat.{ℕ, zero, suc}
 use mathlib.Core.Path.{_≡_, refl, subst}
 use mathlib.Core.Logic.{inl, inr}
-use mathlib.Core.Bool.{Bool, true, false, cond, false≢true}
+use mathlib.Core.Bool.{Bool, true, false, cond}
 use mathlib.Core.List.{List, [], _∷_}
 use mathlib.Core.Option.{Option, none, some}
 use lib.ListN.{length}
 use Rattle.lists.specs.Lists.{In, isNil}
-use Rattle.lists.proofs.Elements.{both, never, first-in, last-in}
+use Rattle.lists.proofs.Elements.{both, never, nil-is, first-in, last-in}
 use Rattle.rules.specs.Kinds.{Book, Ask, Request, begin, commit, rollback, ask}
 use Rattle.rules.specs.Entries.{committed, rolledBack}
 use Rattle.rules.specs.Queue.{St, Wait, waits, oldest, newest}
@@ -33,9 +33,15 @@ module _ (B : Book) where
   MayEnd Ends t rollback = Ends t
   MayEnd Ends t (ask a) = Unit {0}
 
-  is-nil : {A : Type 0} (xs : List A) → isNil xs ≡ true → xs ≡ []
-  is-nil [] h = refl
-  is-nil (x ∷ xs) h = absurd (false≢true h)
+  -- no end left out
+  abbrev pub Anyone : ℕ → Type 0
+  Anyone t = Unit {0}
+
+  pub anyone-may : (t : ℕ) (r : Request (B .Key) (B .Rec)) → MayEnd Anyone t r
+  anyone-may t begin = tt
+  anyone-may t commit = tt
+  anyone-may t rollback = tt
+  anyone-may t (ask a) = tt
 
   module _ (Ends : ℕ → Type 0) (P : St B → Type 0) (K : Kept Ends P) where
     pub turn-keeps : (s : St B) (o : Turn B) → turn B s ≡ some o → P s → P (o .state)
@@ -53,7 +59,7 @@ module _ (B : Book) where
         by-oldest (some w) q e =
             let z : left B s (w .request) (run B s (w .request)) ≡ o = cc in
             let i : In w (waits B s) × (isNil (w .behind) ≡ true) = first-in _ (waits B s) w q in
-            subst (λ (u : Turn B). P (u .state)) z (K .goes s w (i .0) (is-nil (w .behind) (i .1)) p)
+            subst (λ (u : Turn B). P (u .state)) z (K .goes s w (i .0) (nil-is (w .behind) (i .1)) p)
 
     pub turns-keep : (n : ℕ) (s : St B) → P s → P (turns B n s .state)
     unfolding turns

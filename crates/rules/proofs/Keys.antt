@@ -2,7 +2,7 @@
 -- answers that a comparison gives. Assumes nothing.
 use Prim.Native.Nat.{Ordering, Ordering·lt, Ordering·eq, Ordering·gt}
 use mathlib.Core.Path.{_≡_, refl, sym, ap, _∙_}
-use mathlib.Core.Bool.{true, false, true≢false, false≢true}
+use mathlib.Core.Bool.{true, false≢true}
 use lib.Dec.{isLe, isEq}
 use Rattle.rules.specs.Kinds.{Book, Ordered, Name, on, end}
 use Rattle.rules.specs.Entries.{atMost, same}
@@ -22,14 +22,6 @@ module _ (B : Book) (L : Ordered B) where
 
   pub atMost-itself : (a : B .Key) → atMost B a a ≡ true
   atMost-itself a = ap isLe (L .itself a)
-
-  pub atMost-else : (a b : B .Key) → atMost B a b ≡ false → atMost B b a ≡ true
-  atMost-else a b h = go (B .compare a b) refl h
-    where
-      go : (o : Ordering) → B .compare a b ≡ o → isLe o ≡ false → atMost B b a ≡ true
-      go Ordering·lt e h = absurd (true≢false h)
-      go Ordering·eq e h = absurd (true≢false h)
-      go Ordering·gt e h = ap isLe (L .above a b e)
 
   pub atMost-equal : (a b : B .Key) → atMost B a b ≡ true → atMost B b a ≡ true → a ≡ b
   atMost-equal a b h k = go (B .compare a b) refl h

@@ -2,7 +2,7 @@
 -- released. A lock raised is a map of the locks in use, one added an insertion, a release keeps the others'. Assumes nothing.
 use Prim.Native.Nat.{ℕ, suc}
 use mathlib.Core.Path.{_≡_, refl, sym, ap, ap₂, subst, _∙_}
-use mathlib.Core.Logic.{_⊎_, inl, inr, ⊎-elim}
+use mathlib.Core.Logic.{_⊎_, inl, inr}
 use mathlib.Core.Bool.{Bool, true, false, cond, not, _&&_, _||_, true≢false, false≢true}
 use mathlib.Core.List.{List, [], _∷_, map}
 use mathlib.Core.Option.{Option, none, some}
@@ -10,7 +10,7 @@ use lib.Dec.{eqb}
 use lib.ListN.{length, length-map}
 use borrow.Author.Tests.{eqb-true, eqb-false, eq-eqb, ne-eqb, not-true}
 use Rattle.lists.specs.Lists.{keep, pairs, In, insertAt}
-use Rattle.lists.proofs.Elements.{both, and, never, any-in, in-any, not-any, in-keep, keep-in, pairs-in, pairs-keep, pairs-insert, in-insert, insert-in, in-map, map-in, pairs-map}
+use Rattle.lists.proofs.Elements.{both, and, fails, never, any-in, in-any, not-any, in-keep, keep-in, pairs-in, pairs-keep, pairs-insert, in-insert, insert-in, in-map, map-in, pairs-map}
 use Rattle.rules.specs.Kinds.{Book, Ordered, Mode, S, X, Name}
 use Rattle.rules.specs.Locks.{Slots, conflict, stronger, inUse, sameName, isOf, holds, raised, behind, added, taken, freed, released}
 use Rattle.rules.specs.Good.{Lk, isX, together, holdsX}
@@ -60,79 +60,70 @@ x-conflicts X S h = refl
 x-conflicts X X h = refl
 
 module _ (B : Book) where
-  -- the locks in use
+  abbrev pub lockOf : ℕ → Name (B .Key) → Mode → Lk B
+  lockOf t n m = record { name = n; holder = t; mode = m }
+
+  -- t's lock on n strengthened, any other as it is
   abbrev pub raise : ℕ → Name (B .Key) → Mode → Lk B → Lk B
   raise t n m l = record { name = l .name; holder = l .holder; mode = cond (isOf B t n l) (stronger (l .mode) m) (l .mode) }
 
+  abbrev pub isOthers : ℕ → Lk B → Bool
+  isOthers t l = not (eqb (l .holder) t)
+
+  -- the locks in use, after each thing that is done to the slots
   raised-is : (t : ℕ) (n : Name (B .Key)) (m : Mode) (ls : Slots B) → inUse (map (raised B t n m) ls) ≡ map (raise t n m) (inUse ls)
   unfolding inUse
   raised-is t n m [] = refl
   raised-is t n m (none ∷ ls) = raised-is t n m ls
   raised-is t n m (some l ∷ ls) = ap₂ (λ (k : Lk B) (ks : List (Lk B)). k ∷ ks) (go (isOf B t n l)) (raised-is t n m ls)
     where
-      go : (b : Bool) → cond b (record { name = l .name; holder = l .holder; mode = stronger (l .mode) m }) l
-          ≡ record { name = l .name; holder = l .holder; mode = cond b (stronger (l .mode) m) (l .mode) }
+      go : (b : Bool) → cond b (lockOf (l .holder) (l .name) (stronger (l .mode) m)) l
+          ≡ lockOf (l .holder) (l .name) (cond b (stronger (l .mode) m) (l .mode))
       go true = refl
       go false = refl
 
-  added-is : (l : Lk B) (ls ls′ : Slots B) → added B l ls ≡ some ls′ → (i : ℕ) × (inUse ls′ ≡ insertAt i l (inUse ls))
+  added-is : (l : Lk B) (ls ls′ : Slots B) → added B l ls ≡ some ls′ → (length ls′ ≡ length ls) × ((i : ℕ) × (inUse ls′ ≡ insertAt i l (inUse ls)))
   unfolding inUse added insertAt
   added-is l [] ls′ h = never (cc)
-  added-is l (none ∷ ls) ls′ h = let z : some l ∷ ls ≡ ls′ = cc in (0, rw (← z))
-  added-is l (some x ∷ ls) ls′ h = go (added B l ls) refl h (added-is l ls)
+  added-is l (none ∷ ls) ls′ h = let z : some l ∷ ls ≡ ls′ = cc in (rw (← z), (0, rw (← z)))
+  added-is l (some x ∷ ls) ls′ h = go (added B l ls) h (added-is l ls)
     where
-      go : (o : Option (Slots B)) → added B l ls ≡ o → behind B (some x) o ≡ some ls′
-          → ((ms : Slots B) → added B l ls ≡ some ms → (i : ℕ) × (inUse ms ≡ insertAt i l (inUse ls))) → (i : ℕ) × (inUse ls′ ≡ insertAt i l (x ∷ inUse ls))
-      go none q e f = never (cc)
-      go (some ms) q e f =
-          let z : some x ∷ ms ≡ ls′ = cc in let w = f ms q in (suc (w .0), rw (← z) (ap (λ (ks : List (Lk B)). x ∷ ks) (w .1)))
+      go : (o : Option (Slots B)) → behind B (some x) o ≡ some ls′
+          → ((ms : Slots B) → o ≡ some ms → (length ms ≡ length ls) × ((i : ℕ) × (inUse ms ≡ insertAt i l (inUse ls))))
+          → (length ls′ ≡ suc (length ls)) × ((i : ℕ) × (inUse ls′ ≡ insertAt i l (x ∷ inUse ls)))
+      go none e f = never (cc)
+      go (some ms) e f =
+          let z : some x ∷ ms ≡ ls′ = cc in
+          let w = f ms refl in
+          (rw (← z) (ap suc (w .0)), (suc (w .1 .0), rw (← z) (ap (λ (ks : List (Lk B)). x ∷ ks) (w .1 .1))))
 
-  added-length : (l : Lk B) (ls ls′ : Slots B) → added B l ls ≡ some ls′ → length ls′ ≡ length ls
-  unfolding added
-  added-length l [] ls′ h = never (cc)
-  added-length l (none ∷ ls) ls′ h = let z : some l ∷ ls ≡ ls′ = cc in rw (← z)
-  added-length l (some x ∷ ls) ls′ h = go (added B l ls) refl h (added-length l ls)
-    where
-      go : (o : Option (Slots B)) → added B l ls ≡ o → behind B (some x) o ≡ some ls′
-          → ((ms : Slots B) → added B l ls ≡ some ms → length ms ≡ length ls) → length ls′ ≡ suc (length ls)
-      go none q e f = never (cc)
-      go (some ms) q e f = let z : some x ∷ ms ≡ ls′ = cc in rw (← z) (ap suc (f ms q))
-
-  pub released-is : (t : ℕ) (ls : Slots B) → inUse (released B t ls) ≡ keep (λ l. not (eqb (l .holder) t)) (inUse ls)
+  released-is : (t : ℕ) (ls : Slots B) → inUse (released B t ls) ≡ keep (isOthers t) (inUse ls)
   unfolding inUse released keep
   released-is t [] = refl
   released-is t (none ∷ ls) = released-is t ls
-  released-is t (some l ∷ ls) = go (eqb (l .holder) t) refl (released-is t ls)
+  released-is t (some l ∷ ls) = go (eqb (l .holder) t) (released-is t ls)
     where
-      go : (b : Bool) → eqb (l .holder) t ≡ b → inUse (released B t ls) ≡ keep (λ l. not (eqb (l .holder) t)) (inUse ls)
-          → inUse (cond b none (some l) ∷ released B t ls) ≡ cond (not b) (l ∷ keep (λ l. not (eqb (l .holder) t)) (inUse ls)) (keep (λ l. not (eqb (l .holder) t)) (inUse ls))
-      go true q h = h
-      go false q h = ap (λ (ks : List (Lk B)). l ∷ ks) h
-
-  pub released-length : (t : ℕ) (ls : Slots B) → length (released B t ls) ≡ length ls
-  unfolding released
-  released-length t ls = length-map ls (freed B t)
-
-  pub taken-length : (ls ls′ : Slots B) (t : ℕ) (n : Name (B .Key)) (m : Mode) → taken B ls t n m ≡ some ls′ → length ls′ ≡ length ls
-  unfolding taken
-  taken-length ls ls′ t n m h = go (holds B ls t n) h
-    where
-      go : (b : Bool) → cond b (some (map (raised B t n m) ls)) (added B (record { name = n; holder = t; mode = m }) ls) ≡ some ls′ → length ls′ ≡ length ls
-      go true e = let z : map (raised B t n m) ls ≡ ls′ = cc in rw (← z) (length-map ls (raised B t n m))
-      go false e = added-length (record { name = n; holder = t; mode = m }) ls ls′ e
+      go : (b : Bool) → inUse (released B t ls) ≡ keep (isOthers t) (inUse ls)
+          → inUse (cond b none (some l) ∷ released B t ls) ≡ cond (not b) (l ∷ keep (isOthers t) (inUse ls)) (keep (isOthers t) (inUse ls))
+      go true h = h
+      go false h = ap (λ (ks : List (Lk B)). l ∷ ks) h
 
   -- a lock taken: t's lock on n raised where it stands, or a new one put in
-  pub taken-is : (ls ls′ : Slots B) (t : ℕ) (n : Name (B .Key)) (m : Mode) → taken B ls t n m ≡ some ls′
-      → ((holds B ls t n ≡ true) × (inUse ls′ ≡ map (raise t n m) (inUse ls)))
-      ⊎ ((holds B ls t n ≡ false) × ((i : ℕ) × (inUse ls′ ≡ insertAt i (record { name = n; holder = t; mode = m }) (inUse ls))))
+  pub data Took (ls ls′ : Slots B) (t : ℕ) (n : Name (B .Key)) (m : Mode) : Type 0 where
+    raisedIn : length ls′ ≡ length ls → holds B ls t n ≡ true → inUse ls′ ≡ map (raise t n m) (inUse ls) → Took ls ls′ t n m
+    putAt : (i : ℕ) → length ls′ ≡ length ls → holds B ls t n ≡ false → inUse ls′ ≡ insertAt i (lockOf t n m) (inUse ls) → Took ls ls′ t n m
+
+  pub taken-took : (ls ls′ : Slots B) (t : ℕ) (n : Name (B .Key)) (m : Mode) → taken B ls t n m ≡ some ls′ → Took ls ls′ t n m
   unfolding taken
-  taken-is ls ls′ t n m h = go (holds B ls t n) refl h
+  taken-took ls ls′ t n m h = go (holds B ls t n) refl h
     where
-      go : (b : Bool) → holds B ls t n ≡ b → cond b (some (map (raised B t n m) ls)) (added B (record { name = n; holder = t; mode = m }) ls) ≡ some ls′
-          → ((holds B ls t n ≡ true) × (inUse ls′ ≡ map (raise t n m) (inUse ls)))
-          ⊎ ((holds B ls t n ≡ false) × ((i : ℕ) × (inUse ls′ ≡ insertAt i (record { name = n; holder = t; mode = m }) (inUse ls))))
-      go true q e = let z : map (raised B t n m) ls ≡ ls′ = cc in inl (q, rw (← z) (raised-is t n m ls))
-      go false q e = inr (q, added-is (record { name = n; holder = t; mode = m }) ls ls′ e)
+      go : (b : Bool) → holds B ls t n ≡ b → cond b (some (map (raised B t n m) ls)) (added B (lockOf t n m) ls) ≡ some ls′ → Took ls ls′ t n m
+      go true q e = let z : map (raised B t n m) ls ≡ ls′ = cc in raisedIn (rw (← z) (length-map ls (raised B t n m))) q (rw (← z) (raised-is t n m ls))
+      go false q e = let w = added-is (lockOf t n m) ls ls′ e in putAt (w .1 .0) (w .0) q (w .1 .1)
+
+  pub took-length : (ls ls′ : Slots B) (t : ℕ) (n : Name (B .Key)) (m : Mode) → Took ls ls′ t n m → length ls′ ≡ length ls
+  took-length ls ls′ t n m (raisedIn e q z) = e
+  took-length ls ls′ t n m (putAt i e q z) = e
 
   -- t holds n, at least in mode m
   pub record Held (ls : Slots B) (t : ℕ) (n : Name (B .Key)) (m : Mode) : Type 0 where
@@ -150,39 +141,47 @@ module _ (B : Book) where
   held-weaker ls t n m h = record { lock = h .lock; stands = h .stands; holder = h .holder; name = h .name; strong = stronger-s (h .lock .mode) }
 
   -- taking a lock weakens none
-  pub held-kept : (ls ls′ : Slots B) (t : ℕ) (n : Name (B .Key)) (m : Mode) → taken B ls t n m ≡ some ls′ → (u : ℕ) (p : Name (B .Key)) (x : Mode)
-      → Held ls u p x → Held ls′ u p x
-  held-kept ls ls′ t n m e u p x h = ⊎-elim (λ w. record {
+  pub held-kept : (ls ls′ : Slots B) (t : ℕ) (n : Name (B .Key)) (m : Mode) → Took ls ls′ t n m → (u : ℕ) (p : Name (B .Key)) (x : Mode) → Held ls u p x → Held ls′ u p x
+  held-kept ls ls′ t n m (raisedIn e q z) u p x h = record {
     lock = raise t n m (h .lock);
-    stands = rw (w .1) (map-in (raise t n m) (inUse ls) (h .lock) (h .stands));
+    stands = rw z (map-in (raise t n m) (inUse ls) (h .lock) (h .stands));
     holder = h .holder;
     name = h .name;
     strong = go (isOf B t n (h .lock));
-  })
-      (λ w. record { lock = h .lock; stands = rw (w .1 .1) (insert-in (w .1 .0) _ (inUse ls) (h .lock) (inr (h .stands))); holder = h .holder; name = h .name; strong = h .strong })
-      (taken-is ls ls′ t n m e)
+  }
     where
       go : (b : Bool) → stronger (cond b (stronger (h .lock .mode) m) (h .lock .mode)) x ≡ cond b (stronger (h .lock .mode) m) (h .lock .mode)
       go true = stronger-keeps (h .lock .mode) m x (h .strong)
       go false = h .strong
+  held-kept ls ls′ t n m (putAt i e q z) u p x h = record {
+    lock = h .lock;
+    stands = rw z (insert-in i (lockOf t n m) (inUse ls) (h .lock) (inr (h .stands)));
+    holder = h .holder;
+    name = h .name;
+    strong = h .strong;
+  }
 
   -- the locks of t released
+  pub released-length : (t : ℕ) (ls : Slots B) → length (released B t ls) ≡ length ls
+  unfolding released
+  released-length t ls = length-map ls (freed B t)
+
   pub in-released : (t : ℕ) (ls : Slots B) (l : Lk B) → In l (inUse (released B t ls)) → In l (inUse ls) × (l .holder ≡ t → ⊥)
   in-released t ls l i =
-      let w = in-keep (λ k. not (eqb (k .holder) t)) (inUse ls) l (rw (released-is t ls) at i) in
+      let w = in-keep (isOthers t) (inUse ls) l (rw (released-is t ls) at i) in
       (w .0, eqb-false (l .holder) t (not-true (eqb (l .holder) t) (w .1)))
 
   pub held-released : (t : ℕ) (ls : Slots B) (u : ℕ) (n : Name (B .Key)) (m : Mode) → (u ≡ t → ⊥) → Held ls u n m → Held (released B t ls) u n m
   held-released t ls u n m o h = record {
     lock = h .lock;
-    stands = rw (released-is t ls) (keep-in (λ k. not (eqb (k .holder) t)) (inUse ls) (h .lock) (h .stands) (rw (ne-eqb (h .lock .holder) t (λ z. o (sym (h .holder) ∙ z)))));
+    stands = rw (released-is t ls) (keep-in (isOthers t) (inUse ls) (h .lock) (h .stands) (rw (ne-eqb (h .lock .holder) t (λ z. o (sym (h .holder) ∙ z)))));
     holder = h .holder;
     name = h .name;
     strong = h .strong;
   }
 
   pub released-together : (t : ℕ) (ls : Slots B) → pairs (together B) (inUse ls) ≡ true → pairs (together B) (inUse (released B t ls)) ≡ true
-  released-together t ls h = rw (released-is t ls) (pairs-keep (together B) (λ k. not (eqb (k .holder) t)) (inUse ls) h)
+  released-together t ls h = rw (released-is t ls) (pairs-keep (together B) (isOthers t) (inUse ls) h)
 
   module _ (L : Ordered B) where
     is-of : (t : ℕ) (n : Name (B .Key)) (l : Lk B) → l .holder ≡ t → l .name ≡ n → isOf B t n l ≡ true
@@ -214,98 +213,100 @@ module _ (B : Book) where
         in-any (λ l. isOf B t n l && isX (l .mode)) (inUse ls) (h .lock) (h .stands)
         (and _ _ (is-of t n (h .lock) (h .holder) (h .name)) (strong-x (h .lock .mode) (h .strong)))
 
-    -- two locks on one name
-    apart : (k l : Lk B) → together B k l ≡ true → k .name ≡ l .name → (eqb (k .holder) (l .holder) ≡ false) × (conflict (k .mode) (l .mode) ≡ false)
+    -- two locks on one name: other holders, and modes that go together
+    abbrev Apart : Lk B → Lk B → Type 0
+    Apart k l = (eqb (k .holder) (l .holder) ≡ false) × (conflict (k .mode) (l .mode) ≡ false)
+
+    together-apart : (k l : Lk B) → together B k l ≡ true → k .name ≡ l .name → Apart k l
     unfolding together
-    apart k l h e =
+    together-apart k l h e =
         let c : not (eqb (k .holder) (l .holder)) && not (conflict (k .mode) (l .mode)) ≡ true = rw (e, name-itself B L (l .name)) at h in
         let b : (not (eqb (k .holder) (l .holder)) ≡ true) × (not (conflict (k .mode) (l .mode)) ≡ true) = both _ _ c in
         (not-true _ (b .0), not-true _ (b .1))
 
-    go-together : (k l : Lk B) → (k .name ≡ l .name → (eqb (k .holder) (l .holder) ≡ false) × (conflict (k .mode) (l .mode) ≡ false)) → together B k l ≡ true
+    apart-together : (k l : Lk B) → (k .name ≡ l .name → Apart k l) → together B k l ≡ true
     unfolding together
-    go-together k l f = go (sameName B (k .name) (l .name)) refl
+    apart-together k l f = go (sameName B (k .name) (l .name)) refl
       where
         go : (b : Bool) → sameName B (k .name) (l .name) ≡ b → not b || (not (eqb (k .holder) (l .holder)) && not (conflict (k .mode) (l .mode))) ≡ true
         go true q = let w = f (name-equal B L (k .name) (l .name) q) in rw (w .0, w .1) refl
         go false q = refl
 
-    -- W2 in use: whoever else is on a name that t holds in X is t
-    pub alone : (ls : Slots B) (t : ℕ) (n : Name (B .Key)) → pairs (together B) (inUse ls) ≡ true → Held ls t n X → (l : Lk B) → In l (inUse ls) → l .name ≡ n → l .holder ≡ t
-    alone ls t n h k l i e =
-        ⊎-elim (λ z. ap (λ (x : Lk B). x .holder) (sym z) ∙ k .holder)
-        (λ r. absurd (true≢false (⊎-elim
-        (λ a. sym (x-conflicts (k .lock .mode) (l .mode) (k .strong)) ∙ apart (k .lock) l a (k .name ∙ sym e) .1)
-        (λ a. sym (x-conflicts (k .lock .mode) (l .mode) (k .strong)) ∙ conflict-turn (k .lock .mode) (l .mode) ∙ apart l (k .lock) a (e ∙ sym (k .name)) .1) r)))
-        (pairs-in (together B) (inUse ls) (k .lock) l h (k .stands) i)
+    apart-turn : (k l : Lk B) → Apart k l → Apart l k
+    apart-turn k l a = (ne-eqb (l .holder) (k .holder) (λ z. eqb-false (k .holder) (l .holder) (a .0) (sym z)), conflict-turn (l .mode) (k .mode) ∙ a .1)
+
+    -- W2 in use: whoever is on a name that t holds in X is t
+    pub alone : (ls : Slots B) (t : ℕ) (n : Name (B .Key)) → pairs (together B) (inUse ls) ≡ true → Held ls t n X
+        → (l : Lk B) → In l (inUse ls) → l .name ≡ n → l .holder ≡ t
+    alone ls t n h k l i e = go (pairs-in (together B) (inUse ls) (k .lock) l h (k .stands) i)
+      where
+        clash : Apart (k .lock) l → l .holder ≡ t
+        clash a = absurd (true≢false (sym (x-conflicts (k .lock .mode) (l .mode) (k .strong)) ∙ a .1))
+
+        go : (k .lock ≡ l) ⊎ ((together B (k .lock) l ≡ true) ⊎ (together B l (k .lock) ≡ true)) → l .holder ≡ t
+        go (inl z) = ap (λ (x : Lk B). x .holder) (sym z) ∙ k .holder
+        go (inr (inl r)) = clash (together-apart (k .lock) l r (k .name ∙ sym e))
+        go (inr (inr r)) = clash (apart-turn l (k .lock) (together-apart l (k .lock) r (e ∙ sym (k .name))))
 
     -- a lock taken
-    module _ (ls ls′ : Slots B) (t : ℕ) (n : Name (B .Key)) (m : Mode) (e : taken B ls t n m ≡ some ls′) where
-      pub in-taken : (l : Lk B) → In l (inUse ls′) → In l (inUse ls) ⊎ ((l .holder ≡ t) × (l .name ≡ n))
-      in-taken l i = ⊎-elim (λ w. raised-one (in-map (raise t n m) (inUse ls) l (rw (w .1) at i))) (λ w. new-one (in-insert (w .1 .0) _ (inUse ls) l (rw (w .1 .1) at i))) (taken-is ls ls′ t n m e)
+    module _ (ls ls′ : Slots B) (t : ℕ) (n : Name (B .Key)) (m : Mode) where
+      pub in-took : Took ls ls′ t n m → (l : Lk B) → In l (inUse ls′) → In l (inUse ls) ⊎ ((l .holder ≡ t) × (l .name ≡ n))
+      in-took (raisedIn e h z) l i = let w = in-map (raise t n m) (inUse ls) l (rw z at i) in go (w .0) (w .1) (w .2) (isOf B t n (w .0)) refl
         where
-          raised-one : ((k : Lk B) × In k (inUse ls) × (raise t n m k ≡ l)) → In l (inUse ls) ⊎ ((l .holder ≡ t) × (l .name ≡ n))
-          raised-one w = go (isOf B t n (w .0)) refl
-            where
-              go : (b : Bool) → isOf B t n (w .0) ≡ b → In l (inUse ls) ⊎ ((l .holder ≡ t) × (l .name ≡ n))
-              go true q = let o = of-is t n (w .0) q in inr (ap (λ (x : Lk B). x .holder) (sym (w .2)) ∙ o .0, ap (λ (x : Lk B). x .name) (sym (w .2)) ∙ o .1)
-              go false q = inl (subst (λ (x : Lk B). In x (inUse ls)) (rw q at (w .2)) (w .1))
-
-          new-one : (record { name = n; holder = t; mode = m } ≡ l) ⊎ In l (inUse ls) → In l (inUse ls) ⊎ ((l .holder ≡ t) × (l .name ≡ n))
-          new-one (inl z) = inr (ap (λ (x : Lk B). x .holder) (sym z), ap (λ (x : Lk B). x .name) (sym z))
-          new-one (inr j) = inl j
-
-      pub held-taken : Held ls′ t n m
-      held-taken = ⊎-elim (λ w. raised-one (holds-held ls t n (w .0)) (w .1))
-          (λ w. record { lock = record { name = n; holder = t; mode = m }; stands = rw (w .1 .1) (insert-in (w .1 .0) _ (inUse ls) _ (inl refl)); holder = refl; name = refl; strong = stronger-has S m })
-          (taken-is ls ls′ t n m e)
+          go : (k : Lk B) → In k (inUse ls) → raise t n m k ≡ l → (b : Bool) → isOf B t n k ≡ b → In l (inUse ls) ⊎ ((l .holder ≡ t) × (l .name ≡ n))
+          go k j y true q = let o = of-is t n k q in inr (ap (λ (x : Lk B). x .holder) (sym y) ∙ o .0, ap (λ (x : Lk B). x .name) (sym y) ∙ o .1)
+          go k j y false q = inl (subst (λ (x : Lk B). In x (inUse ls)) (rw q at y) j)
+      in-took (putAt j e h z) l i = go (in-insert j (lockOf t n m) (inUse ls) l (rw z at i))
         where
-          raised-one : Held ls t n S → inUse ls′ ≡ map (raise t n m) (inUse ls) → Held ls′ t n m
-          raised-one h z = record {
-            lock = raise t n m (h .lock);
-            stands = rw z (map-in (raise t n m) (inUse ls) (h .lock) (h .stands));
-            holder = h .holder;
-            name = h .name;
-            strong = rw (is-of t n (h .lock) (h .holder) (h .name)) (stronger-has (h .lock .mode) m);
-          }
+          go : (lockOf t n m ≡ l) ⊎ In l (inUse ls) → In l (inUse ls) ⊎ ((l .holder ≡ t) × (l .name ≡ n))
+          go (inl y) = inr (ap (λ (x : Lk B). x .holder) (sym y), ap (λ (x : Lk B). x .name) (sym y))
+          go (inr k) = inl k
 
-      -- W2 stays: nobody else holds n in a mode that goes not with m
+      pub held-took : Took ls ls′ t n m → Held ls′ t n m
+      held-took (raisedIn e q z) = let h = holds-held ls t n q in record {
+        lock = raise t n m (h .lock);
+        stands = rw z (map-in (raise t n m) (inUse ls) (h .lock) (h .stands));
+        holder = h .holder;
+        name = h .name;
+        strong = rw (is-of t n (h .lock) (h .holder) (h .name)) (stronger-has (h .lock .mode) m);
+      }
+      held-took (putAt i e q z) = record {
+        lock = lockOf t n m;
+        stands = rw z (insert-in i (lockOf t n m) (inUse ls) (lockOf t n m) (inl refl));
+        holder = refl;
+        name = refl;
+        strong = stronger-has S m;
+      }
+
+      -- W2 stays, where nobody else holds n in a mode that goes not with m
       module _ (clear : Clear ls t n m) where
         clear-of : (l : Lk B) → In l (inUse ls) → l .name ≡ n → (l .holder ≡ t → ⊥) → conflict (l .mode) m ≡ false
-        clear-of l i z o = go (conflict (l .mode) m) refl
-          where
-            go : (b : Bool) → conflict (l .mode) m ≡ b → b ≡ false
-            go true q = absurd (o (clear l i z q))
-            go false q = refl
+        clear-of l i z o = fails (conflict (l .mode) m) (λ q. o (clear l i z q))
 
-        raised-go : (x y : Lk B) → In x (inUse ls) → In y (inUse ls) → x .name ≡ y .name → (eqb (x .holder) (y .holder) ≡ false) × (conflict (x .mode) (y .mode) ≡ false)
-            → conflict (raise t n m x .mode) (raise t n m y .mode) ≡ false
-        raised-go x y i j z a = go (isOf B t n x) (isOf B t n y) refl refl
+        raised-apart : (x y : Lk B) → In x (inUse ls) → In y (inUse ls) → x .name ≡ y .name → Apart x y → Apart (raise t n m x) (raise t n m y)
+        raised-apart x y i j z a = (a .0, go (isOf B t n x) (isOf B t n y) refl refl)
           where
+            -- the one raised against the other: k is t's on n, l is another's
+            against : (k l : Lk B) → In l (inUse ls) → k .name ≡ l .name → Apart k l → isOf B t n k ≡ true → conflict (stronger (k .mode) m) (l .mode) ≡ false
+            against k l v w b q =
+                let o = of-is t n k q in
+                stronger-clear (k .mode) (l .mode) m (b .1) (clear-of l v (sym w ∙ o .1) (λ y. eqb-false (k .holder) (l .holder) (b .0) (o .0 ∙ sym y)))
+
             go : (b c : Bool) → isOf B t n x ≡ b → isOf B t n y ≡ c → conflict (cond b (stronger (x .mode) m) (x .mode)) (cond c (stronger (y .mode) m) (y .mode)) ≡ false
             go true true q r = absurd (eqb-false (x .holder) (y .holder) (a .0) (of-is t n x q .0 ∙ sym (of-is t n y r .0)))
-            go true false q r =
-                let o = of-is t n x q in
-                stronger-clear (x .mode) (y .mode) m (a .1) (clear-of y j (sym z ∙ o .1) (λ w. eqb-false (x .holder) (y .holder) (a .0) (o .0 ∙ sym w)))
-            go false true q r =
-                let o = of-is t n y r in
-                conflict-turn (x .mode) (stronger (y .mode) m)
-                ∙ stronger-clear (y .mode) (x .mode) m (conflict-turn (y .mode) (x .mode) ∙ a .1) (clear-of x i (z ∙ o .1) (λ w. eqb-false (x .holder) (y .holder) (a .0) (w ∙ sym (o .0))))
+            go true false q r = against x y j z a q
+            go false true q r = conflict-turn (x .mode) (stronger (y .mode) m) ∙ against y x i (sym z) (apart-turn x y a) r
             go false false q r = a .1
 
-        pub taken-together : pairs (together B) (inUse ls) ≡ true → pairs (together B) (inUse ls′) ≡ true
-        taken-together h = ⊎-elim
-            (λ w. rw (w .1) (pairs-map (raise t n m) (together B) (together B) (inUse ls)
-            (λ x y i j r. go-together (raise t n m x) (raise t n m y) (λ z. let a = apart x y r z in (a .0, raised-go x y i j z a))) h))
-            (λ w. rw (w .1 .1) (pairs-insert (together B) (w .1 .0) new (inUse ls) h
-            (λ y j. (
-              go-together new y (λ z. let o = other (w .0) y j (sym z) in (ne-eqb t (y .holder) (λ v. o (sym v)), conflict-turn m (y .mode) ∙ clear-of y j (sym z) o)),
-              go-together y new (λ z. let o = other (w .0) y j z in (ne-eqb (y .holder) t o, clear-of y j z o)),
-            ))))
-            (taken-is ls ls′ t n m e)
-          where
-            new : Lk B
-            new = record { name = n; holder = t; mode = m }
+        new-apart : holds B ls t n ≡ false → (l : Lk B) → In l (inUse ls) → l .name ≡ n → Apart l (lockOf t n m)
+        new-apart q l i z =
+            let o : l .holder ≡ t → ⊥ = λ y. true≢false (sym (is-of t n l y z) ∙ not-any (isOf B t n) (inUse ls) l q i) in
+            (ne-eqb (l .holder) t o, clear-of l i z o)
 
-            other : holds B ls t n ≡ false → (l : Lk B) → In l (inUse ls) → l .name ≡ n → l .holder ≡ t → ⊥
-            other q l i z o = true≢false (sym (is-of t n l o z) ∙ not-any (isOf B t n) (inUse ls) l q i)
+        pub took-together : Took ls ls′ t n m → pairs (together B) (inUse ls) ≡ true → pairs (together B) (inUse ls′) ≡ true
+        took-together (raisedIn e q z) h = rw z (pairs-map (raise t n m) (together B) (together B) (inUse ls)
+            (λ x y i j r. apart-together (raise t n m x) (raise t n m y) (λ v. raised-apart x y i j v (together-apart x y r v))) h)
+        took-together (putAt i e q z) h = rw z (pairs-insert (together B) i (lockOf t n m) (inUse ls) h (λ y j. (
+          apart-together (lockOf t n m) y (λ v. apart-turn y (lockOf t n m) (new-apart q y j (sym v))),
+          apart-together y (lockOf t n m) (λ v. new-apart q y j v),
+        )))

@@ -4,25 +4,30 @@ use Prim.Native.Nat.{ℕ}
 use mathlib.Core.Path.{_≡_, refl, sym, ap, subst, _∙_}
 use mathlib.Core.Logic.{_⊎_, inl, inr, ⊎-elim}
 use mathlib.Core.Bool.{Bool, true, false, true≢false}
-use mathlib.Core.Option.{some}
 use lib.Dec.{eqb}
 use lib.ListN.{length}
 use borrow.Author.Tests.{eqb-true, eqb-false}
 use Rattle.lists.specs.Lists.{pairs, In}
 use Rattle.rules.specs.Kinds.{Book, Ordered, Mode, X, Name, on, end}
-use Rattle.rules.specs.Entries.{Entries, same, inserted, settled, put, changed}
-use Rattle.rules.specs.Locks.{Slots, inUse, taken, released}
+use Rattle.rules.specs.Entries.{Entries, same, inserted, committed, rolledBack, settled, put, changed}
+use Rattle.rules.specs.Locks.{Slots, inUse, released}
 use Rattle.rules.specs.Runs.{En}
 use Rattle.rules.specs.Good.{Lk, ascending, isName, together, Settled}
 use Rattle.rules.proofs.Keys.{same-equal, same-itself}
 use Rattle.rules.proofs.Index.{in-settled, settled-other, in-put, put-in, in-changed, in-name, name-in, name-put, name-changed, ascending-changed, ascending-settled, ascending-put}
-use Rattle.rules.proofs.LockTable.{Held, Clear, alone, taken-length, in-taken, held-kept, held-taken, taken-together, released-length, in-released, held-released, released-together}
+use Rattle.rules.proofs.LockTable.{Held, Clear, alone, Took, took-length, in-took, held-kept, held-took, took-together, released-length, in-released, held-released, released-together}
 
 -- what an end makes of an entry of its transaction's
 pub record Settles (B : Book) (f : En B → En B) : Type 0 where
   pub key : (e : En B) → f e .key ≡ e .key
   pub owner : (e : En B) → f e .owner ≡ 0
   pub equal : (e : En B) → f e .now ≡ f e .before
+
+pub committed-settles : (B : Book) → Settles B committed
+committed-settles B = record { key = λ e. refl; owner = λ e. refl; equal = λ e. refl }
+
+pub rolledBack-settles : (B : Book) → Settles B rolledBack
+rolledBack-settles B = record { key = λ e. refl; owner = λ e. refl; equal = λ e. refl }
 
 -- what a run makes of the entry that it changes
 pub record Changes (B : Book) (t : ℕ) (f : En B → En B) : Type 0 where
@@ -62,13 +67,13 @@ module _ (B : Book) where
   module _ (L : Ordered B) where
     -- a lock taken on an entry or the end, where nobody else holds against it
     pub sound-taken : (r : ℕ → Bool) (es : Entries B) (ls ls′ : Slots B) (t : ℕ) (n : Name (B .Key)) (m : Mode) → r t ≡ true → isName B es n ≡ true
-        → Clear B ls t n m → taken B ls t n m ≡ some ls′ → Sound r es ls → Sound r es ls′
+        → Clear B ls t n m → Took B ls ls′ t n m → Sound r es ls → Sound r es ls′
     sound-taken r es ls ls′ t n m g k c e h = record {
-      slots = taken-length B ls ls′ t n m e ∙ h .slots;
+      slots = took-length B ls ls′ t n m e ∙ h .slots;
       keys = h .keys;
       settled = h .settled;
-      names = λ l i. ⊎-elim (h .names l) (λ w. (rw (w .0) g, rw (w .1) k)) (in-taken B L ls ls′ t n m e l i);
-      modes = taken-together B L ls ls′ t n m e c (h .modes);
+      names = λ l i. ⊎-elim (h .names l) (λ w. (rw (w .0) g, rw (w .1) k)) (in-took B L ls ls′ t n m e l i);
+      modes = took-together B L ls ls′ t n m c e (h .modes);
       owners = λ x i. ⊎-elim inl (λ w. inr (w .0, held-kept B ls ls′ t n m e (x .owner) (on (x .key)) X (w .1))) (h .owners x i);
     }
 
@@ -89,14 +94,14 @@ module _ (B : Book) where
 
     -- a missing key put in, with X on it
     pub sound-put : (r : ℕ → Bool) (es : Entries B) (ls ls′ : Slots B) (t : ℕ) (k : B .Key) (v : B .Rec) → r t ≡ true → (t ≡ 0 → ⊥) → B .legal k ≡ true
-        → ((e : En B) → In e es → same B (e .key) k ≡ false) → taken B ls t (on k) X ≡ some ls′ → Sound r es ls → Sound r (put B (inserted t k v) es) ls′
+        → ((e : En B) → In e es → same B (e .key) k ≡ false) → Took B ls ls′ t (on k) X → Sound r es ls → Sound r (put B (inserted t k v) es) ls′
     sound-put r es ls ls′ t k v g z l m e h = record {
-      slots = taken-length B ls ls′ t (on k) X e ∙ h .slots;
+      slots = took-length B ls ls′ t (on k) X e ∙ h .slots;
       keys = ascending-put B L new es m l (h .keys);
       names = λ x i. ⊎-elim (λ j. let w = h .names x j in (w .0, name-put B L new es (x .name) (w .1)))
-          (λ w. (rw (w .0) g, rw (w .1) (in-name B (put B new es) new k (put-in B new es new (inl refl)) (same-itself B L k)))) (in-taken B L ls ls′ t (on k) X e x i);
-      modes = taken-together B L ls ls′ t (on k) X e free (h .modes);
-      owners = λ y i. ⊎-elim (λ q. subst (OwnerHolds r ls′) q (inr (g, held-taken B L ls ls′ t (on k) X e)))
+          (λ w. (rw (w .0) g, rw (w .1) (in-name B (put B new es) new k (put-in B new es new (inl refl)) (same-itself B L k)))) (in-took B L ls ls′ t (on k) X e x i);
+      modes = took-together B L ls ls′ t (on k) X free e (h .modes);
+      owners = λ y i. ⊎-elim (λ q. subst (OwnerHolds r ls′) q (inr (g, held-took B L ls ls′ t (on k) X e)))
           (λ j. ⊎-elim inl (λ w. inr (w .0, held-kept B ls ls′ t (on k) X e (y .owner) (on (y .key)) X (w .1))) (h .owners y j)) (in-put B new es y i);
       settled = λ y i o. ⊎-elim (λ q. absurd (z (ap (λ (e : En B). e .owner) q ∙ o))) (λ j. h .settled y j o) (in-put B new es y i);
     }

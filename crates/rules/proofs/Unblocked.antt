@@ -11,12 +11,12 @@ use Rattle.lists.specs.Lists.{pairs, In}
 use Rattle.lists.proofs.Elements.{both, either, all-in}
 use Rattle.rules.specs.Kinds.{Book, Ordered, Mode, S, X, on, Ask}
 use Rattle.rules.specs.Entries.{isThere, deleted, revived}
-use Rattle.rules.specs.Locks.{Slots, inUse, taken, target, Want, wanted}
+use Rattle.rules.specs.Locks.{Slots, inUse, target, Want, wanted}
 use Rattle.rules.specs.Queue.{St, Q, Wait, waits}
 use Rattle.rules.specs.Runs.{En, Ran}
 use Rattle.rules.specs.Desk.{runs, legalAsk}
 use Rattle.rules.specs.Good.{lockStands, ownerHolds, queueStands, otherAsker, Good}
-use Rattle.rules.proofs.LockTable.{Held, Clear, x-conflicts, holdsX-held, held-kept, held-taken}
+use Rattle.rules.proofs.LockTable.{Took, Held, Clear, x-conflicts, holdsX-held, held-kept, held-took}
 use Rattle.rules.proofs.Index.{missing, in-name}
 use Rattle.rules.proofs.Keys.{same-itself}
 use Rattle.rules.proofs.Sound.{Sound, owner-holds, sound-taken, sound-changed, sound-put}
@@ -48,13 +48,13 @@ module _ (B : Book) (L : Ordered B) where
 
   -- a run that nothing blocks
   module _ (s : St B) (w : Wait B) (i : In w (waits B s)) (n : w .behind ≡ []) (g : Good B s) where
-    abbrev pub t : ℕ
+    abbrev t : ℕ
     t = w .request .asker
 
-    pub asks : (runs B s t ≡ true) × (legalAsk B (w .request .asks) ≡ true)
+    asks : (runs B s t ≡ true) × (legalAsk B (w .request .asks) ≡ true)
     asks = good-queues B s g .queued (w .request) (waits-in B s w i)
 
-    pub somebody : t ≡ 0 → ⊥
+    somebody : t ≡ 0 → ⊥
     somebody z = true≢false (sym (asks .0) ∙ (rw (← z) at (g .nobody)))
 
     pub clear-as : (v : Want B) → wanted B (s .entries) (w .request) ≡ v → Clear B (s .slots) t (v .name) (v .mode)
@@ -70,7 +70,7 @@ module _ (B : Book) (L : Ordered B) where
 
     -- the lock on an entry that is the target
     target-locked : (x : En B) (m : Mode) (ls : Slots B) → target B (s .entries) t (w .request .asks) ≡ some x
-        → wanted B (s .entries) (w .request) ≡ record { name = on (x .key); mode = m } → taken B (s .slots) t (on (x .key)) m ≡ some ls → Sound B (runs B s) (s .entries) ls
+        → wanted B (s .entries) (w .request) ≡ record { name = on (x .key); mode = m } → Took B (s .slots) ls t (on (x .key)) m → Sound B (runs B s) (s .entries) ls
     target-locked x m ls a y e =
         sound-taken B L (runs B s) (s .entries) (s .slots) ls t (on (x .key)) m (asks .0)
         (in-name B (s .entries) x (x .key) (target-in B (s .entries) t (w .request .asks) x a) (same-itself B L (x .key))) (clear-as _ y) e (good-sound s g)
@@ -89,4 +89,4 @@ module _ (B : Book) (L : Ordered B) where
         (target-locked x S ls a y e)
     did-sound r (tookAway x ls a y e) =
         sound-changed B L (runs B s) (s .entries) ls t (x .key) (deleted t) (asks .0) somebody (record { key = λ e. refl; owner = λ e. refl })
-        (held-taken B L (s .slots) ls t (on (x .key)) X e) (target-locked x X ls a y e)
+        (held-took B L (s .slots) ls t (on (x .key)) X e) (target-locked x X ls a y e)
