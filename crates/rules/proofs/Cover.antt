@@ -107,7 +107,7 @@ module _ (B : Book) where
     cover-kept T x = record {
       begins = λ s t h r p. (good-kept B L .begins s t h r (p .0), p .1);
       joins = λ s t a r w l p. (good-kept B L .joins s t a r w l (p .0), p .1);
-      commits = λ s t o h r p. (good-kept B L .commits s t tt h r (p .0), over committed s t (committed-settles B) r o p);
+      commits = λ s t o h r w p. (good-kept B L .commits s t tt h r w (p .0), over committed s t (committed-settles B) r o p);
       rollsBack = λ s t o h r p. (good-kept B L .rollsBack s t tt h r (p .0), over rolledBack s t (rolledBack-settles B) r o p);
       goes = λ s w i n p. (
         good-kept B L .goes s w i n (p .0),

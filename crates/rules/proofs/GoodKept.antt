@@ -109,7 +109,7 @@ module _ (B : Book) (L : Ordered B) where
   good-kept = record {
     begins = λ s t h r g. begun-good s t g h;
     joins = λ s t a r w l g. joined-good s t a r w l g;
-    commits = λ s t o h r g. ended-good s t g h committed (committed-settles B);
+    commits = λ s t o h r w g. ended-good s t g h committed (committed-settles B);
     rollsBack = λ s t o h r g. ended-good s t g h rolledBack (rolledBack-settles B);
     goes = λ s w i n g. left-good s (w .request) (run B s (w .request)) g (did-sound B L s w i n g (run B s (w .request)) (run-did B s (w .request)));
     givesWay = λ s w i g. left-good s (w .request) (unmoved B s circle) g (good-sound B L s g);

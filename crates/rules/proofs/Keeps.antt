@@ -21,7 +21,7 @@ module _ (B : Book) where
     pub begins : (s : St B) (t : ℕ) → isTransaction B t ≡ true → runs B s t ≡ false → P s → P (begun B s t)
     pub joins : (s : St B) (t : ℕ) (a : Ask (B .Key) (B .Rec)) → runs B s t ≡ true → waitsNow B s t ≡ false → legalAsk B a ≡ true
         → P s → P (joined B s t a)
-    pub commits : (s : St B) (t : ℕ) → Ends t → isTransaction B t ≡ true → runs B s t ≡ true → P s → P (ended B committed s t)
+    pub commits : (s : St B) (t : ℕ) → Ends t → isTransaction B t ≡ true → runs B s t ≡ true → waitsNow B s t ≡ false → P s → P (ended B committed s t)
     pub rollsBack : (s : St B) (t : ℕ) → Ends t → isTransaction B t ≡ true → runs B s t ≡ true → P s → P (ended B rolledBack s t)
     pub goes : (s : St B) (w : Wait B) → In w (waits B s) → w .behind ≡ [] → P s → P (left B s (w .request) (run B s (w .request)) .state)
     pub givesWay : (s : St B) (w : Wait B) → In w (waits B s) → P s → P (left B s (w .request) (unmoved B s circle) .state)
@@ -82,12 +82,12 @@ module _ (B : Book) where
         go : (b : Bool) → runs B s t ≡ b → P (unless B s t (acts B s t begin) (ifSo B b runsAlready) .state)
         go true e = p
         go false e = worked-keeps (begun B s t) (K .begins s t h e p)
-    step-keeps s t commit h l m p = go (runs B s t) (waitsNow B s t) refl
+    step-keeps s t commit h l m p = go (runs B s t) (waitsNow B s t) refl refl
       where
-        go : (b c : Bool) → runs B s t ≡ b → P (unless B s t (acts B s t commit) (unlessRuns B b (ifSo B c waitsAlready)) .state)
-        go true true e = p
-        go true false e = worked-keeps (ended B committed s t) (K .commits s t m h e p)
-        go false c e = p
+        go : (b c : Bool) → runs B s t ≡ b → waitsNow B s t ≡ c → P (unless B s t (acts B s t commit) (unlessRuns B b (ifSo B c waitsAlready)) .state)
+        go true true e q = p
+        go true false e q = worked-keeps (ended B committed s t) (K .commits s t m h e q p)
+        go false c e q = p
     step-keeps s t rollback h l m p = go (runs B s t) refl
       where
         go : (b : Bool) → runs B s t ≡ b → P (unless B s t (acts B s t rollback) (unlessRuns B b none) .state)
