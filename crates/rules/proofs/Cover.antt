@@ -42,7 +42,7 @@ module _ (B : Book) where
   abbrev pub nowAt : Entries B → B .Key → Option (B .Rec)
   nowAt es x = nowOf (itself B x (atOrAbove B x es))
 
-  module _ (L : Ordered B) (s : St B) (g : Good B s) (T : ℕ) (x : B .Key) (h : Held B (s .slots) T (cover (s .entries) x) S) where
+  module _ (L : Ordered (B .Key) (B .compare)) (s : St B) (g : Good B s) (T : ℕ) (x : B .Key) (h : Held B (s .slots) T (cover (s .entries) x) S) where
     -- an entry that is the cover, where only u can hold it: T is u
     held-by : (e : En B) (u : ℕ) → atOrAbove B x (s .entries) ≡ some e → ((l : Lk B) → In l (inUse (s .slots)) → l .name ≡ on (e .key) → l .holder ≡ u) → T ≡ u
     held-by e u q f = sym (h .holder) ∙ f (h .lock) (h .stands) (h .name ∙ ap (named B) q)
@@ -100,7 +100,7 @@ module _ (B : Book) where
       end-covers : Held B (released B u (s .slots)) T (cover (settled f u (s .entries)) x) S
       end-covers = rw settled-leaves (held-released B u (s .slots) T (cover (s .entries) x) S o h)
 
-  module _ (L : Ordered B) where
+  module _ (L : Ordered (B .Key) (B .compare)) where
     -- T keeps the cover of x through every move but its own end
     pub cover-kept : (T : ℕ) (x : B .Key) → Kept B (λ u. u ≡ T → ⊥) (λ s. Good B s × Covers s T x)
     unfolding begun joined ended

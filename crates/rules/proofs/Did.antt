@@ -28,7 +28,7 @@ module _ (B : Book) where
   target-in es t (insert k r) e h = first-in _ es e h .0
   target-in es t (delete k) e h = first-in _ es e h .0
 
-  pub wanted-name : (L : Ordered B) (es : Entries B) (q : Q B) → isName B es (wanted B es q .name) ≡ true
+  pub wanted-name : (L : Ordered (B .Key) (B .compare)) (es : Entries B) (q : Q B) → isName B es (wanted B es q .name) ≡ true
   unfolding wanted
   wanted-name L es q = go (target B es (q .asker) (q .asks)) refl
     where
@@ -132,7 +132,7 @@ module _ (B : Book) where
   waits-in s w i = waits-from (s .entries) (s .slots) [] (s .queue) w i .0
 
   -- "if U holds the target in a conflicting mode": where nobody blocks, nobody else does
-  no-holder : (L : Ordered B) (ls : Slots B) (t : ℕ) (w : Want B) → holders B ls t w ≡ [] → Clear B ls t (w .name) (w .mode)
+  no-holder : (L : Ordered (B .Key) (B .compare)) (ls : Slots B) (t : ℕ) (w : Want B) → holders B ls t w ≡ [] → Clear B ls t (w .name) (w .mode)
   unfolding holders
   no-holder L ls t w n l i e c = go (eqb (l .holder) t) refl
     where
@@ -145,7 +145,7 @@ module _ (B : Book) where
           let k : In l (keep stands (inUse ls)) = keep-in stands (inUse ls) l i (rw (q, e, name-itself B L (w .name)) c) in
           absurd (subst (λ (ks : List ℕ). In (l .holder) ks) n (map-in (λ l. l .holder) (keep stands (inUse ls)) l k))
 
-  pub unblocked : (L : Ordered B) (s : St B) (w : Wait B) → In w (waits B s) → w .behind ≡ []
+  pub unblocked : (L : Ordered (B .Key) (B .compare)) (s : St B) (w : Wait B) → In w (waits B s) → w .behind ≡ []
       → Clear B (s .slots) (w .request .asker) (wanted B (s .entries) (w .request) .name) (wanted B (s .entries) (w .request) .mode)
   unfolding waits blockers
   unblocked L s w i n =

@@ -18,7 +18,7 @@ use Rattle.rules.specs.Entries.{committed, rolledBack}
 use Rattle.rules.specs.Locks.{inUse}
 use Rattle.rules.specs.Queue.{St, Q, leave}
 use Rattle.rules.specs.Runs.{circle, En, Ran, unmoved, left, run}
-use Rattle.rules.specs.Desk.{isRunning, runs, waitsNow, begun, ended, joined, step, isTransaction, legalAsk, legalRequest, Call, legalCall, fresh, after}
+use Rattle.rules.specs.Desk.{isRunning, runs, waitsNow, begun, ended, joined, step, isTransaction, legalAsk, legalRequest, Cl, legalCall, fresh, after}
 use Rattle.rules.specs.Good.{ascending, lockStands, ownerHolds, queueStands, otherAsker, Good}
 use Rattle.rules.proofs.LockTable.{held-holdsX}
 use Rattle.rules.proofs.Sound.{Settles, committed-settles, rolledBack-settles, Sound, sound-more, sound-ended}
@@ -26,7 +26,7 @@ use Rattle.rules.proofs.Did.{run-did}
 use Rattle.rules.proofs.Keeps.{Kept, Anyone, anyone-may, step-keeps, after-keeps}
 use Rattle.rules.proofs.Unblocked.{good-sound, Queues, good-queues, did-sound}
 
-module _ (B : Book) (L : Ordered B) where
+module _ (B : Book) (L : Ordered (B .Key) (B .compare)) where
   pub sound-good : (s : St B) → length (s .marks) ≡ suc (B .transactions) → runs B s 0 ≡ false → Sound B (runs B s) (s .entries) (s .slots) → Queues B s → Good B s
   unfolding lockStands ownerHolds queueStands
   sound-good s m z h q = record {
@@ -115,7 +115,7 @@ module _ (B : Book) (L : Ordered B) where
     givesWay = λ s w i g. left-good s (w .request) (unmoved B s circle) g (good-sound B L s g);
   }
 
-  pub step-good : (s : St B) (c : Call B) → legalCall B c ≡ true → Good B s → Good B (step B s (c .asker) (c .request) .state)
+  pub step-good : (s : St B) (c : Cl B) → legalCall B c ≡ true → Good B s → Good B (step B s (c .asker) (c .request) .state)
   step-good s c l g =
       let b : (isTransaction B (c .asker) ≡ true) × (legalRequest B (c .request) ≡ true) = both _ _ l in
       step-keeps B (Anyone B) (Good B) good-kept s (c .asker) (c .request) (b .0) (b .1) (anyone-may B (c .asker) (c .request)) g
@@ -140,5 +140,5 @@ module _ (B : Book) (L : Ordered B) where
       (record { queued = λ q i. absurd i; askers = refl })
 
   -- whatever was asked since the start
-  pub after-good : (cs : List (Call B)) → Good B (after B (fresh B) cs)
+  pub after-good : (cs : List (Cl B)) → Good B (after B (fresh B) cs)
   after-good cs = after-keeps B (Anyone B) (Good B) good-kept (fresh B) cs (λ c i. anyone-may B (c .asker) (c .request)) fresh-good

@@ -160,7 +160,7 @@ module _ (B : Book) where
       ∙ ap (Option·map (settledOne f t)) (first-keep _ (stays f t) es (λ e q. rw (h e q)))
       ∙ unmapped (settledOne f t) (atOrAbove x es) (λ e q. rw (h e q)))
 
-  module _ (L : Ordered B) where
+  module _ (L : Ordered (B .Key) (B .compare)) where
     pub name-in : (es : Entries B) (k : B .Key) → isName B es (on k) ≡ true → (e : En B) × In e es × (e .key ≡ k)
     name-in es k h = let w = any-in (λ x. same B (x .key) k) es h in (w .0, w .1, same-equal B L (w .0 .key) k (w .2))
 

@@ -13,7 +13,7 @@ use Rattle.rules.specs.Kinds.{Book, Ask, Request, begin, commit, rollbac
 use Rattle.rules.specs.Entries.{committed, rolledBack}
 use Rattle.rules.specs.Queue.{St, Wait, waits, oldest, newest}
 use Rattle.rules.specs.Runs.{runsAlready, waitsAlready, circle, run, unmoved, left, Turn, refused, served, turn, onward, turns, worked}
-use Rattle.rules.specs.Desk.{runs, waitsNow, refusal, unlessRuns, ifSo, begun, ended, joined, acts, unless, step, isTransaction, legalAsk, legalRequest, Call, legalCall, call, stateAfter, after}
+use Rattle.rules.specs.Desk.{runs, waitsNow, refusal, unlessRuns, ifSo, begun, ended, joined, acts, unless, step, isTransaction, legalAsk, legalRequest, Cl, legalCall, call, stateAfter, after}
 
 module _ (B : Book) where
   -- P is kept by every move; of the ends, by those of the transactions that Ends names
@@ -100,7 +100,7 @@ module _ (B : Book) where
         go true false e q = worked-keeps (joined B s t a) (K .joins s t a e q l p)
         go false c e q = p
 
-    pub call-keeps : (s : St B) (c : Call B) → MayEnd Ends (c .asker) (c .request) → P s → P (stateAfter B s (call B s c))
+    pub call-keeps : (s : St B) (c : Cl B) → MayEnd Ends (c .asker) (c .request) → P s → P (stateAfter B s (call B s c))
     unfolding call
     call-keeps s c m p = go (legalCall B c) refl
       where
@@ -110,7 +110,7 @@ module _ (B : Book) where
             step-keeps s (c .asker) (c .request) (l .0) (l .1) m p
         go false e = p
 
-    pub after-keeps : (s : St B) (cs : List (Call B)) → ((c : Call B) → In c cs → MayEnd Ends (c .asker) (c .request)) → P s → P (after B s cs)
+    pub after-keeps : (s : St B) (cs : List (Cl B)) → ((c : Cl B) → In c cs → MayEnd Ends (c .asker) (c .request)) → P s → P (after B s cs)
     unfolding after
     after-keeps s [] m p = p
     after-keeps s (c ∷ cs) m p = after-keeps (stateAfter B s (call B s c)) cs (λ d i. m d (inr i)) (call-keeps s c (m c (inl refl)) p)

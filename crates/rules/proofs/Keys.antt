@@ -8,7 +8,7 @@ use Rattle.rules.specs.Kinds.{Book, Ordered, Name, on, end}
 use Rattle.rules.specs.Entries.{atMost, same}
 use Rattle.rules.specs.Locks.{sameName}
 
-module _ (B : Book) (L : Ordered B) where
+module _ (B : Book) (L : Ordered (B .Key) (B .compare)) where
   pub same-equal : (a b : B .Key) → same B a b ≡ true → a ≡ b
   same-equal a b h = go (B .compare a b) refl h
     where

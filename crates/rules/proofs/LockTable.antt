@@ -183,7 +183,7 @@ module _ (B : Book) where
   pub released-together : (t : ℕ) (ls : Slots B) → pairs (together B) (inUse ls) ≡ true → pairs (together B) (inUse (released B t ls)) ≡ true
   released-together t ls h = rw (released-is t ls) (pairs-keep (together B) (isOthers t) (inUse ls) h)
 
-  module _ (L : Ordered B) where
+  module _ (L : Ordered (B .Key) (B .compare)) where
     is-of : (t : ℕ) (n : Name (B .Key)) (l : Lk B) → l .holder ≡ t → l .name ≡ n → isOf B t n l ≡ true
     is-of t n l p q = and _ _ (eq-eqb (l .holder) t p) (rw q (name-itself B L n))
 

@@ -6,8 +6,7 @@ use native.Mathlib.Nat.{le-of-suc-le-suc, not-suc-le-zero}
 use native.Mathlib.Omega.{arith}
 use lib.Dec.{isLe, isEq}
 use borrow.Author.Tests.{leb-true, leb-false, eqb-true, eqb-false}
-use Rattle.rules.specs.Kinds.{Ordered, Paging}
-use Rattle.rules.specs.Document.{document}
+use Rattle.rules.specs.Kinds.{Ordered}
 
 itself : (a : ℕ) → compare a a ≡ Ordering·eq
 itself zero = compare·zero-zero
@@ -26,8 +25,8 @@ less a b e =
 more : (a b : ℕ) → compare a b ≡ Ordering·gt → b < a
 more a b e = leb-false a b (ap isLe e)
 
-pub document-ordered : (P : Paging ℕ) → Ordered (document P)
-document-ordered P = record {
+pub numbers-ordered : Ordered ℕ compare
+numbers-ordered = record {
   equal = λ a b e. eqb-true a b (ap isEq e);
   itself = itself;
   below = λ a b e. compared a b (less a b e) .1;

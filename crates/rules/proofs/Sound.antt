@@ -64,7 +64,7 @@ module _ (B : Book) where
   owner-holds r ls e (inl z) n = absurd (n z)
   owner-holds r ls e (inr w) n = w .1
 
-  module _ (L : Ordered B) where
+  module _ (L : Ordered (B .Key) (B .compare)) where
     -- a lock taken on an entry or the end, where nobody else holds against it
     pub sound-taken : (r : ℕ → Bool) (es : Entries B) (ls ls′ : Slots B) (t : ℕ) (n : Name (B .Key)) (m : Mode) → r t ≡ true → isName B es n ≡ true
         → Clear B ls t n m → Took B ls ls′ t n m → Sound r es ls → Sound r es ls′

@@ -32,7 +32,7 @@ module _ (B : Book) where
   unfolding queueStands
   good-queues s g = record { askers = g .askers; queued = λ q i. both _ _ (all-in (queueStands B s) (s .queue) q (g .queued) i) }
 
-module _ (B : Book) (L : Ordered B) where
+module _ (B : Book) (L : Ordered (B .Key) (B .compare)) where
   pub good-sound : (s : St B) → Good B s → Sound B (runs B s) (s .entries) (s .slots)
   unfolding lockStands ownerHolds
   good-sound s g = record {
