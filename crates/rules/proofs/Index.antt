@@ -9,7 +9,7 @@ use mathlib.Core.List.{List, [], _∷_, _++_, map}
 use mathlib.Core.Option.{Option, none, some, Option·map}
 use lib.Dec.{eqb}
 use borrow.Author.Tests.{not-true}
-use Rattle.lists.specs.Lists.{all, keep, first, pairs, In, join, insertAt}
+use Rattle.lists.specs.Lists.{all, keep, first, pairs, In, join, insertAt, insertBefore}
 use Rattle.lists.proofs.Elements.{both, and, fails, never, all-in, in-all, any-in, in-any, in-keep, keep-in, first-in, pairs-split, pairs-cons, pairs-keep, first-least, first-keep, first-map, in-insert, insert-in, in-map, map-in, pairs-map}
 use Rattle.rules.specs.Kinds.{Book, Ordered, Entry, Name, on, end}
 use Rattle.rules.specs.Entries.{Entries, atMost, same, present, left, settled, takenOut, put, changed}
@@ -74,7 +74,7 @@ module _ (B : Book) where
 
   -- put, as an insertion
   put-place : (e : En B) (es : Entries B) → (i : ℕ) × (put B e es ≡ insertAt i e es)
-  unfolding put insertAt
+  unfolding put insertAt insertBefore
   put-place e [] = (0, refl)
   put-place e (x ∷ xs) = go (atMost B (e .key) (x .key)) (put-place e xs)
     where
@@ -187,7 +187,7 @@ module _ (B : Book) where
 
     pairs-put : (e : En B) (es : Entries B) → ((x : En B) → In x es → same B (x .key) (e .key) ≡ false) → pairs (below B) es ≡ true
         → pairs (below B) (put B e es) ≡ true
-    unfolding put
+    unfolding put insertBefore
     pairs-put e [] m h = pairs-cons (below B) e [] (λ y i. absurd i) h
     pairs-put e (x ∷ xs) m h =
         let b = pairs-split (below B) x xs h in
@@ -228,7 +228,7 @@ module _ (B : Book) where
     -- with e put in, the first at or above x is the one it was, or e, and then it was the first at or above e too
     pub first-put : (e : En B) (x : B .Key) (es : Entries B)
         → (atOrAbove x (put B e es) ≡ atOrAbove x es) ⊎ ((atOrAbove x (put B e es) ≡ some e) × (atOrAbove x es ≡ atOrAbove (e .key) es))
-    unfolding put first
+    unfolding put insertBefore first
     first-put e x [] = go (atMost B x (e .key))
       where
         go : (b : Bool) → (_≡_ {A = Option (En B)} (cond b (some e) none) none) ⊎ ((_≡_ {A = Option (En B)} (cond b (some e) none) (some e)) × (_≡_ {A = Option (En B)} none none))
