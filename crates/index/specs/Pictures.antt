@@ -32,10 +32,10 @@ putPage s q g = putPart (512 * q) g s
 unfoldable pub treeOf : (n : ℕ) → List ℕ → ℕ → Tree ℕ Item n
 treeOf zero s q = record { number = q; holds = entriesOf (pageAt s q) }
 treeOf (suc n) s q =
-    record
-      { number = q
-      ; holds = map (λ (c : P.Child). record { low = c .low .0; tree = treeOf n s (c .page) }) (childrenOf (pageAt s q))
-      }
+    record {
+      number = q;
+      holds = map (λ (c : P.Child). record { low = c .low .0; tree = treeOf n s (c .page) }) (childrenOf (pageAt s q));
+    }
 
 -- the index in the buffer: root, used and height stand in page 0
 unfoldable pub indexOf : List ℕ → Index ℕ Item
