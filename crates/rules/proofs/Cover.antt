@@ -57,15 +57,15 @@ module _ (B : Book) where
       put-by k y z = sym (h .holder) ∙ clear-as B L s w i n g _ y (h .lock) (h .stands) (h .name ∙ ap (named B) z) (conflicts-x (h .lock .mode))
 
       did-covers : (r : Ran B) → Did B s (w .request) r → Held B (r .slots) T (cover (r .entries) x) S
-      did-covers r (refused m) = h
+      did-covers r (refused m z) = h
       did-covers r (looked m ls e) = held-kept B (s .slots) ls u _ _ e T (cover (s .entries) x) S h
       did-covers r (putIn k v ls a m y e) = ⊎-elim
           (λ z. rw z (held-kept B (s .slots) ls u (on k) X e T (cover (s .entries) x) S h))
           (λ z. rw (z .0) (subst (λ (t : ℕ). Held B ls t (on k) S) (sym (put-by k y (z .1))) (held-weaker B ls u (on k) X (held-took B L (s .slots) ls u (on k) X e))))
           (first-put B L (inserted u k v) x (s .entries))
-      did-covers r (broughtBack e v ls a o y q) =
+      did-covers r (broughtBack k e v ls p b a o y q) =
           rw (named-changed B (e .key) (revived u v) x (s .entries) (λ e. refl)) (held-kept B (s .slots) ls u (on (e .key)) S q T (cover (s .entries) x) S h)
-      did-covers r (tookAway e ls a y q) =
+      did-covers r (tookAway k e ls p b a y q) =
           rw (named-changed B (e .key) (deleted u) x (s .entries) (λ e. refl)) (held-kept B (s .slots) ls u (on (e .key)) X q T (cover (s .entries) x) S h)
 
       -- an entry changed that only u can hold isn't the cover of another's key
@@ -74,14 +74,14 @@ module _ (B : Book) where
       spared e o f y q = fails (same B (y .key) (e .key)) (λ z. o (held-by y u q (rw (same-equal B L (y .key) (e .key) z) f)))
 
       did-leaves : (T ≡ u → ⊥) → (r : Ran B) → Did B s (w .request) r → atOrAbove B x (r .entries) ≡ atOrAbove B x (s .entries)
-      did-leaves o r (refused m) = refl
+      did-leaves o r (refused m z) = refl
       did-leaves o r (looked m ls e) = refl
       did-leaves o r (putIn k v ls a m y e) = ⊎-elim (λ z. z) (λ z. absurd (o (put-by k y (z .1)))) (first-put B L (inserted u k v) x (s .entries))
-      did-leaves o r (broughtBack e v ls a c y q) =
+      did-leaves o r (broughtBack k e v ls p b a c y q) =
           first-changed B (e .key) (revived u v) x (s .entries) (λ e. refl)
           (spared e o (alone B L (s .slots) u (on (e .key)) (g .modes)
           (own-ghost B L s w i n g e (target-in B (s .entries) u (w .request .asks) e a) c (clear-as B L s w i n g _ y))))
-      did-leaves o r (tookAway e ls a y q) =
+      did-leaves o r (tookAway k e ls p b a y q) =
           first-changed B (e .key) (deleted u) x (s .entries) (λ e. refl)
           (spared e o (λ l j z. clear-as B L s w i n g _ y l j z (conflicts-x (l .mode))))
 

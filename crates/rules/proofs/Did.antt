@@ -2,7 +2,7 @@
 -- nothing blocked it. By the cases of the run's definition. Assumes nothing.
 use Prim.Native.Nat.{ℕ}
 use mathlib.Core.Path.{_≡_, refl, ap, subst, _∙_}
-use mathlib.Core.Logic.{inl, inr}
+use mathlib.Core.Logic.{_⊎_, inl, inr}
 use mathlib.Core.Bool.{Bool, true, false, cond, not, _&&_}
 use mathlib.Core.List.{List, [], _∷_, _++_}
 use mathlib.Core.Option.{Option, none, some}
@@ -39,7 +39,7 @@ module _ (B : Book) where
   -- what became of a request that ran
   pub data Did (s : St B) (q : Q B) : Ran B → Type 0 where
     -- 17 or 18: nothing is done
-    refused : (m : Sy B) → Did s q (unmoved B s m)
+    refused : (m : Sy B) → (m ≡ locksShort) ⊎ (m ≡ pagesShort) → Did s q (unmoved B s m)
     -- 1, 2 or 16: the target's lock is taken
     looked : (m : Sy B) (ls : Slots B) → Took B (s .slots) ls (q .asker) (wanted B (s .entries) q .name) (wanted B (s .entries) q .mode)
         → Did s q (locked B s m ls)
@@ -49,21 +49,23 @@ module _ (B : Book) where
         → Took B (s .slots) ls (q .asker) (on k) X
         → Did s q (record { says = done; entries = put B (inserted (q .asker) k r) (s .entries); pages = B .paging .grown (s .pages) k; slots = ls })
     -- 0 to an insert over a ghost
-    broughtBack : (e : En B) (r : B .Rec) (ls : Slots B) → target B (s .entries) (q .asker) (q .asks) ≡ some e → e .now ≡ none
+    broughtBack : (k : B .Key) (e : En B) (r : B .Rec) (ls : Slots B) → q .asks ≡ insert k r → same B (e .key) k ≡ true
+        → target B (s .entries) (q .asker) (q .asks) ≡ some e → e .now ≡ none
         → wanted B (s .entries) q ≡ record { name = on (e .key); mode = S } → Took B (s .slots) ls (q .asker) (on (e .key)) S
         → Did s q (record { says = done; entries = changed B (e .key) (revived (q .asker) r) (s .entries); pages = s .pages; slots = ls })
     -- 0 to a delete
-    tookAway : (e : En B) (ls : Slots B) → target B (s .entries) (q .asker) (q .asks) ≡ some e
+    tookAway : (k : B .Key) (e : En B) (ls : Slots B) → q .asks ≡ delete k → same B (e .key) k ≡ true
+        → target B (s .entries) (q .asker) (q .asks) ≡ some e
         → wanted B (s .entries) q ≡ record { name = on (e .key); mode = X } → Took B (s .slots) ls (q .asker) (on (e .key)) X
         → Did s q (record { says = done; entries = changed B (e .key) (deleted (q .asker)) (s .entries); pages = s .pages; slots = ls })
 
-  itself-is : (k : B .Key) (x : Option (En B)) (e : En B) → itself B k x ≡ some e → x ≡ some e
+  itself-is : (k : B .Key) (x : Option (En B)) (e : En B) → itself B k x ≡ some e → (x ≡ some e) × (same B (e .key) k ≡ true)
   itself-is k none e h = never (cc)
-  itself-is k (some y) e h = go (same B (y .key) k) h
+  itself-is k (some y) e h = go (same B (y .key) k) refl h
     where
-      go : (b : Bool) → cond b (some y) none ≡ some e → some y ≡ some e
-      go true h = h
-      go false h = never (cc)
+      go : (b : Bool) → same B (y .key) k ≡ b → cond b (some y) none ≡ some e → (some y ≡ some e) × (same B (e .key) k ≡ true)
+      go true q h = let z : y ≡ e = cc in (h, subst (λ (x : En B). same B (x .key) k ≡ true) z q)
+      go false q h = never (cc)
 
   module _ (s : St B) (t : ℕ) where
     did-taking : (q : Q B) (n : Name (B .Key)) (m : Mode) (f : Slots B → Ran B)
@@ -71,7 +73,7 @@ module _ (B : Book) where
     did-taking q n m f g = go (taken B (s .slots) t n m) refl
       where
         go : (o : Option (Slots B)) → taken B (s .slots) t n m ≡ o → Did s q (given B s f o)
-        go none e = refused locksShort
+        go none e = refused locksShort (inl refl)
         go (some ls) e = g ls (taken-took B (s .slots) ls t n m e)
 
     did-insert : (k : B .Key) (r : B .Rec) (o : Option (En B)) → itself B k (atOrAbove B k (s .entries)) ≡ o
@@ -83,16 +85,16 @@ module _ (B : Book) where
             → Did s (record { asker = t; asks = insert k r })
             (cond b (record { says = done; entries = put B (inserted t k r) (s .entries); pages = B .paging .grown (s .pages) k; slots = ls }) (unmoved B s pagesShort))
         go ls h true = putIn k r ls refl n (cc) h
-        go ls h false = refused pagesShort
+        go ls h false = refused pagesShort (inr refl)
     did-insert k r (some e) n = did-taking _ (on (e .key)) S _ (λ ls h. go ls h (e .now) refl)
       where
-        x : atOrAbove B k (s .entries) ≡ some e
+        x : (atOrAbove B k (s .entries) ≡ some e) × (same B (e .key) k ≡ true)
         x = itself-is k (atOrAbove B k (s .entries)) e n
 
         go : (ls : Slots B) → Took B (s .slots) ls t (on (e .key)) S → (o : Option (B .Rec)) → e .now ≡ o
             → Did s (record { asker = t; asks = insert k r }) (insertThere B s t r e o ls)
-        go ls h (some was) w = looked (isPresent (e .key) (some was)) ls (rw (n, x) h)
-        go ls h none w = broughtBack e r ls x w (cc x) h
+        go ls h (some was) w = looked (isPresent (e .key) (some was)) ls (rw (n, x .0) h)
+        go ls h none w = broughtBack k e r ls refl (x .1) (x .0) w (cc (x .0)) h
 
     did-delete : (k : B .Key) (o : Option (En B)) → itself B k (atOrAbove B k (s .entries)) ≡ o
         → Did s (record { asker = t; asks = delete k }) (deleteAs B s t (named B (atOrAbove B k (s .entries))) o)
@@ -100,13 +102,13 @@ module _ (B : Book) where
     did-delete k none n = did-taking _ _ S _ (λ ls h. looked nothing ls (rw n h))
     did-delete k (some e) n = did-taking _ (on (e .key)) X _ (λ ls h. go ls h (e .now))
       where
-        x : atOrAbove B k (s .entries) ≡ some e
+        x : (atOrAbove B k (s .entries) ≡ some e) × (same B (e .key) k ≡ true)
         x = itself-is k (atOrAbove B k (s .entries)) e n
 
         go : (ls : Slots B) → Took B (s .slots) ls t (on (e .key)) X → (o : Option (B .Rec))
             → Did s (record { asker = t; asks = delete k }) (deleteThere B s t e o ls)
-        go ls h (some was) = tookAway e ls x (cc x) h
-        go ls h none = looked nothing ls (rw (n, x) h)
+        go ls h (some was) = tookAway k e ls refl (x .1) (x .0) (cc (x .0)) h
+        go ls h none = looked nothing ls (rw (n, x .0) h)
 
     did-run : (a : Ask (B .Key) (B .Rec)) → Did s (record { asker = t; asks = a }) (run B s (record { asker = t; asks = a }))
     unfolding run runOn target mode wanted

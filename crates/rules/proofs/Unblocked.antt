@@ -77,16 +77,16 @@ module _ (B : Book) (L : Ordered (B .Key) (B .compare)) where
 
     pub did-sound : (r : Ran B) → Did B s (w .request) r → Sound B (runs B s) (r .entries) (r .slots)
     unfolding legalAsk
-    did-sound r (refused m) = good-sound s g
+    did-sound r (refused m h) = good-sound s g
     did-sound r (looked m ls e) =
         sound-taken B L (runs B s) (s .entries) (s .slots) ls t _ _ (asks .0) (wanted-name B L (s .entries) (w .request)) (unblocked B L s w i n) e (good-sound s g)
     did-sound r (putIn k v ls a m x e) =
         sound-put B L (runs B s) (s .entries) (s .slots) ls t k v (asks .0) somebody
         (subst (λ (q : Ask (B .Key) (B .Rec)). legalAsk B q ≡ true) a (asks .1)) (missing B L (s .entries) k (g .keys) m) e (good-sound s g)
-    did-sound r (broughtBack x v ls a o y e) =
+    did-sound r (broughtBack k x v ls p b a o y e) =
         sound-changed B L (runs B s) (s .entries) ls t (x .key) (revived t v) (asks .0) somebody (record { key = λ e. refl; owner = λ e. refl })
         (held-kept B (s .slots) ls t (on (x .key)) S e t (on (x .key)) X (own-ghost x (target-in B (s .entries) t (w .request .asks) x a) o (clear-as _ y)))
         (target-locked x S ls a y e)
-    did-sound r (tookAway x ls a y e) =
+    did-sound r (tookAway k x ls p b a y e) =
         sound-changed B L (runs B s) (s .entries) ls t (x .key) (deleted t) (asks .0) somebody (record { key = λ e. refl; owner = λ e. refl })
         (held-took B L (s .slots) ls t (on (x .key)) X e) (target-locked x X ls a y e)
