@@ -195,7 +195,7 @@ module _ (B : Book) (s : St B) where
         known u i = chain-known t (o .next ∷ r .steps) u (b, r .chain) i
 
   -- ---- at rest
-  rest-choices : AtRest B s → (oldest B s ≡ none) × (newest B s ≡ none)
+  pub rest-choices : AtRest B s → (oldest B s ≡ none) × (newest B s ≡ none)
   unfolding turn
   rest-choices h = by-oldest (oldest B s) refl h
     where

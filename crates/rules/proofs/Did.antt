@@ -59,7 +59,7 @@ module _ (B : Book) where
         → wanted B (s .entries) q ≡ record { name = on (e .key); mode = X } → Took B (s .slots) ls (q .asker) (on (e .key)) X
         → Did s q (record { says = done; entries = changed B (e .key) (deleted (q .asker)) (s .entries); pages = s .pages; slots = ls })
 
-  itself-is : (k : B .Key) (x : Option (En B)) (e : En B) → itself B k x ≡ some e → (x ≡ some e) × (same B (e .key) k ≡ true)
+  pub itself-is : (k : B .Key) (x : Option (En B)) (e : En B) → itself B k x ≡ some e → (x ≡ some e) × (same B (e .key) k ≡ true)
   itself-is k none e h = never (cc)
   itself-is k (some y) e h = go (same B (y .key) k) refl h
     where

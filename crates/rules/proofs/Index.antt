@@ -118,7 +118,7 @@ module _ (B : Book) where
       (in-all _ (map f es) (λ y i. let w = in-map f es y i in rw (← w .2, g (w .0)) (all-in _ es (w .0) (b .1) (w .1))))
 
   -- an entry changed or not, by something that keeps keys
-  kept-key : (f : En B → En B) → ((e : En B) → f e .key ≡ e .key) → (b : Bool) (e : En B) → cond b (f e) e .key ≡ e .key
+  pub kept-key : (f : En B → En B) → ((e : En B) → f e .key ≡ e .key) → (b : Bool) (e : En B) → cond b (f e) e .key ≡ e .key
   kept-key f g true e = g e
   kept-key f g false e = refl
 
@@ -144,14 +144,15 @@ module _ (B : Book) where
       first-map (λ e. cond (same B (e .key) k) (f e) e) _ _ es (λ e. rw (kept-key f g (same B (e .key) k) e))
       ∙ unmapped (λ e. cond (same B (e .key) k) (f e) e) (atOrAbove x es) (λ e q. rw (h e q))
 
+  pub named-map : (g : En B → En B) → ((e : En B) → g e .key ≡ e .key) → (o : Option (En B)) → named B (Option·map g o) ≡ named B o
+  named-map g h none = refl
+  named-map g h (some e) = ap on (h e)
+
   pub named-changed : (k : B .Key) (f : En B → En B) (x : B .Key) (es : Entries B) → ((e : En B) → f e .key ≡ e .key)
       → named B (atOrAbove x (changed B k f es)) ≡ named B (atOrAbove x es)
   unfolding changed
-  named-changed k f x es g = ap (named B) (first-map (λ e. cond (same B (e .key) k) (f e) e) _ _ es (λ e. rw (kept-key f g (same B (e .key) k) e))) ∙ go (atOrAbove x es)
-    where
-      go : (o : Option (En B)) → named B (Option·map (λ e. cond (same B (e .key) k) (f e) e) o) ≡ named B o
-      go none = refl
-      go (some e) = ap on (kept-key f g (same B (e .key) k) e)
+  named-changed k f x es g = ap (named B) (first-map (λ e. cond (same B (e .key) k) (f e) e) _ _ es (λ e. rw (kept-key f g (same B (e .key) k) e)))
+      ∙ named-map (λ e. cond (same B (e .key) k) (f e) e) (λ e. kept-key f g (same B (e .key) k) e) (atOrAbove x es)
 
   pub first-settled : (f : En B → En B) (t : ℕ) (x : B .Key) (es : Entries B) → ((e : En B) → f e .key ≡ e .key)
       → ((e : En B) → atOrAbove x es ≡ some e → eqb (e .owner) t ≡ false) → atOrAbove x (settled f t es) ≡ atOrAbove x es

@@ -2,7 +2,7 @@
 -- answers that a comparison gives. Assumes nothing.
 use Prim.Native.Nat.{Ordering, Ordering·lt, Ordering·eq, Ordering·gt}
 use mathlib.Core.Path.{_≡_, refl, sym, ap, _∙_}
-use mathlib.Core.Bool.{true, false≢true}
+use mathlib.Core.Bool.{true, false, true≢false, false≢true}
 use lib.Dec.{isLe, isEq}
 use Rattle.rules.specs.Kinds.{Book, Ordered, Name, on, end}
 use Rattle.rules.specs.Entries.{atMost, same}
@@ -30,6 +30,14 @@ module _ (B : Book) (L : Ordered (B .Key) (B .compare)) where
       go Ordering·lt e h = absurd (false≢true (sym (ap isLe (L .below a b e)) ∙ k))
       go Ordering·eq e h = L .equal a b e
       go Ordering·gt e h = absurd (false≢true h)
+
+  pub atMost-other : (a b : B .Key) → atMost B b a ≡ false → atMost B a b ≡ true
+  atMost-other a b h = go (B .compare b a) refl h
+    where
+      go : (o : Ordering) → B .compare b a ≡ o → isLe o ≡ false → atMost B a b ≡ true
+      go Ordering·lt e h = absurd (true≢false h)
+      go Ordering·eq e h = absurd (true≢false h)
+      go Ordering·gt e h = ap isLe (L .above b a e)
 
   pub atMost-along : (a b c : B .Key) → atMost B a b ≡ true → atMost B b c ≡ true → atMost B a c ≡ true
   atMost-along a b c h k = go (B .compare a b) (B .compare b c) refl refl h k

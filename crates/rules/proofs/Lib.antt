@@ -13,3 +13,4 @@ pub mod Unblocked
 pub mod GoodKept
 pub mod Cover
 pub mod Orders
+pub mod Targets
