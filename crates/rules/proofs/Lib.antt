@@ -14,3 +14,4 @@ pub mod GoodKept
 pub mod Cover
 pub mod Orders
 pub mod Targets
+pub mod Stands
