@@ -140,7 +140,7 @@ module _ (B : Book) where
             let i : In w (waits B s) × (isNil (w .behind) ≡ true) = first-in _ (waits B s) w q in
             subst (λ (u : Turn B). Acts s (turnDeed B s u) (u .state)) z (as-told w (run B s (w .request) .says) _ (i .0) (goes w (i .0) (nil-is (w .behind) (i .1))))
 
-    good-after : (s : St B) (d : Deed B) (z : St B) → Acts s d z → Good B s → Good B z
+    pub good-after : (s : St B) (d : Deed B) (z : St B) → Acts s d z → Good B s → Good B z
     good-after s d z a = acts-keep (Anyone B) (Good B) (good-kept B L) s d z a (λ u e. tt)
 
     turns-tell : (n : ℕ) (s : St B) → Good B s → Tells s (turnDeeds B n s) (turns B n s .state)
@@ -237,3 +237,29 @@ module _ (B : Book) where
     -- the story of a run of calls, from fresh to where they lead
     pub story-tells : (cs : List (Cl B)) → Tells (fresh B) (story B cs) (after B (fresh B) cs)
     story-tells cs = calls-tell (fresh B) cs (fresh-good B L)
+
+    -- a deed of the story, and a later one: the states at each, and the deeds between
+    pub record Later (a : Deed B) (ys : List (Deed B)) (m : Deed B) : Type 0 where
+      pub before : St B
+      pub after : St B
+      pub good : Good B before
+      pub acts : Acts before a after
+      pub until : St B
+      pub between : Tells after ys until
+      pub then : St B
+      pub follows : Acts until m then
+
+    pub story-later : (cs : List (Cl B)) (xs ys zs : List (Deed B)) (a m : Deed B) → story B cs ≡ xs ++ (a ∷ ys ++ (m ∷ zs)) → Later a ys m
+    story-later cs xs ys zs a m e =
+        let v = tells-at (story-tells cs) xs a (ys ++ (m ∷ zs)) e in
+        let w = tells-at (v .later) ys m zs refl in
+        record {
+          before = v .before;
+          after = v .after;
+          good = tells-keep (Good B) (λ d. Unit {0}) (good-kept B L .joins) (λ s d z c o. good-after s d z c) (v .earlier) (λ d i. tt) (fresh-good B L);
+          acts = v .acts;
+          until = w .before;
+          between = w .earlier;
+          then = w .after;
+          follows = w .acts;
+        }

@@ -1,3 +1,4 @@
 pub mod Faithful
 pub mod Deeds
 pub mod Told
+pub mod Ranges
