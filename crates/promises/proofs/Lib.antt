@@ -2,3 +2,4 @@ pub mod Faithful
 pub mod Deeds
 pub mod Told
 pub mod Ranges
+pub mod Again

@@ -102,14 +102,14 @@ module _ (B : Book) (L : Ordered (B .Key) (B .compare)) where
       go (delete k) e h = key-told s q k (rw e) g x y (run B s q) (run-did B s q) h
 
   -- an answer without a range
-  tells-none : (m : Sy B) → ((lo hi : B .Key) → toldRead B lo hi m ≡ none) → ((k : B .Key) → toldKey B k m ≡ none)
+  pub tells-none : (m : Sy B) → ((lo hi : B .Key) → toldRead B lo hi m ≡ none) → ((k : B .Key) → toldKey B k m ≡ none)
       → {P : Type 0} (a : Ask (B .Key) (B .Rec)) (g : Range B) → told B (ask a) m ≡ some g → P
   unfolding told
   tells-none m f h (read lo hi) g e = let z = f lo hi in never (cc)
   tells-none m f h (insert k r) g e = let z = h k in never (cc)
   tells-none m f h (delete k) g e = let z = h k in never (cc)
 
-  refusal-told : (s : St B) (t : ℕ) (r : Request (B .Key) (B .Rec)) (m : Sy B) → refusal B s t r ≡ some m → {P : Type 0} (g : Range B) → told B r m ≡ some g → P
+  pub refusal-told : (s : St B) (t : ℕ) (r : Request (B .Key) (B .Rec)) (m : Sy B) → refusal B s t r ≡ some m → {P : Type 0} (g : Range B) → told B r m ≡ some g → P
   unfolding told refusal
   refusal-told s t begin m e g h = never (cc)
   refusal-told s t commit m e g h = never (cc)
