@@ -3,3 +3,4 @@ pub mod Deeds
 pub mod Told
 pub mod Ranges
 pub mod Again
+pub mod Demand3

@@ -214,10 +214,10 @@ module _ (B : Book) where
         (and _ _ (is-of t n (h .lock) (h .holder) (h .name)) (strong-x (h .lock .mode) (h .strong)))
 
     -- two locks on one name: other holders, and modes that go together
-    abbrev Apart : Lk B → Lk B → Type 0
+    abbrev pub Apart : Lk B → Lk B → Type 0
     Apart k l = (eqb (k .holder) (l .holder) ≡ false) × (conflict (k .mode) (l .mode) ≡ false)
 
-    together-apart : (k l : Lk B) → together B k l ≡ true → k .name ≡ l .name → Apart k l
+    pub together-apart : (k l : Lk B) → together B k l ≡ true → k .name ≡ l .name → Apart k l
     unfolding together
     together-apart k l h e =
         let c : not (eqb (k .holder) (l .holder)) && not (conflict (k .mode) (l .mode)) ≡ true = rw (e, name-itself B L (l .name)) at h in
@@ -232,7 +232,7 @@ module _ (B : Book) where
         go true q = let w = f (name-equal B L (k .name) (l .name) q) in rw (w .0, w .1) refl
         go false q = refl
 
-    apart-turn : (k l : Lk B) → Apart k l → Apart l k
+    pub apart-turn : (k l : Lk B) → Apart k l → Apart l k
     apart-turn k l a = (ne-eqb (l .holder) (k .holder) (λ z. eqb-false (k .holder) (l .holder) (a .0) (sym z)), conflict-turn (l .mode) (k .mode) ∙ a .1)
 
     -- W2 in use: whoever is on a name that t holds in X is t
