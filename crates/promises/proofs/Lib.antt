@@ -4,3 +4,4 @@ pub mod Told
 pub mod Ranges
 pub mod Again
 pub mod Demand3
+pub mod Namesake

@@ -1,2 +1,3 @@
 pub mod Story
 pub mod Demand3
+pub mod Namesake

@@ -35,28 +35,28 @@ pub record Case : Type 0 where
   pub scene : Scene
 
 -- the words in which cases are written
-abbrev over : ℕ → Request ℕ ℕ → List (Answer ℕ ℕ) → Over
+abbrev pub over : ℕ → Request ℕ ℕ → List (Answer ℕ ℕ) → Over
 over t r as′ = record { bowled = record { asker = t; request = r }; answered = some as′ }
 
-abbrev refused12 : ℕ → Request ℕ ℕ → Over
+abbrev pub refused12 : ℕ → Request ℕ ℕ → Over
 refused12 t r = record { bowled = record { asker = t; request = r }; answered = none }
 
-abbrev to : ℕ → Says ℕ ℕ → Answer ℕ ℕ
+abbrev pub to : ℕ → Says ℕ ℕ → Answer ℕ ℕ
 to t m = record { asker = t; says = m }
 
-abbrev only : ℕ → Says ℕ ℕ → List (Answer ℕ ℕ)
+abbrev pub only : ℕ → Says ℕ ℕ → List (Answer ℕ ℕ)
 only t m = to t m ∷ []
 
-abbrev begins : ℕ → Over
+abbrev pub begins : ℕ → Over
 begins t = over t begin (only t done)
 
-abbrev reads : ℕ → ℕ → ℕ → List (Answer ℕ ℕ) → Over
+abbrev pub reads : ℕ → ℕ → ℕ → List (Answer ℕ ℕ) → Over
 reads t lo hi as′ = over t (ask (read lo hi)) as′
 
-abbrev inserts : ℕ → ℕ → ℕ → List (Answer ℕ ℕ) → Over
+abbrev pub inserts : ℕ → ℕ → ℕ → List (Answer ℕ ℕ) → Over
 inserts t k r as′ = over t (ask (insert k r)) as′
 
-abbrev deletes : ℕ → ℕ → List (Answer ℕ ℕ) → Over
+abbrev pub deletes : ℕ → ℕ → List (Answer ℕ ℕ) → Over
 deletes t k as′ = over t (ask (delete k)) as′
 
 -- transaction 16 settles the keys, in this order, each with its record
@@ -64,26 +64,26 @@ pub record Row : Type 0 where
   pub key : ℕ
   pub rec : ℕ
 
-abbrev row : ℕ → ℕ → Row
+abbrev pub row : ℕ → ℕ → Row
 row k r = record { key = k; rec = r }
 
-abbrev settling : List Row → List Over
+abbrev pub settling : List Row → List Over
 settling rs =
     begins 16 ∷ (map (λ (x : Row). inserts 16 (x .key) (x .rec) (only 16 done)) rs ++ (over 16 commit (only 16 done) ∷ []))
 
-abbrev waits : ℕ → Name ℕ → Waiter
+abbrev pub waits : ℕ → Name ℕ → Waiter
 waits t n = record { asker = t; name = n }
 
-abbrev lock : Mode → Name ℕ → ℕ → Lock ℕ
+abbrev pub lock : Mode → Name ℕ → ℕ → Lock ℕ
 lock m n t = record { name = n; holder = t; mode = m }
 
-abbrev settledAs : ℕ → ℕ → Entry ℕ ℕ
+abbrev pub settledAs : ℕ → ℕ → Entry ℕ ℕ
 settledAs k r = record { key = k; owner = 0; now = some r; before = some r }
 
-abbrev entry : ℕ → ℕ → Option ℕ → Option ℕ → Entry ℕ ℕ
+abbrev pub entry : ℕ → ℕ → Option ℕ → Option ℕ → Entry ℕ ℕ
 entry k t n b = record { key = k; owner = t; now = n; before = b }
 
-abbrev left : List Waiter → List (Lock ℕ) → List (Entry ℕ ℕ) → Scene
+abbrev pub left : List Waiter → List (Lock ℕ) → List (Entry ℕ ℕ) → Scene
 left ws ls es = record { waiters = ws; locks = ls; entries = es }
 
 -- "Fresh; 1 begins, inserts 100 with record 7; 2 begins, reads 50..150: 3. Then 1 commits."

@@ -1,0 +1,15 @@
+-- The story of the namesake goes as it is stated: the rule book, played on it, gives its answers and where things stand. By computation.
+-- Assumes nothing.
+use mathlib.Core.Path.{refl}
+use Rattle.lists.specs.Lists as L
+use Rattle.rules.specs.Entries as E
+use Rattle.rules.specs.Locks as K
+use Rattle.rules.specs.Queue as Q
+use Rattle.rules.specs.Runs as R
+use Rattle.rules.specs.Desk as D
+use Rattle.rules.specs.Cases as C
+use Rattle.promises.specs.Namesake as N
+
+pub namesake-waits : N.NamesakeWaits
+unfolding L.insertBefore L.any L.keep L.first L.last L.join L.tab E.left E.settled E.takenOut E.put E.changed K.inUse K.added K.taken K.released K.target K.mode K.wanted K.holders K.earlier K.blockers Q.waitsFrom Q.waits Q.oldest Q.further Q.reached Q.onCircle Q.newest Q.leave R.paper R.readSays R.insertMissing R.insertThere R.insertAs R.deleteThere R.deleteAs R.runOn R.run R.turn R.turns R.worked D.refusal D.begun D.ended D.joined D.acts D.step D.legalAsk D.legalRequest D.call D.fresh D.after D.session C.played C.stated N.namesake
+namesake-waits = refl
