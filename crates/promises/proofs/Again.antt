@@ -3,21 +3,20 @@
 -- Assumes nothing.
 use Prim.Native.Nat.{ℕ}
 use mathlib.Core.Path.{_≡_, refl, sym, ap, ap₂, subst, _∙_}
-use mathlib.Core.Bool.{Bool, true, false, _&&_, true≢false, false≢true}
-use mathlib.Core.List.{List, []}
+use mathlib.Core.Bool.{Bool, true, false, _&&_, true≢false}
+use mathlib.Core.List.{List}
 use mathlib.Core.Option.{none, some, Option·some-injective}
 use lib.Dec.{eqb}
 use borrow.Author.Tests.{eqb-true, eqb-false, eq-eqb, not-true}
 use Rattle.lists.specs.Lists.{In, isNil}
 use Rattle.lists.proofs.Elements.{all-in, never}
-use Rattle.rules.specs.Kinds.{Book, Ordered, S, Ask, read, insert, delete, Request, begin, commit, rollback, ask}
+use Rattle.rules.specs.Kinds.{Book, Ordered, Ask, read, insert, delete, Request, ask}
 use Rattle.rules.specs.Entries.{committed, rolledBack}
-use Rattle.rules.specs.Locks.{holds, named, target}
+use Rattle.rules.specs.Locks.{named, target}
 use Rattle.rules.specs.Queue.{St, Q, Wait, waits, oldest}
-use Rattle.rules.specs.Runs.{done, waiting, waitsAlready, locksShort, circle, Sy, run}
-use Rattle.rules.specs.Desk.{Cl, runs, waitsNow, ifSo, unlessRuns, refusal, begun, ended, joined}
+use Rattle.rules.specs.Runs.{waiting, waitsAlready, locksShort, circle, Sy, run}
+use Rattle.rules.specs.Desk.{Cl, runs, waitsNow, ifSo, refusal, begun, joined}
 use Rattle.rules.specs.Good.{Good}
-use Rattle.rules.proofs.Keeps.{Kept}
 use Rattle.rules.proofs.LockTable.{holds-held}
 use Rattle.rules.proofs.Sound.{committed-settles, rolledBack-settles}
 use Rattle.rules.proofs.Did.{run-did}
@@ -26,9 +25,9 @@ use Rattle.rules.proofs.Waits.{wait-of, oldest-none}
 use Rattle.rules.proofs.Chains.{rest-choices}
 use Rattle.rules.proofs.GoodKept.{good-kept}
 use Rattle.rules.proofs.Stands.{Stands, Outside, other-run, other-end, own-run, not-blocked, says-again, read-stands}
-use Rattle.promises.specs.Story.{Deed, Range, toldRead, told, ends, isDone}
+use Rattle.promises.specs.Story.{Deed, Range, toldRead, told, ends}
 use Rattle.promises.specs.Demand3.{changes, ownChange, SameAgain}
-use Rattle.promises.proofs.Deeds.{Acts, begins, commits, rollsBack, goes, givesWay, refuses, queues, tells-keep, good-after, story-later}
+use Rattle.promises.proofs.Deeds.{Acts, begins, commits, rollsBack, goes, givesWay, refuses, queues, tells-keep, story-later}
 use Rattle.promises.proofs.Told.{tells-none, refusal-told}
 
 module _ (B : Book) (L : Ordered (B .Key) (B .compare)) (t : ℕ) (lo hi : B .Key) where

@@ -3,14 +3,14 @@
 use Prim.Native.Nat.{ℕ, zero, suc}
 use mathlib.Core.Path.{_≡_, refl, sym, ap, subst, _∙_}
 use mathlib.Core.Logic.{_⊎_, inl, inr}
-use mathlib.Core.Bool.{Bool, true, false, cond, not, _&&_, true≢false, false≢true}
+use mathlib.Core.Bool.{Bool, true, false, cond, true≢false, false≢true}
 use mathlib.Core.List.{List, [], _∷_, _++_}
 use mathlib.Core.Option.{Option, none, some}
 use lib.Dec.{eqb}
 use lib.ListN.{length}
 use borrow.Author.Tests.{eqb-true, eq-eqb}
-use Rattle.lists.specs.Lists.{In, first, isNil}
-use Rattle.lists.proofs.Elements.{both, never, nil-is, any-in, in-any, not-any, in-keep, first-in, last-in, pairs-in}
+use Rattle.lists.specs.Lists.{In, isNil}
+use Rattle.lists.proofs.Elements.{both, never, nil-is, any-in, not-any, in-keep, first-in, pairs-in}
 use Rattle.lists.proofs.Finite.{append-in}
 use Rattle.lists.proofs.Firsts.{first-only}
 use Rattle.rules.specs.Kinds.{Book, Ordered, Ask, Request, begin, commit, rollback, ask}
@@ -21,7 +21,7 @@ use Rattle.rules.specs.Desk.{Cl, runs, waitsNow, ifSo, unlessRuns, refusal, beg
 use Rattle.rules.specs.Good.{Good, otherAsker}
 use Rattle.rules.proofs.Keeps.{Kept, Anyone, anyone-may, call-keeps}
 use Rattle.rules.proofs.Rest.{turn-leaves, worked-by-turns, worked-rests}
-use Rattle.rules.proofs.Waits.{oldest-waits, newest-waits}
+use Rattle.rules.proofs.Waits.{newest-waits}
 use Rattle.rules.proofs.Did.{waits-in}
 use Rattle.rules.proofs.GoodKept.{good-kept, fresh-good}
 use Rattle.promises.specs.Story.{Deed, asksOf, askedBy, turnDeed, andOn, turnDeeds, queueDeeds, idleDeed, lastDeed, actDeeds, deedsUnless, callDeeds, storyFrom, story, ends}

@@ -5,7 +5,7 @@ use mathlib.Core.Logic.{_⊎_, inl, inr}
 use mathlib.Core.Bool.{true, false}
 use mathlib.Core.List.{List}
 use Rattle.lists.proofs.Elements.{pairs-in}
-use Rattle.rules.specs.Kinds.{Book, Ordered, Lock}
+use Rattle.rules.specs.Kinds.{Book, Ordered}
 use Rattle.rules.specs.Locks.{inUse, conflict}
 use Rattle.rules.specs.Desk.{Cl, fresh, after}
 use Rattle.rules.specs.Good.{Lk, together}

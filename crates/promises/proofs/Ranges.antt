@@ -2,19 +2,17 @@
 -- every deed but its own end, and while it does no other's run or end changes what the key finds. Assumes nothing.
 use Prim.Native.Nat.{ℕ}
 use mathlib.Core.Path.{_≡_, refl, sym, ap, _∙_}
-use mathlib.Core.Bool.{true, false, true≢false, not}
+use mathlib.Core.Bool.{true, false, true≢false}
 use mathlib.Core.List.{List}
 use borrow.Author.Tests.{not-true}
 use Rattle.lists.specs.Lists.{In}
 use Rattle.lists.proofs.Elements.{all-in}
 use Rattle.rules.specs.Kinds.{Book, Ordered}
-use Rattle.rules.specs.Entries.{Entries, committed, rolledBack, settled}
+use Rattle.rules.specs.Entries.{Entries, committed, rolledBack}
 use Rattle.rules.specs.Locks.{itself}
 use Rattle.rules.specs.Queue.{St}
-use Rattle.rules.specs.Runs.{En, run}
 use Rattle.rules.specs.Desk.{Cl, begun, ended}
 use Rattle.rules.specs.Good.{ascending, Good}
-use Rattle.rules.proofs.Keeps.{Kept}
 use Rattle.rules.proofs.Index.{atOrAbove}
 use Rattle.rules.proofs.Sound.{committed-settles, rolledBack-settles}
 use Rattle.rules.proofs.Cover.{Covers, cover-kept, run-leaves, end-leaves}

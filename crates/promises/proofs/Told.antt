@@ -2,7 +2,7 @@
 -- it goes over, an insert and a delete by the key's own cover, which is their target. Assumes nothing.
 use Prim.Native.Nat.{ℕ}
 use mathlib.Core.Path.{_≡_, refl, sym, ap, subst}
-use mathlib.Core.Logic.{_⊎_, inl, inr}
+use mathlib.Core.Logic.{inl, inr}
 use mathlib.Core.Bool.{Bool, true, false, cond}
 use mathlib.Core.List.{[]}
 use mathlib.Core.Option.{Option, none, some, Option·some-injective}
@@ -10,13 +10,13 @@ use Rattle.lists.specs.Lists.{In}
 use Rattle.lists.proofs.Elements.{both, never}
 use Rattle.rules.specs.Kinds.{Book, Ordered, Ask, read, insert, delete, Request, begin, commit, rollback, ask}
 use Rattle.rules.specs.Entries.{atMost}
-use Rattle.rules.specs.Locks.{Slots, named, target, wanted, holds}
+use Rattle.rules.specs.Locks.{target, wanted}
 use Rattle.rules.specs.Queue.{St, Q, Wait, waits}
 use Rattle.rules.specs.Runs.{done, found, nothing, waiting, runsAlready, runsNot, waitsAlready, isPresent, locksShort, pagesShort, circle, Sy, En, Ran, readSays, run, left}
 use Rattle.rules.specs.Desk.{runs, waitsNow, ifSo, unlessRuns, refusal}
 use Rattle.rules.specs.Good.{Good}
 use Rattle.rules.proofs.Keys.{atMost-equal, atMost-along, atMost-other}
-use Rattle.rules.proofs.LockTable.{Took, held-holds, held-took}
+use Rattle.rules.proofs.LockTable.{held-holds, held-took}
 use Rattle.rules.proofs.Did.{Did, refused, looked, putIn, broughtBack, tookAway, run-did}
 use Rattle.rules.proofs.Cover.{cover, Covers}
 use Rattle.rules.proofs.Targets.{UpTo, read-covers}

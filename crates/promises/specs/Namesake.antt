@@ -4,7 +4,7 @@ use Prim.Native.Nat.{ℕ, _+_, _*_}
 use mathlib.Core.Path.{_≡_}
 use mathlib.Core.List.{List, [], _∷_, _++_}
 use mathlib.Core.Option.{none, some}
-use Rattle.rules.specs.Kinds.{S, X, on, commit}
+use Rattle.rules.specs.Kinds.{X, on, commit}
 use Rattle.rules.specs.Runs.{found, nothing, waiting, done}
 use Rattle.rules.specs.Cases.{Over, Case, over, to, only, begins, reads, inserts, row, settling, lock, settledAs, entry, left, played, stated}
 

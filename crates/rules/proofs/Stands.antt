@@ -9,23 +9,22 @@ use mathlib.Core.Option.{Option, none, some, Option·map}
 use lib.Dec.{eqb}
 use borrow.Author.Tests.{eqb-false, not-true}
 use Rattle.lists.specs.Lists.{any, In}
-use Rattle.lists.proofs.Elements.{both, fails, never, any-in, first-in, first-map}
+use Rattle.lists.proofs.Elements.{both, fails, any-in, first-in, first-map}
 use Rattle.lists.proofs.Tests.{keep-none}
 use Rattle.rules.specs.Kinds.{Book, Ordered, Mode, S, X, Name, on, Ask, read, insert, delete}
-use Rattle.rules.specs.Entries.{Entries, atMost, same, inserted, deleted, revived, put, changed}
+use Rattle.rules.specs.Entries.{atMost, same, inserted, deleted, revived, put, changed}
 use Rattle.rules.specs.Locks.{Slots, inUse, conflict, stronger, sameName, holds, taken, counts, target, named, mode, wanted, holders, blockers}
 use Rattle.rules.specs.Queue.{St, Q, Wait, waits}
 use Rattle.rules.specs.Runs.{done, nothing, locksShort, Sy, En, Ran, given, locked, readSays, runOn, run, left}
 use Rattle.rules.specs.Desk.{runs, ended}
 use Rattle.rules.specs.Good.{Lk, ascending, Good}
-use Rattle.rules.proofs.Keys.{same-equal, atMost-itself, atMost-other, atMost-along, name-equal}
+use Rattle.rules.proofs.Keys.{same-equal, atMost-itself, atMost-along, name-equal}
 use Rattle.rules.proofs.Index.{kept-key, named-map}
-use Rattle.rules.proofs.LockTable.{Took, taken-took, Held, holds-held, held-holds, held-weaker, held-kept, held-took, held-released, alone}
+use Rattle.rules.proofs.LockTable.{Took, taken-took, Held, holds-held, held-holds, held-kept, held-took, held-released, alone}
 use Rattle.rules.proofs.Sound.{Settles}
 use Rattle.rules.proofs.Waits.{placed}
 use Rattle.rules.proofs.Did.{Did, refused, looked, putIn, broughtBack, tookAway, run-did}
 use Rattle.rules.proofs.GoodKept.{good-kept}
-use Rattle.rules.proofs.Keeps.{Kept}
 use Rattle.rules.proofs.Cover.{Covers, run-leaves, end-leaves}
 use Rattle.rules.proofs.Targets.{UpTo, read-covers, target-stays, first-with}
 

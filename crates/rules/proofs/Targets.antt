@@ -4,12 +4,12 @@ use Prim.Native.Nat.{ℕ}
 use mathlib.Core.Path.{_≡_, refl, sym, subst, _∙_}
 use mathlib.Core.Logic.{_⊎_, inl, inr, ⊎-elim}
 use mathlib.Core.Bool.{Bool, true, false, cond, not, _&&_, _||_, true≢false, false≢true}
-use mathlib.Core.List.{List, [], _∷_}
+use mathlib.Core.List.{[], _∷_}
 use mathlib.Core.Option.{Option, none, some}
 use lib.Dec.{eqb}
 use borrow.Author.Tests.{eqb-true, not-true}
 use Rattle.lists.specs.Lists.{first, pairs, In, insertBefore}
-use Rattle.lists.proofs.Elements.{both, never, fails, first-in, first-least, pairs-split}
+use Rattle.lists.proofs.Elements.{both, never, first-in, first-least, pairs-split}
 use Rattle.lists.proofs.Finite.{none-first}
 use Rattle.lists.proofs.Firsts.{first-only, first-agree}
 use Rattle.rules.specs.Kinds.{Book, Ordered, X, on, end, read}
