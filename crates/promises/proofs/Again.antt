@@ -27,7 +27,7 @@ use Rattle.rules.proofs.GoodKept.{good-kept}
 use Rattle.rules.proofs.Stands.{Stands, Outside, other-run, other-end, own-run, not-blocked, says-again, read-stands}
 use Rattle.promises.specs.Story.{Deed, Range, toldRead, told, ends}
 use Rattle.promises.specs.Demand3.{changes, ownChange, SameAgain}
-use Rattle.promises.proofs.Deeds.{Acts, begins, commits, rollsBack, goes, givesWay, refuses, queues, tells-keep, story-later}
+use Rattle.promises.proofs.Deeds.{Acts, begins, commits, rollsBack, goes, givesWay, refuses, queues, Tells, tells-keep, story-later}
 use Rattle.promises.proofs.Told.{tells-none, refusal-told}
 
 module _ (B : Book) (L : Ordered (B .Key) (B .compare)) (t : ℕ) (lo hi : B .Key) where
@@ -51,7 +51,7 @@ module _ (B : Book) (L : Ordered (B .Key) (B .compare)) (t : ℕ) (lo hi : B .Ke
   given-stands s d z (refuses u r m c) k g a e h = refusal-told B L s u r m c g h
   given-stands s d z (queues q i c) k g a e h = tells-none B L waiting (λ lo hi. refl) (λ k. refl) (q .asks) g h
 
-  -- it stands through a deed that is neither t's end nor t's own change there
+  -- it stands through deeds that are neither t's end nor t's own change there
   module _ (m : Sy B) where
     not-end : (u : ℕ) → (eqb u t && true) && true ≡ false → t ≡ u → ⊥
     not-end u e z = true≢false (sym (rw (eq-eqb u t (sym z))) ∙ e)
@@ -61,7 +61,10 @@ module _ (B : Book) (L : Ordered (B .Key) (B .compare)) (t : ℕ) (lo hi : B .Ke
     outside (insert k r) h = h
     outside (delete k) h = h
 
-    deed-stands : (s : St B) (d : Deed B) (z : St B) → Acts B s d z → (ends B t d ≡ false) × (ownChange B t lo hi d ≡ false) → Stands B t lo hi m s → Stands B t lo hi m z
+    abbrev Spares : Deed B → Type 0
+    Spares d = (ends B t d ≡ false) × (ownChange B t lo hi d ≡ false)
+
+    deed-stands : (s : St B) (d : Deed B) (z : St B) → Acts B s d z → Spares d → Stands B t lo hi m s → Stands B t lo hi m z
     unfolding begun
     deed-stands s d z (begins u i r) o v = record { good = good-kept B L .begins s u i r (v .good); held = v .held; says = v .says }
     deed-stands s d z (commits u i r n) o v =
@@ -78,6 +81,14 @@ module _ (B : Book) (L : Ordered (B .Key) (B .compare)) (t : ℕ) (lo hi : B .Ke
     deed-stands s d z (givesWay w i n) o v = record { good = good-kept B L .givesWay s w i (v .good); held = v .held; says = v .says }
     deed-stands s d z (refuses u r n e) o v = v
     deed-stands s d z (queues q i e) o v = v
+
+    joined-stands : (s : St B) (u : ℕ) (a : Ask (B .Key) (B .Rec)) → Good B (joined B s u a) → Stands B t lo hi m s → Stands B t lo hi m (joined B s u a)
+    unfolding joined
+    joined-stands s u a g v = record { good = g; held = v .held; says = v .says }
+
+    still-stands : {s z : St B} {ds : List (Deed B)} → Tells B s ds z → ((d : Deed B) → In d ds → Spares d) → Stands B t lo hi m s → Stands B t lo hi m z
+    still-stands y f =
+        tells-keep B (Stands B t lo hi m) Spares (λ s u a r w l v. joined-stands s u a (good-kept B L .joins s u a r w l (v .good)) v) deed-stands y f
 
     -- where it stands, the same read gets it
     module _ (s : St B) (v : Stands B t lo hi m s) where
@@ -104,15 +115,11 @@ module _ (B : Book) (L : Ordered (B .Key) (B .compare)) (t : ℕ) (lo hi : B .Ke
       given-again d z (queues q i c) a e f = let w = wait-of B s q i in absurd (not-queued (rest-choices B s c .0) (w .0) (w .1) (w .2 ∙ is-read q a e))
 
 module _ (B : Book) (L : Ordered (B .Key) (B .compare)) where
-  joined-stands : (t : ℕ) (lo hi : B .Key) (m : Sy B) (s : St B) (u : ℕ) (a : Ask (B .Key) (B .Rec)) → Good B (joined B s u a) → Stands B t lo hi m s → Stands B t lo hi m (joined B s u a)
-  unfolding joined
-  joined-stands t lo hi m s u a g v = record { good = g; held = v .held; says = v .says }
-
   pub same-again : (cs : List (Cl B)) → SameAgain B cs
-  same-again cs = record { again = λ xs ys zs a m g lo hi e r h b q f n o.
-      let t = a .actor in
-      let v = story-later B L cs xs ys zs a m e in
-      let p = tells-keep B (Stands B t lo hi (a .says)) (λ d. (ends B t d ≡ false) × (ownChange B t lo hi d ≡ false))
-      (λ s u c i w l k. joined-stands t lo hi (a .says) s u c (good-kept B L .joins s u c i w l (k .good)) k) (deed-stands B L t lo hi (a .says)) (v .between)
-      (λ d i. (not-true _ (all-in _ ys d n i), not-true _ (all-in _ ys d o i))) (given-stands B L t lo hi (v .before) a (v .after) (v .acts) (v .good) g refl r h) in
-      given-again B L t lo hi (a .says) (v .until) p m (v .then) (v .follows) b q f }
+  same-again cs = record {
+    again = λ xs ys zs a m g lo hi e r h b q f n o.
+        let v = story-later B L cs xs ys zs a m e in
+        let k = given-stands B L (a .actor) lo hi (v .before) a (v .after) (v .acts) (v .good) g refl r h in
+        let p = still-stands B L (a .actor) lo hi (a .says) (v .between) (λ d i. (not-true _ (all-in _ ys d n i), not-true _ (all-in _ ys d o i))) k in
+        given-again B L (a .actor) lo hi (a .says) (v .until) p m (v .then) (v .follows) b q f;
+  }

@@ -21,8 +21,10 @@ use Rattle.promises.proofs.Again.{same-again}
 
 module _ (B : Book) (L : Ordered (B .Key) (B .compare)) (cs : List (Cl B)) where
   pub no-conflict : NoConflict B cs
-  no-conflict = record { apart = λ k l i j o n.
-      go k l o (name-equal B L (k .name) (l .name) n) (pairs-in (together B) (inUse (after B (fresh B) cs .slots)) k l (after-good B L cs .modes) i j) }
+  no-conflict = record {
+    apart = λ k l i j o n.
+        go k l o (name-equal B L (k .name) (l .name) n) (pairs-in (together B) (inUse (after B (fresh B) cs .slots)) k l (after-good B L cs .modes) i j);
+  }
     where
       go : (k l : Lk B) → (k .holder ≡ l .holder → ⊥) → k .name ≡ l .name → (k ≡ l) ⊎ ((together B k l ≡ true) ⊎ (together B l k ≡ true))
           → conflict (k .mode) (l .mode) ≡ false

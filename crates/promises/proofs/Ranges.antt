@@ -50,9 +50,11 @@ module _ (B : Book) (L : Ordered (B .Key) (B .compare)) where
       P s = Good B s × Covers B s T x
 
   pub nothing-changed : (cs : List (Cl B)) → NothingChanged B cs
-  nothing-changed cs = record { unchanged = λ xs ys zs a m g x e h w n o.
-      let v = story-later B L cs xs ys zs a m e in
-      let c = told-covered B L (v .before) a (v .after) (v .acts) (v .good) g x h w in
-      let k = good-after B L (v .before) a (v .after) (v .acts) (v .good) in
-      let p = still-covers (a .actor) x (v .between) (λ d i. not-true (ends B (a .actor) d) (all-in _ ys d n i)) (k, c) in
-      deed-leaves (v .until) m (v .then) (v .follows) (p .0) (good-after B L (v .until) m (v .then) (v .follows) (p .0)) (a .actor) x (p .1) (λ z. o (sym z)) }
+  nothing-changed cs = record {
+    unchanged = λ xs ys zs a m g x e h w n o.
+        let v = story-later B L cs xs ys zs a m e in
+        let c = told-covered B L (v .before) a (v .after) (v .acts) (v .good) g x h w in
+        let k = good-after B L (v .before) a (v .after) (v .acts) (v .good) in
+        let p = still-covers (a .actor) x (v .between) (λ d i. not-true (ends B (a .actor) d) (all-in _ ys d n i)) (k, c) in
+        deed-leaves (v .until) m (v .then) (v .follows) (p .0) (good-after B L (v .until) m (v .then) (v .follows) (p .0)) (a .actor) x (p .1) (λ z. o (sym z));
+  }

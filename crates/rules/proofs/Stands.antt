@@ -117,7 +117,7 @@ module _ (B : Book) where
           where
             above : e .key ≡ k → atMost B (e .key) hi ≡ false
             above q = fails (atMost B (e .key) hi) (λ h. true≢false (
-              sym (rw (sym q) (rw (both (atMost B lo (e .key)) _ (u e refl) .0) h)) ∙ o))
+                sym (rw (sym q) (rw (both (atMost B lo (e .key)) _ (u e refl) .0) h)) ∙ o))
 
             go : (b : Bool) → same B (e .key) k ≡ b → readSays B hi (some (cond b (f e) e)) ≡ readSays B hi (some e)
             go true q = let n = above (same-equal B L (e .key) k q) in rw (c e, n)

@@ -161,8 +161,12 @@ module _ (B : Book) where
             → (first p (cond b (e ∷ y ∷ ys) (y ∷ put B e ys)) ≡ cond d (some y) (first p ys))
             ⊎ ((first p (cond b (e ∷ y ∷ ys) (y ∷ put B e ys)) ≡ some e) × (p e ≡ true) × UpTo (cond d (some y) (first p ys)) (e .key))
         go true true true m n r f k = inr (rw n, n, λ z q. let v : y ≡ z = cc in rw v at m)
-        go true true false m n r f k = inr (rw n, n, λ z q.
-            atMost-along B L (e .key) (y .key) (z .key) m (atMost-other B L (y .key) (z .key) (not-true _ (f z (first-in p ys z q .0)))))
+        go true true false m n r f k = inr (
+          rw n,
+          n,
+          λ z q.
+              atMost-along B L (e .key) (y .key) (z .key) m (atMost-other B L (y .key) (z .key) (not-true _ (f z (first-in p ys z q .0)))),
+        )
         go true false d m n r f k = inl (rw (n, r))
         go false c true m n r f k = inl (rw r)
         go false c false m n r f k = ⊎-elim (λ v. inl (rw r v)) (λ v. inr (rw r (v .0), v .1, v .2)) k

@@ -256,6 +256,22 @@ joiningFrees =
           (settledAs 10 1 ∷ entry 15 1 (some 5) none ∷ settledAs 20 2 ∷ []);
     }
 
+-- "16: insert: key present; S lock": what was said of the key stays true until the asker ends.
+unfoldable pub presentStaysPresent : Case
+presentStaysPresent =
+    record {
+      overs =
+          settling (row 20 2 ∷ [])
+          ++ (begins 1
+          ∷ begins 2
+          ∷ inserts 1 20 9 (only 1 (isPresent 20 (some 2)))
+          ∷ deletes 2 20 (only 2 waiting)
+          ∷ inserts 1 20 9 (only 1 (isPresent 20 (some 2)))
+          ∷ over 1 commit (to 1 done ∷ to 2 done ∷ [])
+          ∷ []);
+      scene = left [] (lock X (on 20) 2 ∷ []) (entry 20 2 none (some 2) ∷ []);
+    }
+
 unfoldable pub cases : List Case
 cases =
     readerWaits
@@ -268,6 +284,7 @@ cases =
     ∷ soleHolder
     ∷ targetMoves
     ∷ joiningFrees
+    ∷ presentStaysPresent
     ∷ []
 
 -- what the rule book says of a case: its answers, and where things stand afterwards
