@@ -4,16 +4,16 @@
 use Prim.Native.Nat.{ℕ}
 use mathlib.Core.Path.{_≡_, refl, sym, ap, subst, _∙_}
 use mathlib.Core.Logic.{⊎-elim}
-use mathlib.Core.Bool.{Bool, true, false, true≢false}
+use mathlib.Core.Bool.{true, false, true≢false}
 use mathlib.Core.List.{[]}
-use mathlib.Core.Option.{Option, none, some}
+use mathlib.Core.Option.{some}
 use lib.Dec.{eqb}
-use borrow.Author.Tests.{eqb-true, eqb-false}
+use borrow.Author.Tests.{eqb-true}
 use Rattle.lists.specs.Lists.{In}
 use Rattle.lists.proofs.Elements.{fails, first-in}
 use Rattle.rules.specs.Kinds.{Book, Ordered, S, X, Name, on}
 use Rattle.rules.specs.Entries.{Entries, same, inserted, deleted, revived, committed, rolledBack, settled}
-use Rattle.rules.specs.Locks.{inUse, holds, released, wanted, named, itself}
+use Rattle.rules.specs.Locks.{inUse, holds, released, wanted, named}
 use Rattle.rules.specs.Queue.{St, Wait, waits}
 use Rattle.rules.specs.Runs.{En, Ran, run}
 use Rattle.rules.specs.Desk.{runs, begun, ended, joined}
@@ -33,14 +33,6 @@ module _ (B : Book) where
 
   abbrev pub Covers : St B → ℕ → B .Key → Type 0
   Covers s t x = holds B (s .slots) t (cover (s .entries) x) ≡ true
-
-  -- presence and record of x now
-  abbrev pub nowOf : Option (En B) → Option (B .Rec)
-  nowOf none = none
-  nowOf (some e) = e .now
-
-  abbrev pub nowAt : Entries B → B .Key → Option (B .Rec)
-  nowAt es x = nowOf (itself B x (atOrAbove B x es))
 
   module _ (L : Ordered (B .Key) (B .compare)) (s : St B) (g : Good B s) (T : ℕ) (x : B .Key) (h : Held B (s .slots) T (cover (s .entries) x) S) where
     -- an entry that is the cover, where only u can hold it: T is u
@@ -128,19 +120,3 @@ module _ (B : Book) where
     pub end-leaves : (s : St B) (t : ℕ) (f : En B → En B) → Settles B f → Good B s → runs B s t ≡ true → (x : B .Key) (T : ℕ) → Covers s T x → (T ≡ t → ⊥)
         → atOrAbove B x (settled f t (s .entries)) ≡ atOrAbove B x (s .entries)
     end-leaves s t f k g r x T c o = settled-leaves L s g T x (holds-held B L (s .slots) T _ c) f k t r o
-
-    -- the change lemma: where a run that nothing blocks, or an end, changes presence or record of x, nobody else holds the cover of x
-    changer : (T u : ℕ) (x : B .Key) (a b : Entries B) → ((T ≡ u → ⊥) → atOrAbove B x a ≡ atOrAbove B x b) → (nowAt a x ≡ nowAt b x → ⊥) → T ≡ u
-    changer T u x a b f d = go (eqb T u) refl
-      where
-        go : (b : Bool) → eqb T u ≡ b → T ≡ u
-        go true q = eqb-true T u q
-        go false q = absurd (d (ap (λ (e : Option (En B)). nowOf (itself B x e)) (f (eqb-false T u q))))
-
-    pub run-changes : (s : St B) (w : Wait B) → Good B s → In w (waits B s) → w .behind ≡ [] → (x : B .Key)
-        → (nowAt (run B s (w .request) .entries) x ≡ nowAt (s .entries) x → ⊥) → (T : ℕ) → Covers s T x → T ≡ w .request .asker
-    run-changes s w g i n x d T c = changer T (w .request .asker) x _ _ (run-leaves s w g i n x T c) d
-
-    pub end-changes : (s : St B) (t : ℕ) (f : En B → En B) → Settles B f → Good B s → runs B s t ≡ true → (x : B .Key)
-        → (nowAt (settled f t (s .entries)) x ≡ nowAt (s .entries) x → ⊥) → (T : ℕ) → Covers s T x → T ≡ t
-    end-changes s t f k g r x d T c = changer T t x _ _ (end-leaves s t f k g r x T c) d
