@@ -24,7 +24,7 @@ use Rattle.rules.proofs.Rest.{turn-leaves, worked-by-turns, worked-rests}
 use Rattle.rules.proofs.Waits.{newest-waits}
 use Rattle.rules.proofs.Did.{waits-in}
 use Rattle.rules.proofs.GoodKept.{good-kept, fresh-good}
-use Rattle.promises.specs.Story.{Deed, asksOf, askedBy, turnDeed, andOn, turnDeeds, queueDeeds, idleDeed, lastDeed, actDeeds, deedsUnless, callDeeds, storyFrom, story, ends}
+use Rattle.promises.specs.Story.{Deed, asksOf, askedBy, turnDeed, andOn, turnDeeds, queueDeeds, idleDeed, lastDeed, actDeeds, deedsUnless, callDeeds, storyFrom, story, Seamless, ends}
 
 module _ (B : Book) where
   abbrev pub deedOf : St B → ℕ → Request (B .Key) (B .Rec) → Sy B → St B → Deed B
@@ -81,6 +81,22 @@ module _ (B : Book) where
   tells-append silent v = v
   tells-append (joins t a r w l y) v = joins t a r w l (tells-append y v)
   tells-append (tells e y) v = tells e (tells-append y v)
+
+  -- nothing changes between
+  acts-entries : (s : St B) (d : Deed B) (z : St B) → Acts s d z → (d .before ≡ s .entries) × (d .after ≡ z .entries)
+  acts-entries s d z (begins t h r) = (refl, refl)
+  acts-entries s d z (commits t h r w) = (refl, refl)
+  acts-entries s d z (rollsBack t h r) = (refl, refl)
+  acts-entries s d z (goes w i n) = (refl, refl)
+  acts-entries s d z (givesWay w i n) = (refl, refl)
+  acts-entries s d z (refuses t r m e) = (refl, refl)
+  acts-entries s d z (queues q i e) = (refl, refl)
+
+  tells-seamless : {s : St B} {ds : List (Deed B)} {z : St B} → Tells s ds z → Seamless B (s .entries) ds (z .entries)
+  unfolding joined
+  tells-seamless silent = refl
+  tells-seamless (joins t a r w l y) = tells-seamless y
+  tells-seamless (tells {s = s} {d = d} {u = u} a y) = let e = acts-entries s d u a in (e .0, rw (e .1) (tells-seamless y))
 
   -- one deed of a story: the states before and after it, and the stories up to it and from it on
   pub record At (s : St B) (xs : List (Deed B)) (d : Deed B) (ys : List (Deed B)) (z : St B) : Type 0 where
@@ -237,6 +253,9 @@ module _ (B : Book) where
     -- the story of a run of calls, from fresh to where they lead
     pub story-tells : (cs : List (Cl B)) → Tells (fresh B) (story B cs) (after B (fresh B) cs)
     story-tells cs = calls-tell (fresh B) cs (fresh-good B L)
+
+    pub seamless : (cs : List (Cl B)) → Seamless B (fresh B .entries) (story B cs) (after B (fresh B) cs .entries)
+    seamless cs = tells-seamless (story-tells cs)
 
     -- a deed of the story, and a later one: the states at each, and the deeds between
     pub record Later (a : Deed B) (ys : List (Deed B)) (m : Deed B) : Type 0 where

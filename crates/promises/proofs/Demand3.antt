@@ -16,6 +16,8 @@ use Rattle.rules.proofs.GoodKept.{after-good}
 use Rattle.rules.proofs.Rest.{after-rests}
 use Rattle.rules.proofs.Chains.{chains-end}
 use Rattle.promises.specs.Demand3.{NoConflict, Demand3}
+use Rattle.promises.proofs.Faithful.{faithful}
+use Rattle.promises.proofs.Deeds.{seamless}
 use Rattle.promises.proofs.Ranges.{nothing-changed}
 use Rattle.promises.proofs.Again.{same-again}
 
@@ -36,4 +38,11 @@ module _ (B : Book) (L : Ordered (B .Key) (B .compare)) (cs : List (Cl B)) where
   chains = chains-end B (after B (fresh B) cs) (after-good B L cs) (after-rests B cs)
 
   pub demand3 : Demand3 B cs
-  demand3 = record { locks = no-conflict; ranges = nothing-changed B L cs; again = same-again B L cs; chains = chains }
+  demand3 = record {
+    answers = faithful B cs;
+    seamless = seamless B L cs;
+    locks = no-conflict;
+    ranges = nothing-changed B L cs;
+    again = same-again B L cs;
+    chains = chains;
+  }

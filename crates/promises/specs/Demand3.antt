@@ -12,7 +12,7 @@ use Rattle.rules.specs.Locks.{inUse, sameName, conflict}
 use Rattle.rules.specs.Runs.{En, Sy, waitsAlready}
 use Rattle.rules.specs.Desk.{Cl, fresh, after}
 use Rattle.rules.specs.Chains.{ChainsEnd}
-use Rattle.promises.specs.Story.{Deed, story, told, within, Range, ends, isDone}
+use Rattle.promises.specs.Story.{Deed, story, Faithful, Seamless, told, within, Range, ends, isDone}
 
 module _ (B : Book) where
   -- presence and record of a key now
@@ -62,8 +62,10 @@ module _ (B : Book) where
         → all (λ d. not (ownChange (a .actor) lo hi d)) ys ≡ true
         → m .says ≡ a .says
 
-  -- demand 3, whole
+  -- demand 3, whole; and the story that it goes by is the answers that were given, with nothing changed in between
   pub record Demand3 (cs : List (Cl B)) : Type 0 where
+    pub answers : Faithful B cs
+    pub seamless : Seamless B (fresh B .entries) (story B cs) (after B (fresh B) cs .entries)
     pub locks : NoConflict cs
     pub ranges : NothingChanged cs
     pub again : SameAgain cs

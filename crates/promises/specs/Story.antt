@@ -1,5 +1,5 @@
 -- What happened, in order: each answer with the request that it answers, and the index before and after. The answers are those that the
--- calls were given (`Faithful`, below); what a transaction was told, and since when, is read from them and from nothing else.
+-- calls were given (`Faithful`, below), and nothing changes between them (`Seamless`); what a transaction was told, and since when, is read from them and from nothing else.
 -- (Document 01, "What a signature on the scorecard means".) Assumes nothing.
 use Prim.Native.Nat.{ℕ, zero, suc}
 use mathlib.Core.Path.{_≡_}
@@ -98,6 +98,11 @@ module _ (B : Book) where
 
   abbrev pub Faithful : List (Cl B) → Type 0
   Faithful cs = map answerOf (story cs) ≡ join given (session B (fresh B) cs)
+
+  -- and nothing changes between them: each begins where the one before it ended, the first at es, and the last ends at es′
+  abbrev pub Seamless : Entries B → List Deed → Entries B → Type 0
+  Seamless es [] es′ = es ≡ es′
+  Seamless es (d ∷ ds) es′ = (d .before ≡ es) × Seamless (d .after) ds es′
 
   -- "Told about: lo to the key found (1), lo..hi (2 to a read), the key (2 to a delete, 16)."
   pub record Range : Type 0 where
