@@ -1,16 +1,19 @@
 -- Demand 3, proved of every run of calls from a fresh index, over any ordered keys: the one theorem is `demand3`. The locks by the invariant
 -- that holders go together, the chains by the desk being at rest; the ranges and the repeated read in files of their own. Assumes nothing.
+use Prim.Native.Nat.{ℕ}
 use mathlib.Core.Path.{_≡_, sym, ap}
 use mathlib.Core.Logic.{_⊎_, inl, inr}
 use mathlib.Core.Bool.{true, false}
 use mathlib.Core.List.{List}
 use Rattle.lists.proofs.Elements.{pairs-in}
-use Rattle.rules.specs.Kinds.{Book, Ordered}
+use Rattle.rules.specs.Kinds.{Book, Ordered, Paging}
 use Rattle.rules.specs.Locks.{inUse, conflict}
 use Rattle.rules.specs.Desk.{Cl, fresh, after}
 use Rattle.rules.specs.Good.{Lk, together}
 use Rattle.rules.specs.Chains.{ChainsEnd}
+use Rattle.rules.specs.Document.{document}
 use Rattle.rules.proofs.Keys.{name-equal}
+use Rattle.rules.proofs.Orders.{numbers-ordered}
 use Rattle.rules.proofs.LockTable.{together-apart, apart-turn}
 use Rattle.rules.proofs.GoodKept.{after-good}
 use Rattle.rules.proofs.Rest.{after-rests}
@@ -46,3 +49,7 @@ module _ (B : Book) (L : Ordered (B .Key) (B .compare)) (cs : List (Cl B)) where
     again = same-again B L cs;
     chains = chains;
   }
+
+-- and so of the keys of document 01, whatever its pages are
+pub demand3-of-document : (pages : Paging ℕ) (cs : List (Cl (document pages))) → Demand3 (document pages) cs
+demand3-of-document pages cs = demand3 (document pages) numbers-ordered cs
