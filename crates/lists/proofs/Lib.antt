@@ -4,3 +4,4 @@ pub mod Places
 pub mod Tables
 pub mod Finite
 pub mod Elements
+pub mod Rows
