@@ -41,9 +41,9 @@ module _ {K R : Type 0} (f : Entry K R → Entry K R) (t : ℕ) where
       go false p q h = cc
 
   -- an entry of the settled list: another's as it was, or t's own, there after its end
-  pub in-settled : (es : List (Entry K R)) (y : Entry K R) → In y (settled f t es)
+  pub settled-in : (es : List (Entry K R)) (y : Entry K R) → In y (settled f t es)
       → (In y es × (eqb (y .owner) t ≡ false)) ⊎ ((e : Entry K R) × In e es × (eqb (e .owner) t ≡ true) × (present (f e) ≡ true) × (f e ≡ y))
-  in-settled es y i =
+  settled-in es y i =
       let w : (e : Entry K R) × In e (keep stays es) × (settledOne e ≡ y) = map-in settledOne (keep stays es) y (rw (settled-is es) at i) in
       let k : In (w .0) es × (stays (w .0) ≡ true) = keep-in stays es (w .0) (w .1) in
       go (w .0) (k .0) (k .1) (w .2) (eqb (w .0 .owner) t) (present (f (w .0))) refl refl
@@ -60,10 +60,10 @@ module _ {K R : Type 0} (f : Entry K R → Entry K R) (t : ℕ) where
       rw (settled-is es) (subst (λ (v : Entry K R). In v (map settledOne (keep stays es))) z (in-map settledOne (keep stays es) e (in-keep stays es e i (rw q))))
 
   -- a key that is taken out was that of an entry of t's, absent after its end
-  pub in-takenOut : (es : List (Entry K R)) (k : K) → In k (takenOut f t es)
+  pub takenOut-in : (es : List (Entry K R)) (k : K) → In k (takenOut f t es)
       → (e : Entry K R) × In e es × (eqb (e .owner) t ≡ true) × (present (f e) ≡ false) × (e .key ≡ k)
   unfolding takenOut
-  in-takenOut es k i =
+  takenOut-in es k i =
       let w = map-in (λ (e : Entry K R). e .key) (keep (λ e. eqb (e .owner) t && not (present (f e))) es) k i in
       let j : In (w .0) es × (eqb (w .0 .owner) t && not (present (f (w .0))) ≡ true) = keep-in _ es (w .0) (w .1) in
       (w .0, j .0, and-left _ _ (j .1), not-true (present (f (w .0))) (and-right (eqb (w .0 .owner) t) _ (j .1)), w .2)
@@ -74,19 +74,19 @@ module _ (B : Book) where
   atOrAbove k es = first (λ e. atMost B k (e .key)) es
 
   -- put, as an insertion
-  pub in-put : (e : En B) (es : Entries B) (y : En B) → In y (put B e es) → (e ≡ y) ⊎ In y es
+  pub put-in : (e : En B) (es : Entries B) (y : En B) → In y (put B e es) → (e ≡ y) ⊎ In y es
   unfolding put
-  in-put e es y i = insertBefore-in _ e es y i
+  put-in e es y i = insertBefore-in _ e es y i
 
-  pub put-in : (e : En B) (es : Entries B) (y : En B) → (e ≡ y) ⊎ In y es → In y (put B e es)
+  pub in-put : (e : En B) (es : Entries B) (y : En B) → (e ≡ y) ⊎ In y es → In y (put B e es)
   unfolding put
-  put-in e es y i = in-insertBefore _ e es y i
+  in-put e es y i = in-insertBefore _ e es y i
 
   -- changed, as a map
-  pub in-changed : (k : B .Key) (f : En B → En B) (es : Entries B) (y : En B) → In y (changed B k f es)
+  pub changed-in : (k : B .Key) (f : En B → En B) (es : Entries B) (y : En B) → In y (changed B k f es)
       → In y es ⊎ ((e : En B) × In e es × (same B (e .key) k ≡ true) × (f e ≡ y))
   unfolding changed
-  in-changed k f es y i = let w = map-in _ es y i in go (w .0) (w .1) (same B (w .0 .key) k) refl (w .2)
+  changed-in k f es y i = let w = map-in _ es y i in go (w .0) (w .1) (same B (w .0 .key) k) refl (w .2)
     where
       go : (e : En B) → In e es → (b : Bool) → same B (e .key) k ≡ b → cond b (f e) e ≡ y
           → In y es ⊎ ((e : En B) × In e es × (same B (e .key) k ≡ true) × (f e ≡ y))
@@ -160,7 +160,7 @@ module _ (B : Book) where
 
     pub name-put : (e : En B) (es : Entries B) (n : Name (B .Key)) → isName B es n ≡ true → isName B (put B e es) n ≡ true
     name-put e es end h = refl
-    name-put e es (on k) h = let w = name-in es k h in in-name (put B e es) (w .0) k (put-in e es (w .0) (inr (w .1))) (rw (w .2) (same-itself B L k))
+    name-put e es (on k) h = let w = name-in es k h in in-name (put B e es) (w .0) k (in-put e es (w .0) (inr (w .1))) (rw (w .2) (same-itself B L k))
 
     pub name-changed : (k : B .Key) (f : En B → En B) (es : Entries B) (n : Name (B .Key)) → ((e : En B) → f e .key ≡ e .key) → isName B es n ≡ true
         → isName B (changed B k f es) n ≡ true
@@ -194,7 +194,7 @@ module _ (B : Book) where
             (λ y i. ⊎-elim (λ z. subst (λ (v : En B). below B e v ≡ true) z (below-other e x q (m x (inl refl)))) (λ j. below-along e x y q (f y j)) i) h
         go false q f k =
             pairs-cons (below B) x (put B e xs)
-            (λ y i. ⊎-elim (λ z. subst (λ (v : En B). below B x v ≡ true) z (rw q)) (λ j. f y j) (in-put e xs y i)) k
+            (λ y i. ⊎-elim (λ z. subst (λ (v : En B). below B x v ≡ true) z (rw q)) (λ j. f y j) (put-in e xs y i)) k
 
     pub ascending-put : (e : En B) (es : Entries B) → ((x : En B) → In x es → same B (x .key) (e .key) ≡ false) → B .legal (e .key) ≡ true
         → ascending B es ≡ true → ascending B (put B e es) ≡ true
@@ -202,7 +202,7 @@ module _ (B : Book) where
     ascending-put e es m l h =
         and-both _ _ (pairs-put e es m (and-left _ _ h))
         (in-all _ (put B e es) (λ y i. ⊎-elim (λ z. subst (λ (v : En B). B .legal (v .key) ≡ true) z l)
-        (λ j. all-in _ es y (and-right (pairs (below B) es) _ h) j) (in-put e es y i)))
+        (λ j. all-in _ es y (and-right (pairs (below B) es) _ h) j) (put-in e es y i)))
 
     -- the first entry at or above k isn't k: k is missing
     pub missing : (es : Entries B) (k : B .Key) → ascending B es ≡ true → itself B k (atOrAbove k es) ≡ none

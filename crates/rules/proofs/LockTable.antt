@@ -168,8 +168,8 @@ module _ (B : Book) where
   unfolding released
   released-length t ls = length-map ls (freed B t)
 
-  pub in-released : (t : ℕ) (ls : Slots B) (l : Lk B) → In l (inUse (released B t ls)) → In l (inUse ls) × (l .holder ≡ t → ⊥)
-  in-released t ls l i =
+  pub released-in : (t : ℕ) (ls : Slots B) (l : Lk B) → In l (inUse (released B t ls)) → In l (inUse ls) × (l .holder ≡ t → ⊥)
+  released-in t ls l i =
       let w = keep-in (isOthers t) (inUse ls) l (rw (released-is t ls) at i) in
       (w .0, eqb-false (l .holder) t (not-true (eqb (l .holder) t) (w .1)))
 
@@ -248,13 +248,13 @@ module _ (B : Book) where
 
     -- a lock taken
     module _ (ls ls′ : Slots B) (t : ℕ) (n : Name (B .Key)) (m : Mode) where
-      pub in-took : Took ls ls′ t n m → (l : Lk B) → In l (inUse ls′) → In l (inUse ls) ⊎ ((l .holder ≡ t) × (l .name ≡ n))
-      in-took (raisedIn e h z) l i = let w = map-in (raise t n m) (inUse ls) l (rw z at i) in go (w .0) (w .1) (w .2) (isOf B t n (w .0)) refl
+      pub took-in : Took ls ls′ t n m → (l : Lk B) → In l (inUse ls′) → In l (inUse ls) ⊎ ((l .holder ≡ t) × (l .name ≡ n))
+      took-in (raisedIn e h z) l i = let w = map-in (raise t n m) (inUse ls) l (rw z at i) in go (w .0) (w .1) (w .2) (isOf B t n (w .0)) refl
         where
           go : (k : Lk B) → In k (inUse ls) → raise t n m k ≡ l → (b : Bool) → isOf B t n k ≡ b → In l (inUse ls) ⊎ ((l .holder ≡ t) × (l .name ≡ n))
           go k j y true q = let o = of-is t n k q in inr (ap (λ (x : Lk B). x .holder) (sym y) ∙ o .0, ap (λ (x : Lk B). x .name) (sym y) ∙ o .1)
           go k j y false q = inl (subst (λ (x : Lk B). In x (inUse ls)) (rw q at y) j)
-      in-took (putAt j e h z) l i = go (insertAt-in j (lockOf t n m) (inUse ls) l (rw z at i))
+      took-in (putAt j e h z) l i = go (insertAt-in j (lockOf t n m) (inUse ls) l (rw z at i))
         where
           go : (lockOf t n m ≡ l) ⊎ In l (inUse ls) → In l (inUse ls) ⊎ ((l .holder ≡ t) × (l .name ≡ n))
           go (inl y) = inr (ap (λ (x : Lk B). x .holder) (sym y), ap (λ (x : Lk B). x .name) (sym y))
