@@ -5,8 +5,8 @@ use mathlib.Core.Bool.{Bool, true, false, cond, true≢false, false≢true}
 use mathlib.Core.List.{List, [], _∷_}
 use mathlib.Core.Option.{Option, none, some}
 use Rattle.lists.specs.Lists.{first, In}
-use Rattle.lists.proofs.Elements.{never, first-in}
-use Rattle.lists.proofs.Finite.{none-first}
+use Rattle.lists.proofs.Tests.{never}
+use Rattle.lists.proofs.Elements.{first-in, none-first}
 
 module _ {A : Type 0} where
   -- an element that passes, where every other that does is the same

@@ -9,7 +9,8 @@ use mathlib.Core.Option.{none, some, Option·some-injective}
 use lib.Dec.{eqb}
 use borrow.Author.Tests.{eqb-true, eqb-false, eq-eqb, not-true}
 use Rattle.lists.specs.Lists.{In, isNil}
-use Rattle.lists.proofs.Elements.{all-in, never}
+use Rattle.lists.proofs.Tests.{never}
+use Rattle.lists.proofs.Elements.{all-in}
 use Rattle.rules.specs.Kinds.{Book, Ordered, Ask, read, insert, delete, Request, ask}
 use Rattle.rules.specs.Entries.{committed, rolledBack}
 use Rattle.rules.specs.Locks.{named, target}

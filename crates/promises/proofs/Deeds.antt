@@ -10,8 +10,9 @@ use lib.Dec.{eqb}
 use lib.ListN.{length}
 use borrow.Author.Tests.{eqb-true, eq-eqb}
 use Rattle.lists.specs.Lists.{In, isNil}
-use Rattle.lists.proofs.Elements.{both, never, nil-is, any-in, not-any, in-keep, first-in, pairs-in}
-use Rattle.lists.proofs.Finite.{append-in}
+use Rattle.lists.proofs.Tests.{and-left, and-right, never, nil-is}
+use Rattle.lists.proofs.Elements.{any-in, none-any, keep-in, first-in, append-in}
+use Rattle.lists.proofs.Pairs.{pairs-in}
 use Rattle.lists.proofs.Firsts.{first-only}
 use Rattle.rules.specs.Kinds.{Book, Ordered, Ask, Request, begin, commit, rollback, ask}
 use Rattle.rules.specs.Entries.{committed, rolledBack}
@@ -184,7 +185,7 @@ module _ (B : Book) where
     still-queued s t a n h =
         let w = any-in (λ q. eqb (q .asker) t) (worked B (joined B s t a) .state .queue) h in
         let i = worked-by-turns B (λ u v. (q : Q B) → In q (v .state .queue) → In q (u .queue)) (λ u e q i. i)
-        (λ u o v e f q i. in-keep _ (u .queue) q (subst (λ (qs : List (Q B)). In q qs) (turn-leaves B u o e .queue) (f q i)) .0) (joined B s t a) (w .0) (w .1) in
+        (λ u o v e f q i. keep-in _ (u .queue) q (subst (λ (qs : List (Q B)). In q qs) (turn-leaves B u o e .queue) (f q i)) .0) (joined B s t a) (w .0) (w .1) in
         go (w .0) (w .1) (w .2) (append-in (s .queue) _ (w .0) i)
       where
         mine : Q B
@@ -192,7 +193,7 @@ module _ (B : Book) where
 
         go : (q : Q B) → In q (worked B (joined B s t a) .state .queue) → eqb (q .asker) t ≡ true → In q (s .queue) ⊎ In q (mine ∷ [])
             → In mine (worked B (joined B s t a) .state .queue)
-        go q j e (inl i) = absurd (true≢false (sym e ∙ not-any (λ p. eqb (p .asker) t) (s .queue) q n i))
+        go q j e (inl i) = absurd (true≢false (sym e ∙ none-any (λ p. eqb (p .asker) t) (s .queue) q n i))
         go q j e (inr (inl z)) = rw (sym z) at j
         go q j e (inr (inr x)) = absurd x
 
@@ -238,8 +239,7 @@ module _ (B : Book) where
         go : (b : Bool) → legalCall B c ≡ b → (o : Option (Sy B)) → refusal B s (c .asker) (c .request) ≡ o
             → Tells s (cond b (deedsUnless B s (c .asker) (c .request) o) []) (stateAfter B s (cond b (some (unless B s (c .asker) (acts B s (c .asker) (c .request)) o)) none))
         go true l none e =
-            let k : (isTransaction B (c .asker) ≡ true) × (legalRequest B (c .request) ≡ true) = both _ _ l in
-            acts-tell s (c .asker) (c .request) (k .0) (k .1) g e
+            acts-tell s (c .asker) (c .request) (and-left _ _ l) (and-right (isTransaction B (c .asker)) _ l) g e
         go true l (some m) e = tells (refuses (c .asker) (c .request) m e) silent
         go false l o e = silent
 

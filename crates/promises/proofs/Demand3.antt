@@ -5,7 +5,7 @@ use mathlib.Core.Path.{_≡_, sym, ap}
 use mathlib.Core.Logic.{_⊎_, inl, inr}
 use mathlib.Core.Bool.{true, false}
 use mathlib.Core.List.{List}
-use Rattle.lists.proofs.Elements.{pairs-in}
+use Rattle.lists.proofs.Pairs.{pairs-in}
 use Rattle.rules.specs.Kinds.{Book, Ordered, Paging}
 use Rattle.rules.specs.Locks.{inUse, conflict}
 use Rattle.rules.specs.Desk.{Cl, fresh, after}

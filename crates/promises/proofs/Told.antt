@@ -3,11 +3,11 @@
 use Prim.Native.Nat.{ℕ}
 use mathlib.Core.Path.{_≡_, refl, sym, ap, subst}
 use mathlib.Core.Logic.{inl, inr}
-use mathlib.Core.Bool.{Bool, true, false, cond}
+use mathlib.Core.Bool.{Bool, true, false, cond, _&&_}
 use mathlib.Core.List.{[]}
 use mathlib.Core.Option.{Option, none, some, Option·some-injective}
 use Rattle.lists.specs.Lists.{In}
-use Rattle.lists.proofs.Elements.{both, never}
+use Rattle.lists.proofs.Tests.{and-left, and-right, never}
 use Rattle.rules.specs.Kinds.{Book, Ordered, Ask, read, insert, delete, Request, begin, commit, rollback, ask}
 use Rattle.rules.specs.Entries.{atMost}
 use Rattle.rules.specs.Locks.{target, wanted}
@@ -25,25 +25,26 @@ use Rattle.promises.specs.Story.{Deed, Range, range, toldRead, toldKey, 
 use Rattle.promises.proofs.Deeds.{Acts, begins, commits, rollsBack, goes, givesWay, refuses, queues}
 
 module _ (B : Book) (L : Ordered (B .Key) (B .compare)) where
+  within-is : (lo hi : B .Key) (g : Range B) (x : B .Key) → range B lo hi ≡ some g → within B g x ≡ true → (atMost B lo x ≡ true) × (atMost B x hi ≡ true)
+  within-is lo hi g x h w =
+      let z : record { low = lo; high = hi } ≡ g = cc in
+      let v : atMost B lo x && atMost B x hi ≡ true = rw (← z) at w in
+      (and-left _ _ v, and-right (atMost B lo x) _ v)
+
   -- the range of a read goes from lo no further than its target
   told-up-to : (lo hi : B .Key) (o : Option (En B)) (g : Range B) (x : B .Key) → toldRead B lo hi (readSays B hi o) ≡ some g → within B g x ≡ true
       → (atMost B lo x ≡ true) × UpTo B o x
   unfolding readSays
-  told-up-to lo hi none g x h w =
-      let z : record { low = lo; high = hi } ≡ g = cc in
-      let b : (atMost B lo x ≡ true) × (atMost B x hi ≡ true) = both _ _ (rw (← z) at w) in
-      (b .0, λ e q. never (cc))
+  told-up-to lo hi none g x h w = (within-is lo hi g x h w .0, λ e q. never (cc))
   told-up-to lo hi (some e) g x h w = go (atMost B (e .key) hi) refl h
     where
       go : (b : Bool) → atMost B (e .key) hi ≡ b → toldRead B lo hi (cond b (found (e .key) (e .now)) nothing) ≡ some g
           → (atMost B lo x ≡ true) × UpTo B (some e) x
       go true q h =
-          let z : record { low = lo; high = e .key } ≡ g = cc in
-          let b : (atMost B lo x ≡ true) × (atMost B x (e .key) ≡ true) = both _ _ (rw (← z) at w) in
+          let b = within-is lo (e .key) g x h w in
           (b .0, λ y p. let v : e ≡ y = cc in subst (λ (y : En B). atMost B x (y .key) ≡ true) v (b .1))
       go false q h =
-          let z : record { low = lo; high = hi } ≡ g = cc in
-          let b : (atMost B lo x ≡ true) × (atMost B x hi ≡ true) = both _ _ (rw (← z) at w) in
+          let b = within-is lo hi g x h w in
           (b .0, λ y p. let v : e ≡ y = cc in subst (λ (y : En B). atMost B x (y .key) ≡ true) v (atMost-along B L x hi (e .key) (b .1) (atMost-other B L hi (e .key) q)))
 
   read-told : (t : ℕ) (lo hi : B .Key) (m : Sy B) (s : St B) → Stands B t lo hi m s → (g : Range B) (x : B .Key) → toldRead B lo hi m ≡ some g → within B g x ≡ true
@@ -67,11 +68,7 @@ module _ (B : Book) (L : Ordered (B .Key) (B .compare)) where
   key-range k circle g h = never (cc)
 
   key-is : (k : B .Key) (m : Sy B) (g : Range B) (x : B .Key) → toldKey B k m ≡ some g → within B g x ≡ true → k ≡ x
-  key-is k m g x h w =
-      let e = key-range k m g h in
-      let z : record { low = k; high = k } ≡ g = cc in
-      let b : (atMost B k x ≡ true) × (atMost B x k ≡ true) = both _ _ (rw (← z) at w) in
-      atMost-equal B L k x (b .0) (b .1)
+  key-is k m g x h w = let b = within-is k k g x (key-range k m g h) w in atMost-equal B L k x (b .0) (b .1)
 
   key-told : (s : St B) (q : Q B) (k : B .Key) → wanted B (s .entries) q .name ≡ cover B (s .entries) k → (g : Range B) (x : B .Key) → within B g x ≡ true
       → (r : Ran B) → Did B s q r → toldKey B k (r .says) ≡ some g → Covers B (left B s q r .state) (q .asker) x

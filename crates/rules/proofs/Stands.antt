@@ -9,8 +9,8 @@ use mathlib.Core.Option.{Option, none, some, Option·map}
 use lib.Dec.{eqb}
 use borrow.Author.Tests.{eqb-false, not-true}
 use Rattle.lists.specs.Lists.{any, In}
-use Rattle.lists.proofs.Elements.{both, fails, any-in, first-in, first-map}
-use Rattle.lists.proofs.Tests.{keep-none}
+use Rattle.lists.proofs.Tests.{and-left, and-right, fails, keep-none, first-map}
+use Rattle.lists.proofs.Elements.{any-in, first-in}
 use Rattle.rules.specs.Kinds.{Book, Ordered, Mode, S, X, Name, on, Ask, read, insert, delete}
 use Rattle.rules.specs.Entries.{atMost, same, inserted, deleted, revived, put, changed}
 use Rattle.rules.specs.Locks.{Slots, inUse, conflict, stronger, sameName, holds, taken, counts, target, named, mode, wanted, holders, blockers}
@@ -117,7 +117,7 @@ module _ (B : Book) where
           where
             above : e .key ≡ k → atMost B (e .key) hi ≡ false
             above q = fails (atMost B (e .key) hi) (λ h. true≢false (
-                sym (rw (sym q) (rw (both (atMost B lo (e .key)) _ (u e refl) .0) h)) ∙ o))
+                sym (rw (sym q) (rw (and-left (atMost B lo (e .key)) _ (u e refl)) h)) ∙ o))
 
             go : (b : Bool) → same B (e .key) k ≡ b → readSays B hi (some (cond b (f e) e)) ≡ readSays B hi (some e)
             go true q = let n = above (same-equal B L (e .key) k q) in rw (c e, n)
@@ -127,7 +127,7 @@ module _ (B : Book) where
             → ((n : Name (B .Key)) → holds B (s .slots) t n ≡ true → holds B (z .slots) t n ≡ true) → Stands t lo hi m z
         unfolding changed target
         changed-stands z w e y =
-            let r : target B (z .entries) t (read lo hi) ≡ Option·map g (target B (s .entries) t (read lo hi)) = rw e (first-map g _ _ (s .entries) counts-same) in
+            let r : target B (z .entries) t (read lo hi) ≡ Option·map g (target B (s .entries) t (read lo hi)) = rw e (simp (first-map, counts-same)) in
             record {
               good = w;
               held = rw (r, named-map B g (λ e. kept-key B f c (same B (e .key) k) e) (target B (s .entries) t (read lo hi))) (y _ (v .held));
@@ -142,13 +142,13 @@ module _ (B : Book) where
         unfolding target ascending
         put-stands k r ls z g e l w o f =
             ⊎-elim (λ y. stays-stands z g (rw e y) f)
-            (λ y. let h : atMost B k hi ≡ false = rw (both (atMost B lo k) _ (y .1) .0) at o in record {
+            (λ y. let h : atMost B k hi ≡ false = rw (and-left (atMost B lo k) _ (y .1)) at o in record {
               good = g;
               held = rw (e, y .0, l, ← a) (held-holds B L ls (q .asker) (on k) X (held-took B L (s .slots) ls (q .asker) (on k) X w));
               says = rw (e, y .0) (beyond hi k (some new) h (λ x c. let i : new ≡ x = cc in subst (λ (x : En B). atMost B k (x .key) ≡ true) i (atMost-itself B L k)))
                   ∙ sym (beyond hi k (target B (s .entries) t (read lo hi)) h (y .2)) ∙ v .says;
             })
-            (first-with B L (counts B t lo hi) new (s .entries) (both _ _ (v .good .keys) .0))
+            (first-with B L (counts B t lo hi) new (s .entries) (and-left _ _ (v .good .keys)))
           where
             new : En B
             new = inserted (q .asker) k r
@@ -171,13 +171,12 @@ module _ (B : Book) where
       unfolding holders
       nobody-against = ap (map (λ (l : Lk B). l .holder)) (keep-none against (inUse (s .slots)) (fails (any against (inUse (s .slots))) (λ h.
           let w = any-in against (inUse (s .slots)) h in
-          let b : (not (eqb (w .0 .holder) t) ≡ true) × (sameName B (w .0 .name) name && conflict (w .0 .mode) S ≡ true) = both _ _ (w .2) in
-          let c : (sameName B (w .0 .name) name ≡ true) × (conflict (w .0 .mode) S ≡ true) = both _ _ (b .1) in
-          let n : w .0 .name ≡ name = name-equal B L (w .0 .name) name (c .0) in
+          let b = and-right (not (eqb (w .0 .holder) t)) _ (w .2) in
+          let n : w .0 .name ≡ name = name-equal B L (w .0 .name) name (and-left _ _ b) in
           let k = holds-held B L (s .slots) t name (v .held) in
           let e = alone B L (s .slots) (w .0 .holder) name (v .good .modes)
-          (record { lock = w .0; stands = w .1; holder = refl; name = n; strong = conflict-s (w .0 .mode) (c .1) }) (k .lock) (k .stands) (k .name) in
-          eqb-false (w .0 .holder) t (not-true _ (b .0)) (sym e ∙ k .holder))))
+          (record { lock = w .0; stands = w .1; holder = refl; name = n; strong = conflict-s (w .0 .mode) (and-right (sameName B (w .0 .name) name) _ b) }) (k .lock) (k .stands) (k .name) in
+          eqb-false (w .0 .holder) t (not-true _ (and-left _ _ (w .2))) (sym e ∙ k .holder))))
         where
           name : Name (B .Key)
           name = named B (target B (s .entries) t (read lo hi))

@@ -9,8 +9,9 @@ use mathlib.Core.Option.{Option, none, some}
 use lib.Dec.{eqb}
 use borrow.Author.Tests.{eqb-true, not-true}
 use Rattle.lists.specs.Lists.{first, pairs, In, insertBefore}
-use Rattle.lists.proofs.Elements.{both, never, first-in, first-least, pairs-split}
-use Rattle.lists.proofs.Finite.{none-first}
+use Rattle.lists.proofs.Tests.{and-left, never}
+use Rattle.lists.proofs.Elements.{first-in, none-first}
+use Rattle.lists.proofs.Pairs.{first-least, pairs-split}
 use Rattle.lists.proofs.Firsts.{first-only, first-agree}
 use Rattle.rules.specs.Kinds.{Book, Ordered, X, on, end, read}
 use Rattle.rules.specs.Entries.{Entries, atMost, same, ghost, put}
@@ -47,7 +48,7 @@ module _ (B : Book) where
     pub own-cover : (es : Entries B) (e : En B) → ascending B es ≡ true → In e es → atOrAbove B (e .key) es ≡ some e
     unfolding ascending
     own-cover es e h i =
-        let w = first-least (λ x. atMost B (e .key) (x .key)) (below B) es e (both _ _ h .0) i (atMost-itself B L (e .key)) in
+        let w = first-least (λ x. atMost B (e .key) (x .key)) (below B) es e (and-left _ _ h) i (atMost-itself B L (e .key)) in
         go (w .0) (w .1) (w .2)
       where
         go : (y : En B) → atOrAbove B (e .key) es ≡ some y → (y ≡ e) ⊎ (below B y e ≡ true) → atOrAbove B (e .key) es ≡ some e
@@ -115,7 +116,7 @@ module _ (B : Book) where
           p = counts B t lo hi
 
           low : (e : En B) → p e ≡ true → atMost B lo (e .key) ≡ true
-          low e c = both (atMost B lo (e .key)) _ c .0
+          low e c = and-left (atMost B lo (e .key)) _ c
 
           -- an entry that counts and is not above the target stands in the one list where it stands in the other
           over : (e : En B) → In e es → p e ≡ true → UpTo (first p es) (e .key) → In e es′
@@ -141,7 +142,7 @@ module _ (B : Book) where
               absurd (true≢false (sym (w .1) ∙ none-first p es z q i))
           go (some y) o q r =
               let w = first-in p es y q in
-              let v = first-least p (below B) es′ y (both _ _ h′ .0) (over y (w .0) (w .1) (itself-up y q)) (w .1) in
+              let v = first-least p (below B) es′ y (and-left _ _ h′) (over y (w .0) (w .1) (itself-up y q)) (w .1) in
               let k = first-in p es′ (v .0) (v .1) in
               nearer y (v .0) q (v .1) (k .1) (k .0) (v .2)
 
