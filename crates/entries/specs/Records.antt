@@ -1,7 +1,7 @@
 -- Document 01, "Records and pages": the request record and when it is bad (number 12), and the answer record. Assumes nothing.
 use Prim.Native.Nat.{ℕ, _-_, _+_}
 use mathlib.Core.Bool.{Bool, cond, not, _||_, _&&_}
-use mathlib.Core.List.{List, [], _∷_}
+use mathlib.Core.List.{List, [], _∷_, _++_}
 use mathlib.Core.Option.{Option, none, some}
 use lib.Dec.{eqb, leb, ltb}
 use lib.ListN.{length, getD}
@@ -72,8 +72,14 @@ unfoldable pub heard : List ℕ → Option (Call ℕ ℕ)
 heard s = cond (isBad s) none (some (callIn s))
 
 -- "Answer: length 20, kind 7, transaction, number, key, record; key and record are zero except in 1 and 16."
+abbrev pub headWidths : List ℕ
+headWidths = 2 ∷ 2 ∷ 2 ∷ 2 ∷ []
+
 abbrev pub answerWidths : List ℕ
-answerWidths = 2 ∷ 2 ∷ 2 ∷ 2 ∷ 8 ∷ 4 ∷ []
+answerWidths = headWidths ++ (8 ∷ 4 ∷ [])
+
+abbrev pub headFields : ℕ → ℕ → List ℕ
+headFields asker number = 20 ∷ 7 ∷ asker ∷ number ∷ []
 
 abbrev pub orZero : Option ℕ → ℕ
 orZero none = 0
@@ -81,7 +87,7 @@ orZero (some n) = n
 
 unfoldable pub answerFields : Answer ℕ ℕ → List ℕ
 answerFields a =
-    let p = paper (a .says) in 20 ∷ 7 ∷ a .asker ∷ p .number ∷ orZero (p .key) ∷ orZero (p .rec) ∷ []
+    let p = paper (a .says) in headFields (a .asker) (p .number) ++ (orZero (p .key) ∷ orZero (p .rec) ∷ [])
 
 -- the bytes with an answer written at a place
 unfoldable pub putAnswer : List ℕ → ℕ → Answer ℕ ℕ → List ℕ
