@@ -1,7 +1,8 @@
 -- Document 01, "Records and pages": the request record and when it is bad (number 12), and the answer record. Assumes nothing.
-use Prim.Native.Nat.{ℕ, _-_, _+_}
-use mathlib.Core.Bool.{Bool, cond, not, _||_, _&&_}
-use mathlib.Core.List.{List, [], _∷_, _++_}
+use Prim.Native.Nat.{ℕ, _+_, _≤_}
+use mathlib.Core.Path.{_≡_}
+use mathlib.Core.Bool.{Bool, false, cond, not, _||_, _&&_}
+use mathlib.Core.List.{List, [], _∷_}
 use mathlib.Core.Option.{Option, none, some}
 use lib.Dec.{eqb, leb, ltb}
 use lib.ListN.{length, getD}
@@ -64,22 +65,25 @@ filled s = not (eqb (getD (fieldsIn s) 3 0) 0) || not (eqb (getD (fieldsIn s) 6 
 abbrev pub illegal : List ℕ → Bool
 illegal s = not (legalCall (document endless) (callIn s))
 
+-- no record of a kind that there is
+abbrev pub misshapen : List ℕ → Bool
+misshapen s = ((short s || unlikeSlice s) || unlikeKind s) || unknownKind s
+
+-- a record of a kind that there is; so it has a head
+pub record Shaped (s : List ℕ) : Type 0 where
+  pub shape : misshapen s ≡ false
+  pub head : 8 ≤ length s
+
 unfoldable pub isBad : List ℕ → Bool
-isBad s = ((((short s || unlikeSlice s) || unlikeKind s) || unknownKind s) || filled s) || illegal s
+isBad s = (misshapen s || filled s) || illegal s
 
 -- the call that a slice is, or none: number 12
 unfoldable pub heard : List ℕ → Option (Call ℕ ℕ)
 heard s = cond (isBad s) none (some (callIn s))
 
 -- "Answer: length 20, kind 7, transaction, number, key, record; key and record are zero except in 1 and 16."
-abbrev pub headWidths : List ℕ
-headWidths = 2 ∷ 2 ∷ 2 ∷ 2 ∷ []
-
 abbrev pub answerWidths : List ℕ
-answerWidths = headWidths ++ (8 ∷ 4 ∷ [])
-
-abbrev pub headFields : ℕ → ℕ → List ℕ
-headFields asker number = 20 ∷ 7 ∷ asker ∷ number ∷ []
+answerWidths = 2 ∷ 2 ∷ 2 ∷ 2 ∷ 8 ∷ 4 ∷ []
 
 abbrev pub orZero : Option ℕ → ℕ
 orZero none = 0
@@ -87,7 +91,7 @@ orZero (some n) = n
 
 unfoldable pub answerFields : Answer ℕ ℕ → List ℕ
 answerFields a =
-    let p = paper (a .says) in headFields (a .asker) (p .number) ++ (orZero (p .key) ∷ orZero (p .rec) ∷ [])
+    let p = paper (a .says) in 20 ∷ 7 ∷ a .asker ∷ p .number ∷ orZero (p .key) ∷ orZero (p .rec) ∷ []
 
 -- the bytes with an answer written at a place
 unfoldable pub putAnswer : List ℕ → ℕ → Answer ℕ ℕ → List ℕ

@@ -1,15 +1,18 @@
 // Keys, entries, requests and answers as values, and requests and answers as records.
 // (Document 01, "Keys and entries", "What the desk says", "Records and pages".)
 ghost use mathlib.Core.Path.{_≡_};
-ghost use mathlib.Core.Option.{some, none};
+ghost use mathlib.Core.Bool.{true, false};
+ghost use mathlib.Core.List.{[], _∷_};
 ghost use Prim.Native.Nat.{ℕ, _+_, _<_, _≤_};
 ghost use lib.Dec.{leb, eqb, ltb};
-ghost use Rattle.numbers.specs.Numbers.{putFields};
+ghost use Rattle.numbers.specs.Numbers.{numberAt, putFields};
+ghost use Rattle.rules.specs.Kinds.{read, insert, delete};
 ghost use Rattle.rules.specs.Entries.{isThere, committed, rolledBack, deleted, revived, inserted, ghost};
-ghost use Rattle.rules.specs.Document.{endMark};
+ghost use Rattle.rules.specs.Desk.{isTransaction, legalAsk, legalRequest, legalCall};
+ghost use Rattle.rules.specs.Document.{endMark, document, endless};
 ghost use Rattle.rules.specs.Runs.{paper, numbered};
-ghost use Rattle.entries.specs.Meaning.{bookEntry, bookValue, bookHeard, bookSays, bookAnswer, OnPaper};
-ghost use Rattle.entries.specs.Records.{heard, orZero, headWidths, headFields, putAnswer};
+ghost use Rattle.entries.specs.Meaning.{bookEntry, bookValue, bookAsk, bookRequest, bookCall, bookHeard, bookSays, bookAnswer, OnPaper};
+ghost use Rattle.entries.specs.Records.{misshapen, Shaped, filled, callIn, heard, orZero, putAnswer};
 
 // A key: its upper half is the pupil, its lower half the delivery. The marks belong to it; the end is never a key, but names a lock.
 pub struct Key(pub u64);
@@ -183,11 +186,33 @@ impl Entry {
     }
 }
 
+// Transactions are numbered from 1.
+pub const TRANSACTIONS: u16 = 16;
+
+pub fn is_transaction(t: u16) -> bool
+    ensures { λ r. ⌜ r ≡ isTransaction (document endless) t ⌝ }
+{
+    (1 <= t) & (t <= TRANSACTIONS)
+}
+
 // What joins the queue.
 pub enum Ask {
     Read(Key, Key),
     Insert(Key, u32),
     Delete(Key),
+}
+
+impl Ask {
+    // Whether its keys are keys, and lo is not above hi.
+    pub fn is_legal(self) -> bool
+        ensures { λ r. ⌜ r ≡ legalAsk (document endless) (bookAsk self) ⌝ }
+    {
+        match self {
+            Ask::Read(lo, hi) => lo.is_key() & hi.is_key() & lo.at_most(hi),
+            Ask::Insert(key, _) => key.is_key(),
+            Ask::Delete(key) => key.is_key(),
+        }
+    }
 }
 
 pub enum Request {
@@ -197,16 +222,132 @@ pub enum Request {
     Asks(Ask),
 }
 
+impl Request {
+    pub fn is_legal(self) -> bool
+        ensures { λ r. ⌜ r ≡ legalRequest (document endless) (bookRequest self) ⌝ }
+    {
+        match self {
+            Request::Begin => true,
+            Request::Commit => true,
+            Request::Rollback => true,
+            Request::Asks(ask) => ask.is_legal(),
+        }
+    }
+}
+
 // A request with the transaction that makes it.
 pub struct Call {
     pub asker: u16,
     pub request: Request,
 }
 
+impl Call {
+    // Number 12 as far as it is about values.
+    pub fn is_legal(self) -> bool
+        ensures { λ r. ⌜ r ≡ legalCall (document endless) (bookCall self) ⌝ }
+    {
+        let request = self.request;
+        is_transaction(self.asker) & request.is_legal()
+    }
+}
+
 // What a slice of bytes is, read as a request record: a call, or number 12.
 pub enum Heard {
     Good(Call),
     Bad,
+}
+
+// The length of a request record by its kind. Kind 0 is none.
+const LENGTHS: [usize; 7] = [0, 8, 8, 8, 24, 24, 16];
+
+// Whether a slice is no record of a kind that there is: under 8 bytes, of a length unlike slice or kind, or of an unknown kind.
+fn is_misshapen(s: &[u8]) -> bool
+    ensures { λ r. ⌜ r ≡ misshapen (now (s .entry)) ⌝ }
+{
+    if s.len() < 8 {
+        return true;
+    }
+    let kind = numbers::number_at(s, 2);
+    if !((1 <= kind) & (kind <= 6)) {
+        return true;
+    }
+    let length = numbers::number_at(s, 0);
+    (length != s.len()) | (length != LENGTHS[kind])
+}
+
+// Whether a filler is not zero: the one that every record has, and that of an insert.
+fn is_filled(s: &[u8]) -> bool
+    requires { ⌜ Shaped (now s) ⌝ }
+    ensures { λ r. ⌜ r ≡ filled (now (s .entry)) ⌝ }
+{
+    let filler = numbers::read_u16(s, 6);
+    let kind = numbers::read_u16(s, 2);
+    if kind == 5 {
+        return (filler != 0) | (numbers::read_u32(s, 20) != 0);
+    }
+    filler != 0
+}
+
+fn read_in(s: &[u8]) -> Ask
+    requires { do ⌜ 24 ≤ (← ⟦s.len()⟧) ⌝ }
+    ensures { λ r. ⌜ bookAsk r ≡ read (numberAt 8 (now (s .entry)) 8) (numberAt 8 (now (s .entry)) 16) ⌝ }
+{
+    Ask::Read(Key(numbers::read_u64(s, 8)), Key(numbers::read_u64(s, 16)))
+}
+
+fn insert_in(s: &[u8]) -> Ask
+    requires { do ⌜ 24 ≤ (← ⟦s.len()⟧) ⌝ }
+    ensures { λ r. ⌜ bookAsk r ≡ insert (numberAt 8 (now (s .entry)) 8) (numberAt 4 (now (s .entry)) 16) ⌝ }
+{
+    Ask::Insert(Key(numbers::read_u64(s, 8)), numbers::read_u32(s, 16))
+}
+
+fn delete_in(s: &[u8]) -> Ask
+    requires { do ⌜ 16 ≤ (← ⟦s.len()⟧) ⌝ }
+    ensures { λ r. ⌜ bookAsk r ≡ delete (numberAt 8 (now (s .entry)) 8) ⌝ }
+{
+    Ask::Delete(Key(numbers::read_u64(s, 8)))
+}
+
+// What a record asks.
+fn request_in(s: &[u8]) -> Request
+    requires { ⌜ Shaped (now s) ⌝ }
+    ensures { λ r. ⌜ bookRequest r ≡ callIn (now (s .entry)) .request ⌝ }
+{
+    let kind = numbers::read_u16(s, 2);
+    match kind {
+        1 => Request::Begin,
+        2 => Request::Commit,
+        3 => Request::Rollback,
+        4 => Request::Asks(read_in(s)),
+        5 => Request::Asks(insert_in(s)),
+        _ => Request::Asks(delete_in(s)),
+    }
+}
+
+// What a record asks, with the transaction that asks it.
+fn call_in(s: &[u8]) -> Call
+    requires { ⌜ Shaped (now s) ⌝ }
+    ensures { λ r. ⌜ bookCall r ≡ callIn (now (s .entry)) ⌝ }
+{
+    Call {
+        asker: numbers::read_u16(s, 4),
+        request: request_in(s),
+    }
+}
+
+// The call that a slice is, read as a request record, or number 12.
+pub fn read_request(s: &[u8]) -> Heard
+    ensures { λ r. ⌜ bookHeard r ≡ heard (now (s .entry)) ⌝ }
+{
+    if is_misshapen(s) {
+        return Heard::Bad;
+    }
+    let call = call_in(s);
+    if is_filled(s) | !call.is_legal() {
+        return Heard::Bad;
+    }
+    Heard::Good(call)
 }
 
 // What the desk says.
@@ -279,7 +420,7 @@ pub struct Answer {
 // Writes the first eight bytes of an answer record at a place: length, kind, transaction and number.
 fn put_head(out: &mut [u8], at: usize, asker: u16, number: u16)
     requires { do ⌜ at + 8 ≤ (← ⟦out.len()⟧) ⌝ }
-    ensures { λ _. ⌜ now (out .exit) ≡ putFields headWidths (now (out .entry)) at (headFields asker number) ⌝ }
+    ensures { λ _. ⌜ now (out .exit) ≡ putFields (2 ∷ 2 ∷ 2 ∷ 2 ∷ []) (now (out .entry)) at (20 ∷ 7 ∷ asker ∷ number ∷ []) ⌝ }
 {
     numbers::write_u16(out, at, 20);
     numbers::write_u16(out, at + 2, 7);
