@@ -18,29 +18,37 @@ use Rattle.entries.specs.declared.Key.{Key}
 use Rattle.entries.specs.declared.Ask.{Ask}
 use Rattle.entries.specs.declared.Ask.the-variants.{Read, Insert, Delete}
 use Rattle.entries.specs.declared.Request.{Request}
+use Rattle.entries.specs.declared.Request.the-variants.{Asks}
 use Rattle.entries.specs.declared.Call.{Call}
 use Rattle.entries.specs.Meaning.{bookAsk, bookRequest, bookCall}
 use Rattle.entries.specs.Records.{forms, formOf, kindIn, fieldsIn, requests, callIn, short, unlikeSlice, unlikeKind, unknownKind, filled, illegal, misshapen, Shaped, isBad, heard}
 
 -- ---- neither of two tests passes where their disjunction fails
-or-left : (a b : Bool) → (a || b) ≡ false → a ≡ false
-or-left true b e = e
-or-left false b e = refl
+neither-left : (a b : Bool) → (a || b) ≡ false → a ≡ false
+neither-left true b e = e
+neither-left false b e = refl
 
-or-right : (a b : Bool) → (a || b) ≡ false → b ≡ false
-or-right true b e = absurd (true≢false e)
-or-right false b e = e
+neither-right : (a b : Bool) → (a || b) ≡ false → b ≡ false
+neither-right true b e = absurd (true≢false e)
+neither-right false b e = e
 
 -- ---- a legal request
 pub legal-read : (a : Ask) (lo hi : Key) (x y z : Bool) → a ≡ Read lo hi → x ≡ ltb (lo .0) endMark → y ≡ ltb (hi .0) endMark → z ≡ leb (lo .0) (hi .0)
     → ((x && y) && z) ≡ legalAsk (document endless) (bookAsk a)
+unfolding legalAsk
 legal-read a lo hi x y z e p q r = rw (e, p, q, r)
 
 pub legal-insert : (a : Ask) (k : Key) (v : ℕ) (x : Bool) → a ≡ Insert k v → x ≡ ltb (k .0) endMark → x ≡ legalAsk (document endless) (bookAsk a)
+unfolding legalAsk
 legal-insert a k v x e p = rw e p
 
 pub legal-delete : (a : Ask) (k : Key) (x : Bool) → a ≡ Delete k → x ≡ ltb (k .0) endMark → x ≡ legalAsk (document endless) (bookAsk a)
+unfolding legalAsk
 legal-delete a k x e p = rw e p
+
+pub legal-ask : (r : Request) (a : Ask) (x : Bool) → r ≡ Asks a → x ≡ legalAsk (document endless) (bookAsk a) → x ≡ legalRequest (document endless) (bookRequest r)
+unfolding legalRequest
+legal-ask r a x e p = rw e p
 
 pub legal-call : (c : Call) (x y : Bool) → x ≡ isTransaction (document endless) (c .asker) → y ≡ legalRequest (document endless) (bookRequest (c .request))
     → (x && y) ≡ legalCall (document endless) (bookCall c)
@@ -73,20 +81,20 @@ misshapen-length s k n l e h q =
 pub shaped : (s : List ℕ) (b : Bool) → b ≡ misshapen s → b ≡ false → Shaped s
 shaped s b e f =
     let g : misshapen s ≡ false = sym e ∙ f in
-    record { shape = g; head = ltb-false (length s) 8 (or-left (short s) (unlikeSlice s) (or-left (short s || unlikeSlice s) (unlikeKind s) (or-left ((short s || unlikeSlice s) || unlikeKind s) (unknownKind s) g))) }
+    record { shape = g; head = ltb-false (length s) 8 (neither-left (short s) (unlikeSlice s) (neither-left (short s || unlikeSlice s) (unlikeKind s) (neither-left ((short s || unlikeSlice s) || unlikeKind s) (unknownKind s) g))) }
 
 pub room : (n : ℕ) (s : List ℕ) (k : ℕ) → Shaped s → k ≡ kindIn s → k ≡ n → widthOf (formOf n) ≤ length s
 room n s k h e f =
-    let g = or-left ((short s || unlikeSlice s) || unlikeKind s) (unknownKind s) (h .shape) in
+    let g = neither-left ((short s || unlikeSlice s) || unlikeKind s) (unknownKind s) (h .shape) in
     let a : numberAt 2 s 0 ≡ widthOf (formOf (kindIn s)) =
-    eqb-true (numberAt 2 s 0) (widthOf (formOf (kindIn s))) (not-false (eqb (numberAt 2 s 0) (widthOf (formOf (kindIn s)))) (or-right (short s || unlikeSlice s) (unlikeKind s) g)) in
+    eqb-true (numberAt 2 s 0) (widthOf (formOf (kindIn s))) (not-false (eqb (numberAt 2 s 0) (widthOf (formOf (kindIn s)))) (neither-right (short s || unlikeSlice s) (unlikeKind s) g)) in
     let b : numberAt 2 s 0 ≡ length s =
-    eqb-true (numberAt 2 s 0) (length s) (not-false (eqb (numberAt 2 s 0) (length s)) (or-right (short s) (unlikeSlice s) (or-left (short s || unlikeSlice s) (unlikeKind s) g))) in
+    eqb-true (numberAt 2 s 0) (length s) (not-false (eqb (numberAt 2 s 0) (length s)) (neither-right (short s) (unlikeSlice s) (neither-left (short s || unlikeSlice s) (unlikeKind s) g))) in
     let q : widthOf (formOf n) ≡ widthOf (formOf (kindIn s)) = ap (λ x. widthOf (formOf x)) (sym f ∙ e) in
     omega arith
 
 known : (s : List ℕ) → Shaped s → (leb 1 (kindIn s) && leb (kindIn s) 6) ≡ true
-known s h = not-false (leb 1 (kindIn s) && leb (kindIn s) 6) (or-right ((short s || unlikeSlice s) || unlikeKind s) (unknownKind s) (h .shape))
+known s h = not-false (leb 1 (kindIn s) && leb (kindIn s) 6) (neither-right ((short s || unlikeSlice s) || unlikeKind s) (unknownKind s) (h .shape))
 
 -- what holds of each kind that there is holds of a shaped record's
 each-kind : (P : ℕ → Type 0) → P 1 → P 2 → P 3 → P 4 → P 5 → P 6 → (k : ℕ) → (leb 1 k && leb k 6) ≡ true → P k

@@ -3,3 +3,4 @@ pub mod Counts
 pub mod Places
 pub mod Tables
 pub mod Finite
+pub mod Elements

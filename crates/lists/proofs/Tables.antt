@@ -9,8 +9,8 @@ use Prim.Native.Nat.{ℕ, zero, suc, _+_, _-_, _≤_, _<_}
 use native.Mathlib.Nat.{not-suc-le-zero, le-of-suc-le-suc, add-zero, zero-add, sub-zero, zero-sub}
 use native.Mathlib.Decide.{decLt, ℕ-discrete}
 use native.Mathlib.Omega.{arith}
-use lib.ListN.{length, getD, set, take, drop, length-set, length-take, length-drop}
-use lib.Seq.{ext-getD, getD-set-same, getD-set-other, getD-take, getD-drop}
+use lib.ListN.{length, getD, set, take, drop, length-set}
+use lib.Seq.{ext-getD, getD-set-same, getD-set-other}
 use Rattle.lists.specs.Lists.{tab, all, any, first, insertAt, removeAt}
 use Rattle.lists.proofs.Tests.{all-at, first-hit, first-miss}
 use Rattle.lists.proofs.Places.{length-insertAt, getD-insertAt-below, getD-insertAt-at, getD-insertAt-above, length-removeAt, getD-removeAt-below, getD-removeAt-above}

@@ -1,13 +1,13 @@
 -- Two relations that every law of bytes goes through: n bytes at a place are those at another place, and only m bytes at a place differ.
 -- What is read depends only on the bytes that it reads; what is written touches only the bytes that it writes. Assumes nothing.
-use mathlib.Core.Path.{_≡_, refl, sym, ap, _∙_}
+use mathlib.Core.Path.{_≡_, sym, ap, _∙_}
 use mathlib.Core.List.{List}
 use Prim.Native.Nat.{ℕ, zero, suc, _+_, _-_, _≤_, _<_}
 use native.Mathlib.Nat.{add-zero, zero-add}
-use native.Mathlib.Decide.{decLt}
+use native.Mathlib.Decide.{decLt, ℕ-discrete}
 use native.Mathlib.Omega.{arith}
 use lib.ListN.{length, getD, set, length-set}
-use lib.Seq.{ext-getD, getD-set-other}
+use lib.Seq.{ext-getD, getD-set-same, getD-set-other}
 use Rattle.numbers.specs.Numbers.{Apart}
 
 -- the n bytes at a in s are the n bytes at b in t
@@ -46,7 +46,7 @@ pub agree-more : {n : ℕ} {s t : List ℕ} {a b : ℕ} → getD s a 0 ≡ getD 
 agree-more {n} {s} {t} {a} {b} e g = record { byte = at }
   where
     at : (k : ℕ) → k < suc n → getD s (a + k) 0 ≡ getD t (b + k) 0
-    at zero h = rw (add-zero, add-zero) e
+    at zero h = simp add-zero e
     at (suc k) h =
         let p : a + suc k ≡ a + 1 + k = omega arith in
         let q : b + 1 + k ≡ b + suc k = omega arith in
@@ -61,6 +61,14 @@ agree-join {n} {m} {s} {t} {a} {b} f g = record { byte = λ k h. at k h (decLt k
         let p : a + k ≡ a + n + (k - n) = omega arith in
         let q : b + n + (k - n) ≡ b + k = omega arith in
         ap (λ x. getD s x 0) p ∙ g .byte (k - n) (omega arith) ∙ ap (λ x. getD t x 0) q
+
+-- one byte more, written behind those that agree
+pub agree-set : {k : ℕ} {u t : List ℕ} {a c : ℕ} (v : ℕ) → Agree k u a t c → a + k < length u → v ≡ getD t (c + k) 0 → Agree (k + 1) (set u (a + k) v) a t c
+agree-set {k} {u} {t} {a} {c} v g h e = record { byte = λ j m. at j m (ℕ-discrete j k) }
+  where
+    at : (j : ℕ) → j < k + 1 → Dec (j ≡ k) → getD (set u (a + k) v) (a + j) 0 ≡ getD t (c + j) 0
+    at j m (yes q) = rw q (getD-set-same u (a + k) v 0 h ∙ e)
+    at j m (no q) = getD-set-other u (a + k) (a + j) v 0 (omega arith) ∙ g .byte j (omega arith)
 
 -- bytes that agree throughout are the same
 pub agree-all : (s t : List ℕ) → length s ≡ length t → Agree (length s) s 0 t 0 → s ≡ t

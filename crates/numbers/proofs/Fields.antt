@@ -1,14 +1,14 @@
 -- Laws of a record in bytes, a list of widths with a number for each: the laws of numbers, once for every list of widths.
 -- Each by induction on the widths. Assumes nothing.
-use mathlib.Core.Path.{_≡_, refl, sym, ap, ap₂, _∙_}
+use mathlib.Core.Path.{_≡_, refl, ap, ap₂, _∙_}
 use mathlib.Core.List.{List, [], _∷_}
-use Prim.Native.Nat.{ℕ, zero, suc, _+_, _^_, _≤_, _<_}
+use Prim.Native.Nat.{ℕ, suc, _+_, _≤_}
 use native.Mathlib.Nat.{not-suc-le-zero}
 use native.Mathlib.Omega.{arith}
-use lib.ListN.{length, getD}
+use lib.ListN.{length, replicate}
 use Rattle.numbers.specs.Numbers.{numberAt, putNumber, widthOf, fieldsAt, putFields, Fits, Apart, Bytes}
 use Rattle.numbers.proofs.Agree.{Agree, Touches, agree-within, agree-front, agree-join, untouched, touches-wider, touches-then}
-use Rattle.numbers.proofs.Numbers.{numberAt-ext, length-putNumber, touches-putNumber, number-same, number-apart, number-below, numbers-inj}
+use Rattle.numbers.proofs.Numbers.{numberAt-ext, number-none, length-putNumber, touches-putNumber, number-same, number-apart, number-below, numbers-inj}
 
 pub fieldsAt-ext : (ws : List ℕ) {s t : List ℕ} {a b : ℕ} → Agree (widthOf ws) s a t b → fieldsAt ws s a ≡ fieldsAt ws t b
 unfolding fieldsAt widthOf
@@ -52,6 +52,15 @@ fields-apart ws a f h = fieldsAt-ext ws (untouched a (widthOf ws) f h)
 pub fields-other : (ws : List ℕ) (a : ℕ) (us s : List ℕ) (b : ℕ) (vs : List ℕ) → Apart a (widthOf ws) b (widthOf us)
     → fieldsAt ws (putFields us s b vs) a ≡ fieldsAt ws s a
 fields-other ws a us s b vs h = fields-apart ws a (touches-putFields us s b vs) h
+
+-- zero bytes are zero fields
+pub fields-none : (ws : List ℕ) (at : ℕ) → fieldsAt ws [] at ≡ replicate (length ws) 0
+unfolding fieldsAt
+fields-none [] at = refl
+fields-none (w ∷ ws) at = ap₂ (λ v vs. v ∷ vs) (number-none w at) (fields-none ws (at + w))
+
+pub fields-zero : (ws : List ℕ) {s : List ℕ} {at : ℕ} → Agree (widthOf ws) s at [] 0 → fieldsAt ws s at ≡ replicate (length ws) 0
+fields-zero ws g = fieldsAt-ext ws g ∙ fields-none ws 0
 
 -- ---- the fields of bytes fit their widths, and tell their bytes
 pub fields-fit : (ws s : List ℕ) (at : ℕ) → Bytes s → Fits ws (fieldsAt ws s at)

@@ -1,15 +1,14 @@
 -- Whatever is written into bytes leaves bytes.
 -- Each byte afterwards is one that was there, one that was copied, or a remainder by 256. Assumes nothing.
-use mathlib.Core.Path.{_≡_, refl, sym, ap, _∙_, subst}
+use mathlib.Core.Path.{_≡_, ap}
 use mathlib.Core.List.{List, [], _∷_}
 use Prim.Native.Nat.{ℕ, zero, suc, _+_, _-_, _%_, _/_, _≤_, _<_}
-use native.Mathlib.Nat.{mod-lt}
 use native.Mathlib.Decide.{decLt, ℕ-discrete}
 use native.Mathlib.Omega.{arith}
 use lib.Dec.{lit<}
 use lib.ListN.{length, getD, set, drop, length-take, List·getD-eq-default}
 use lib.Seq.{getD-set-same, getD-set-other, set-out}
-use Rattle.numbers.specs.Numbers.{putNumber, putFields, part, putPart, copied, zeroed, Bytes, Apart}
+use Rattle.numbers.specs.Numbers.{putNumber, putFields, part, putPart, copied, zeroed, Bytes}
 use Rattle.numbers.proofs.Agree.{Agree, Touches}
 use Rattle.numbers.proofs.Parts.{getD-part, agree-putPart, touches-putPart}
 use Rattle.numbers.proofs.Moves.{agree-copied, touches-copied, agree-zeroed, touches-zeroed}

@@ -1,20 +1,17 @@
 -- Laws of bytes that are copied, moved or set to zero: what stands where, and what one byte more comes to.
 -- All are a part put back, so all go through the laws of parts. Assumes nothing.
-use mathlib.Core.Path.{_≡_, refl, sym, ap, _∙_}
+use mathlib.Core.Path.{_≡_, refl, sym, _∙_}
 use mathlib.Core.Bool.{true}
 use mathlib.Core.List.{List, []}
-use Prim.Native.Nat.{ℕ, zero, suc, _+_, _-_, _≤_, _<_}
-use native.Mathlib.Nat.{not-suc-le-zero}
-use native.Mathlib.Decide.{ℕ-discrete}
+use Prim.Native.Nat.{ℕ, _+_, _≤_, _<_}
 use native.Mathlib.Omega.{arith}
 use lib.Dec.{eqb}
-use lib.ListN.{length, getD, set, replicate, length-set, length-replicate, getD-replicate}
-use lib.Seq.{getD-set-same, getD-set-other}
+use lib.ListN.{length, getD, set, replicate, length-replicate, getD-replicate}
+use lib.Seq.{getD-set-same}
 use borrow.Author.Tests.{eqb-true, eq-eqb}
-use Rattle.lists.specs.Lists.{all}
 use Rattle.lists.proofs.Tests.{all-at, all-each}
-use Rattle.numbers.specs.Numbers.{part, putPart, copied, zeroed, zeroAt, Apart}
-use Rattle.numbers.proofs.Agree.{Agree, Touches, agree-back, agree-then, agree-front, agree-more, untouched, touches-wider, touches-set, touches-one}
+use Rattle.numbers.specs.Numbers.{part, copied, zeroed, zeroAt, Apart}
+use Rattle.numbers.proofs.Agree.{Agree, Touches, agree-back, agree-then, agree-front, agree-more, agree-set, untouched, touches-wider, touches-set, touches-one}
 use Rattle.numbers.proofs.Parts.{length-part, getD-part, getD-putPart-in, agree-part, agree-putPart, touches-putPart, putPart-ext, putPart-none}
 
 module _ (n : ℕ) (src : List ℕ) (from to : ℕ) (s : List ℕ) (h : from + n ≤ length src) (l : to + n ≤ length s) where
@@ -56,23 +53,10 @@ module _ (src : List ℕ) (from to : ℕ) (s : List ℕ) where
   pub copied-behind : (k : ℕ) → from + k < length src → to + k < length s
       → set (copied k src from to s) (to + k) (getD src (from + k) 0) ≡ copied (k + 1) src from to s
   copied-behind k h l =
-      copied-ext (k + 1) src from to s (omega arith) (omega arith) (set u (to + k) v)
-      (record { byte = λ j m. at j m (ℕ-discrete j k) })
-      (touches-one to (k + 1) (to + k) v touched (omega arith) (omega arith) (omega arith) (omega arith))
-    where
-      u : List ℕ
-      u = copied k src from to s
-
-      v : ℕ
-      v = getD src (from + k) 0
-
-      touched : Touches to k s u
-      touched = touches-copied k src from to s (omega arith) (omega arith)
-
-      at : (j : ℕ) → j < k + 1 → Dec (j ≡ k) → getD (set u (to + k) v) (to + j) 0 ≡ getD src (from + j) 0
-      at j m (yes e) = rw e (getD-set-same u (to + k) v 0 (omega (arith, touched .len)))
-      at j m (no e) =
-          getD-set-other u (to + k) (to + j) v 0 (omega arith) ∙ getD-copied-in k src from to s (omega arith) (omega arith) j (omega arith)
+      let f = touches-copied k src from to s (omega arith) (omega arith) in
+      copied-ext (k + 1) src from to s (omega arith) (omega arith) (set (copied k src from to s) (to + k) (getD src (from + k) 0))
+      (agree-set (getD src (from + k) 0) (agree-copied k src from to s (omega arith) (omega arith)) (omega (arith, f .len)) refl)
+      (touches-one to (k + 1) (to + k) (getD src (from + k) 0) f (omega arith) (omega arith) (omega arith) (omega arith))
 
   pub copied-before : (m : ℕ) → from + 1 + m ≤ length src → to + 1 + m ≤ length s
       → set (copied m src (from + 1) (to + 1) s) to (getD src from 0) ≡ copied (m + 1) src from to s
@@ -127,18 +111,10 @@ zeroed-none at s = putPart-none at s
 
 pub zeroed-behind : (k at : ℕ) (s : List ℕ) → at + k < length s → set (zeroed k at s) (at + k) 0 ≡ zeroed (k + 1) at s
 zeroed-behind k at s h =
-    zeroed-ext (k + 1) at s (omega arith) (set u (at + k) 0) (record { byte = λ j m. here j m (ℕ-discrete j k) })
-    (touches-one at (k + 1) (at + k) 0 touched (omega arith) (omega arith) (omega arith) (omega arith))
-  where
-    u : List ℕ
-    u = zeroed k at s
-
-    touched : Touches at k s u
-    touched = touches-zeroed k at s (omega arith)
-
-    here : (j : ℕ) → j < k + 1 → Dec (j ≡ k) → getD (set u (at + k) 0) (at + j) 0 ≡ 0
-    here j m (yes e) = rw e (getD-set-same u (at + k) 0 0 (omega (arith, touched .len)))
-    here j m (no e) = getD-set-other u (at + k) (at + j) 0 0 (omega arith) ∙ getD-zeroed-in k at s (omega arith) j (omega arith)
+    let f = touches-zeroed k at s (omega arith) in
+    zeroed-ext (k + 1) at s (omega arith) (set (zeroed k at s) (at + k) 0)
+    (agree-set 0 (agree-zeroed k at s (omega arith)) (omega (arith, f .len)) refl)
+    (touches-one at (k + 1) (at + k) 0 f (omega arith) (omega arith) (omega arith) (omega arith))
 
 -- ---- the test for zero bytes
 pub zeroAt-true : (n at : ℕ) (s : List ℕ) → zeroAt n at s ≡ true → at + n ≤ length s → Agree n s at [] 0

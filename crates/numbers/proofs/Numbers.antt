@@ -1,7 +1,7 @@
 -- Laws of a number in bytes: it depends on its bytes alone, it is read back as written, it is split into two, it fits its width, it tells its bytes.
 -- Each by induction on the width. Assumes nothing.
 use mathlib.Core.Path.{_≡_, refl, sym, ap, _∙_}
-use mathlib.Core.List.{List}
+use mathlib.Core.List.{List, []}
 use Prim.Native.Nat.{ℕ, zero, suc, _+_, _*_, _/_, _%_, _^_, _≤_, _<_}
 use native.Mathlib.Nat.{add-zero, zero-add, not-suc-le-zero, pow-succ', mod-add-div, mod-eq-of-lt, suc-add, div-lt-iff-lt-mul, div-div-eq-div-mul, div-one}
 use native.Mathlib.Omega.{arith}
@@ -18,6 +18,12 @@ numberAt-ext (suc w) g =
     let p = agree-first (omega arith) g in
     let r = numberAt-ext w (agree-within 1 w (omega arith) g) in
     omega arith
+
+-- past the end of the bytes a number is 0
+pub number-none : (w at : ℕ) → numberAt w [] at ≡ 0
+unfolding numberAt
+number-none zero at = refl
+number-none (suc w) at = let r = number-none w (at + 1) in omega arith
 
 -- ---- what is written
 pub length-putNumber : (w : ℕ) (s : List ℕ) (at v : ℕ) → length (putNumber w s at v) ≡ length s
@@ -78,7 +84,7 @@ put-byte s at v h = ap (set s at) (sym (mod-eq-of-lt h))
 -- ---- a number of w + u bytes is one of w bytes and one of u behind it
 pub number-split : (w u : ℕ) (s : List ℕ) (at : ℕ) → numberAt (w + u) s at ≡ numberAt w s at + 256 ^ w * numberAt u s (at + w)
 unfolding numberAt
-number-split zero u s at = rw (zero-add, add-zero) (omega arith)
+number-split zero u s at = rw (zero-add u, add-zero) (omega arith)
 number-split (suc w) u s at =
     let e : at + suc w ≡ at + 1 + w = omega arith in
     let r = number-split w u s (at + 1) in

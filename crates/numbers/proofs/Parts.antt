@@ -2,12 +2,12 @@
 -- By what stands at each place. Assumes nothing.
 use mathlib.Core.Path.{_≡_, refl, sym, ap, _∙_}
 use mathlib.Core.List.{List, [], _∷_, _++_, append-assoc, append-nil}
-use Prim.Native.Nat.{ℕ, zero, suc, _+_, _-_, _*_, _≤_, _<_}
+use Prim.Native.Nat.{ℕ, zero, suc, _+_, _-_, _≤_, _<_}
 use native.Mathlib.Nat.{add-sub-cancel-left, zero-add, add-zero}
 use native.Mathlib.Decide.{decLt}
 use native.Mathlib.Omega.{arith}
 use lib.ListN.{length, getD, take, drop, length-append, length-take, length-drop, take-append-drop, List·getD-append}
-use lib.Seq.{ext-getD, length-take-le, getD-take, getD-drop, getD-append-add, drop-drop, take-take}
+use lib.Seq.{ext-getD, length-take-le, getD-take, getD-drop, getD-append-add, drop-drop}
 use borrow.Rule.Slice.PartMut.{putMid}
 use Rattle.numbers.specs.Numbers.{numberAt, widthOf, fieldsAt, part, putPart, Apart}
 use Rattle.numbers.proofs.Agree.{Agree, Touches, agree-back, agree-then, agree-front, untouched, touches-wider, touches-then}

@@ -1,14 +1,13 @@
 -- Laws of a table of records in bytes: a record written is one row set, a write elsewhere leaves the table, and the rows tell their bytes.
 -- By the laws of tables and of records, with the place and the stride as variables. Assumes nothing.
-use mathlib.Core.Path.{_≡_, refl, sym, ap, _∙_}
+use mathlib.Core.Path.{_≡_, sym, ap, _∙_}
 use mathlib.Core.Logic.{_≢_, _⊎_, inl, inr}
 use mathlib.Core.List.{List, []}
-use Prim.Native.Nat.{ℕ, zero, suc, _+_, _-_, _*_, _/_, _%_, _≤_, _<_}
+use Prim.Native.Nat.{ℕ, _+_, _-_, _*_, _/_, _%_, _≤_, _<_}
 use native.Mathlib.Nat.{mul-le-mul-left, div-add-mod, mod-lt, div-lt-iff-lt-mul, zero-add, eq-zero-or-pos}
 use native.Mathlib.Decide.{decLt}
 use native.Mathlib.Omega.{arith}
 use lib.ListN.{length, getD, set, take, drop}
-use Rattle.lists.specs.Lists.{tab}
 use Rattle.lists.proofs.Tables.{length-tab, getD-tab, tab-ext, tab-same, tab-set, take-tab, drop-tab}
 use Rattle.numbers.specs.Numbers.{widthOf, fieldsAt, putFields, rows, part, copied, Fits, Apart, Bytes}
 use Rattle.numbers.proofs.Agree.{Agree, Touches, agree-within, untouched}
@@ -16,12 +15,12 @@ use Rattle.numbers.proofs.Fields.{fieldsAt-ext, touches-putFields, fiel
 use Rattle.numbers.proofs.Parts.{inside}
 use Rattle.numbers.proofs.Moves.{agree-copied}
 
--- row i lies before the end of n rows, and before row j where i is below j
+-- row i lies before the end of n rows, and two different rows lie apart
 pub row-within : (z w i n : ℕ) → w ≤ z → i < n → z * i + w ≤ z * n
 row-within z w i n h l = omega (arith, mul-le-mul-left z l)
 
-pub rows-apart : (z w base i j : ℕ) → w ≤ z → i ≢ j → Apart (base + z * i) w (base + z * j) w
-rows-apart z w base i j h e =
+pub rows-distinct : (z w base i j : ℕ) → w ≤ z → i ≢ j → Apart (base + z * i) w (base + z * j) w
+rows-distinct z w base i j h e =
     elim (decLt i j) [ yes l ↦ omega (arith, row-within z w i j h l) | no l ↦ omega (arith, row-within z w j i h (omega arith)) ]
 
 pub length-rows : (ws : List ℕ) (base z n : ℕ) (s : List ℕ) → length (rows ws base z n s) ≡ n
@@ -45,15 +44,15 @@ unfolding rows
 rows-put ws base z n s i vs h w l f =
     tab-set n (λ k. fieldsAt ws s (base + z * k)) (λ k. fieldsAt ws (putFields ws s (base + z * i) vs) (base + z * k)) i vs h
     (fields-same ws s (base + z * i) vs f (omega (arith, row-within z (widthOf ws) i n w h)))
-    (λ k _ e. fields-other ws (base + z * k) ws s (base + z * i) vs (rows-apart z (widthOf ws) base k i w e))
+    (λ k _ e. fields-other ws (base + z * k) ws s (base + z * i) vs (rows-distinct z (widthOf ws) base k i w e))
 
-pub rows-beside : (ws : List ℕ) (base z n : ℕ) {b m : ℕ} {s t : List ℕ} → Touches b m s t → Apart base (z * n) b m → widthOf ws ≤ z
+pub rows-apart : (ws : List ℕ) (base z n : ℕ) {b m : ℕ} {s t : List ℕ} → Touches b m s t → Apart base (z * n) b m → widthOf ws ≤ z
     → rows ws base z n t ≡ rows ws base z n s
-rows-beside ws base z n f h w = rows-ext ws z n w (untouched base (z * n) f h)
+rows-apart ws base z n f h w = rows-ext ws z n w (untouched base (z * n) f h)
 
 pub rows-other : (ws : List ℕ) (base z n : ℕ) (us s : List ℕ) (b : ℕ) (vs : List ℕ) → Apart base (z * n) b (widthOf us) → widthOf ws ≤ z
     → rows ws base z n (putFields us s b vs) ≡ rows ws base z n s
-rows-other ws base z n us s b vs h w = rows-beside ws base z n (touches-putFields us s b vs) h w
+rows-other ws base z n us s b vs h w = rows-apart ws base z n (touches-putFields us s b vs) h w
 
 -- ---- some of the rows
 pub take-rows : (c : ℕ) (ws : List ℕ) (base z n : ℕ) (s : List ℕ) → c ≤ n → take c (rows ws base z n s) ≡ rows ws base z c s

@@ -1,18 +1,18 @@
 -- A table's tail moved up by one stride leaves a gap for a row, moved down by one stride it takes a row out.
 -- By the laws of tables: below the place nothing is touched, above it each row is the one beside it. Assumes nothing.
-use mathlib.Core.Path.{_≡_, refl, sym, ap, _∙_}
+use mathlib.Core.Path.{_≡_, _∙_}
 use mathlib.Core.List.{List}
-use Prim.Native.Nat.{ℕ, zero, suc, _+_, _-_, _*_, _≤_, _<_}
+use Prim.Native.Nat.{ℕ, _+_, _-_, _*_, _≤_, _<_}
 use native.Mathlib.Nat.{mul-le-mul-left, mul-sub}
 use native.Mathlib.Omega.{arith}
 use lib.ListN.{length}
 use Rattle.lists.specs.Lists.{insertAt, removeAt}
 use Rattle.lists.proofs.Tables.{tab-insert, tab-remove}
-use Rattle.numbers.specs.Numbers.{widthOf, fieldsAt, putFields, rows, moved, Fits, Apart}
+use Rattle.numbers.specs.Numbers.{widthOf, fieldsAt, putFields, rows, moved, Fits}
 use Rattle.numbers.proofs.Agree.{Agree, Touches, agree-within, touches-wider, touches-then}
 use Rattle.numbers.proofs.Fields.{fieldsAt-ext, touches-putFields, fields-same, fields-other, fields-apart}
 use Rattle.numbers.proofs.Moves.{touches-copied, agree-copied, length-copied}
-use Rattle.numbers.proofs.Rows.{row-within, rows-apart}
+use Rattle.numbers.proofs.Rows.{row-within, rows-distinct}
 
 -- m bytes, at least those of the rows from i on, moved up by one stride, and a record written at i
 pub rows-insert : (ws : List ℕ) (base z n : ℕ) (s : List ℕ) (i m : ℕ) (vs : List ℕ) → i ≤ n → widthOf ws ≤ z → Fits ws vs
@@ -23,7 +23,7 @@ rows-insert ws base z n s i m vs h w f l r =
     tab-insert n (λ k. fieldsAt ws s (base + z * k)) (λ k. fieldsAt ws s₂ (base + z * k)) i vs h
     (λ k b. fields-apart ws (base + z * k) touched (omega (arith, row-within z (widthOf ws) k i w b)))
     (fields-same ws s₁ p vs f (omega (arith, length-copied m s p (p + z) s (omega arith) r)))
-    (λ k a b. fields-other ws (base + z * (k + 1)) ws s₁ p vs (rows-apart z (widthOf ws) base (k + 1) i w (omega arith))
+    (λ k a b. fields-other ws (base + z * (k + 1)) ws s₁ p vs (rows-distinct z (widthOf ws) base (k + 1) i w (omega arith))
     ∙ fieldsAt-ext ws (moved-row k a b))
   where
     p : ℕ

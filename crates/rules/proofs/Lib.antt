@@ -3,3 +3,13 @@ pub mod Waits
 pub mod Rest
 pub mod Answers
 pub mod Chains
+pub mod Keeps
+pub mod Keys
+pub mod Index
+pub mod LockTable
+pub mod Did
+pub mod Sound
+pub mod Unblocked
+pub mod GoodKept
+pub mod Cover
+pub mod Orders

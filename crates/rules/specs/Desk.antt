@@ -99,12 +99,12 @@ module _ (B : Book) where
   abbrev pub isTransaction : ℕ → Bool
   isTransaction t = leb 1 t && leb t (B .transactions)
 
-  abbrev pub legalAsk : Ask (B .Key) (B .Rec) → Bool
+  unfoldable pub legalAsk : Ask (B .Key) (B .Rec) → Bool
   legalAsk (read lo hi) = (B .legal lo && B .legal hi) && atMost B lo hi
   legalAsk (insert k r) = B .legal k
   legalAsk (delete k) = B .legal k
 
-  abbrev pub legalRequest : Request (B .Key) (B .Rec) → Bool
+  unfoldable pub legalRequest : Request (B .Key) (B .Rec) → Bool
   legalRequest begin = true
   legalRequest commit = true
   legalRequest rollback = true

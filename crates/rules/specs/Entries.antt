@@ -5,7 +5,7 @@ use mathlib.Core.Bool.{Bool, true, false, cond, not, _&&_}
 use mathlib.Core.List.{List, [], _∷_, map}
 use mathlib.Core.Option.{Option, none, some}
 use lib.Dec.{isLe, isEq, eqb}
-use Rattle.lists.specs.Lists.{keep, join}
+use Rattle.lists.specs.Lists.{keep, join, insertBefore}
 use Rattle.rules.specs.Kinds.{Book, Entry}
 
 abbrev pub isThere : {A : Type 0} → Option A → Bool
@@ -63,8 +63,7 @@ module _ (B : Book) where
 
   -- the list with an entry put in where it belongs
   unfoldable pub put : Entry (B .Key) (B .Rec) → Entries → Entries
-  put e [] = e ∷ []
-  put e (x ∷ xs) = cond (atMost (e .key) (x .key)) (e ∷ x ∷ xs) (x ∷ put e xs)
+  put e es = insertBefore (λ x. atMost (e .key) (x .key)) e es
 
   -- the list with the entry of key k changed where it stands
   unfoldable pub changed : B .Key → (Entry (B .Key) (B .Rec) → Entry (B .Key) (B .Rec)) → Entries → Entries

@@ -1,0 +1,292 @@
+//! Places where document 01 leaves a choice or is easily misread, each as a small case. What is
+//! expected was worked out by hand.
+
+use model::entry::Entry;
+use model::key::Key;
+use model::layout::answer::Answer;
+use model::layout::desk::{Lock, Mode, Slot};
+use model::layout::pages::Page;
+use model::session::Session;
+
+/// A session with settled keys in which transactions 1 to `last` have begun.
+fn settled_with_begun(keys: &[u64], last: u16) -> Session {
+    let mut session = Session::settled(keys);
+    for transaction in 1..=last {
+        session.begin(transaction);
+    }
+    session
+}
+
+/// A circle of sixteen. Each owns a key and reads the next one's; the sixteenth closes the circle
+/// and is its newest.
+#[test]
+fn a_circle_of_sixteen_is_found() {
+    let mut session = settled_with_begun(&[], 16);
+    for transaction in 1..=16u16 {
+        let done = [Answer::plain(transaction, 0)];
+        assert_eq!(session.insert(transaction, u64::from(transaction) * 10, 0), done);
+    }
+    for transaction in 1..=15u16 {
+        let next = (u64::from(transaction) + 1) * 10;
+        assert_eq!(session.read(transaction, next, next), [Answer::plain(transaction, 3)]);
+    }
+    assert_eq!(session.read(16, 10, 10), [Answer::plain(16, 19)]);
+    assert_eq!(session.tables().desk.queue, (1..=15).collect::<Vec<u16>>());
+}
+
+/// Settled 10, 20; 1 reads 20..20; 2 inserts 12: 3; 3 deletes 17: 3; 1 inserts 15: 0 to 1, then 2
+/// to 3. The run of the newest frees an older one.
+#[test]
+fn a_run_can_free_an_older_request() {
+    let mut session = settled_with_begun(&[10, 20], 3);
+    session.read(1, 20, 20);
+    assert_eq!(session.insert(2, 12, 1), [Answer::plain(2, 3)]);
+    assert_eq!(session.delete(3, 17), [Answer::plain(3, 3)]);
+    let answers = session.insert(1, 15, 1);
+    assert_eq!(answers, [Answer::plain(1, 0), Answer::plain(3, 2)]);
+    assert_eq!(session.tables().desk.queue, [2]);
+}
+
+/// A waiting insert turns from X to S when its key has appeared. 2 waits to insert 15 below 20; 1,
+/// who holds 20, inserts 15 itself and commits: 2 then finds it present.
+#[test]
+fn a_waiting_insert_finds_its_key_present() {
+    let mut session = settled_with_begun(&[20], 2);
+    session.read(1, 20, 20);
+    assert_eq!(session.insert(2, 15, 5), [Answer::plain(2, 3)]);
+    assert_eq!(session.insert(1, 15, 6), [Answer::plain(1, 0)]);
+    let answers = session.commit(1);
+    assert_eq!(answers, [Answer::plain(1, 0), Answer::showing(2, 16, Key(15), 6)]);
+    let s_on_15 = Lock { name: Key(15), holder: 2, mode: Mode::S };
+    assert_eq!(session.tables().desk.slots[0], Slot::Taken(s_on_15));
+}
+
+/// A waiting delete turns from X to S when its key has gone.
+#[test]
+fn a_waiting_delete_finds_its_key_gone() {
+    let mut session = settled_with_begun(&[10, 20], 3);
+    session.delete(1, 10);
+    assert_eq!(session.delete(2, 10), [Answer::plain(2, 3)]);
+    assert_eq!(session.read(3, 10, 10), [Answer::plain(3, 3)]);
+    let answers = session.commit(1);
+    assert_eq!(answers, [Answer::plain(1, 0), Answer::plain(2, 2), Answer::plain(3, 2)]);
+    let s_on_20 = |holder| Slot::Taken(Lock { name: Key(20), holder, mode: Mode::S });
+    assert_eq!(session.tables().desk.slots[..2], [s_on_20(2), s_on_20(3)]);
+}
+
+/// A lock on the target excuses its holder from the queue rule. 3's read of the same key, without a
+/// lock, waits behind 2's delete; 1's, with one, doesn't.
+#[test]
+fn a_lock_on_the_target_excuses_from_the_queue() {
+    let mut session = settled_with_begun(&[20], 3);
+    session.read(1, 20, 20);
+    assert_eq!(session.delete(2, 20), [Answer::plain(2, 3)]);
+    assert_eq!(session.read(3, 20, 20), [Answer::plain(3, 3)]);
+    assert_eq!(session.read(1, 20, 20), [Answer::showing(1, 1, Key(20), 20)]);
+}
+
+/// A read skips its asker's own ghost up to hi; above hi the ghost is the target.
+#[test]
+fn a_read_skips_its_own_ghosts_up_to_hi() {
+    let mut session = settled_with_begun(&[10, 20, 30], 1);
+    session.delete(1, 20);
+    let x_on_20 = Lock { name: Key(20), holder: 1, mode: Mode::X };
+    let s_on_30 = Lock { name: Key(30), holder: 1, mode: Mode::S };
+    assert_eq!(session.read(1, 11, 19), [Answer::plain(1, 2)]);
+    assert_eq!(session.tables().desk.locks().collect::<Vec<_>>(), [x_on_20]);
+    assert_eq!(session.read(1, 15, 30), [Answer::showing(1, 1, Key(30), 30)]);
+    assert_eq!(session.tables().desk.locks().collect::<Vec<_>>(), [x_on_20, s_on_30]);
+}
+
+/// Delete of an own ghost is 2 and changes nothing; insert over it is 0, keeps before, and takes no
+/// slot and no page.
+#[test]
+fn delete_and_insert_meet_their_own_ghost() {
+    let mut session = settled_with_begun(&[20], 1);
+    session.delete(1, 20);
+    let before = session.picture.clone();
+    assert_eq!(session.delete(1, 20), [Answer::plain(1, 2)]);
+    assert_eq!(session.picture, before);
+    assert_eq!(session.insert(1, 20, 9), [Answer::plain(1, 0)]);
+    let entry = Entry { key: Key(20), owner: 1, now: Some(9), before: Some(20) };
+    assert_eq!(session.tables().index.pages[&1], Page::Leaf(vec![entry]));
+    let x_on_20 = Lock { name: Key(20), holder: 1, mode: Mode::X };
+    assert_eq!(session.tables().desk.locks().collect::<Vec<_>>(), [x_on_20]);
+}
+
+/// Another's ghost is a target like any entry.
+#[test]
+fn another_ones_ghost_blocks() {
+    let mut session = settled_with_begun(&[20, 30], 2);
+    session.delete(1, 20);
+    assert_eq!(session.read(2, 15, 30), [Answer::plain(2, 3)]);
+    let answers = session.rollback(1);
+    assert_eq!(answers, [Answer::plain(1, 0), Answer::showing(2, 1, Key(20), 20)]);
+}
+
+/// With all 256 slots in use an insert of a missing key is 17 even for the holder of its target; S
+/// to X needs no slot; a blocked request waits all the same.
+#[test]
+fn seventeen_is_said_only_in_a_run_that_needs_a_slot() {
+    let mut session = settled_with_begun(&[], 3);
+    session.insert(1, 1000, 0);
+    session.commit(1);
+    session.begin(1);
+    assert_eq!(session.read(2, 1000, 1000), [Answer::showing(2, 1, Key(1000), 0)]);
+    for key in 1..=255 {
+        assert_eq!(session.insert(1, 2000 + key, 0), [Answer::plain(1, 0)]);
+    }
+    assert_eq!(session.insert(2, 900, 0), [Answer::plain(2, 17)]);
+    assert_eq!(session.read(2, 5, 5), [Answer::plain(2, 2)], "1000 is held already");
+    assert_eq!(session.delete(2, 1000), [Answer::plain(2, 0)]);
+    assert_eq!(session.read(3, 1000, 1000), [Answer::plain(3, 3)]);
+    assert_eq!(session.read(2, 2001, 2001), [Answer::plain(2, 3)]);
+}
+
+/// "In a run, 17 comes before every other number" (document 01, What the desk says): before 18, 16,
+/// 1 and 2.
+#[test]
+fn seventeen_comes_before_every_other_number() {
+    let mut session = Session::fresh();
+    for group in 0..4 {
+        session.begin(1);
+        for key in (group * 200 + 1..=group * 200 + 200).take_while(|key| *key <= 778) {
+            session.insert(1, key, 0);
+        }
+        session.commit(1);
+    }
+    session.begin(1);
+    session.begin(2);
+    for key in 1..=256 {
+        assert_eq!(session.read(1, key, key), [Answer::showing(1, 1, Key(key), 0)]);
+    }
+    assert_eq!(session.insert(2, 779, 0), [Answer::plain(2, 17)], "before 18");
+    assert_eq!(session.insert(2, 300, 0), [Answer::plain(2, 17)], "before 16");
+    assert_eq!(session.read(2, 300, 300), [Answer::plain(2, 17)], "before 1");
+    assert_eq!(session.read(2, 779, 900), [Answer::plain(2, 17)], "before 2");
+    assert_eq!(session.delete(2, 779), [Answer::plain(2, 17)], "before 2");
+    assert_eq!(session.commit(1), [Answer::plain(1, 0)]);
+    assert_eq!(session.insert(2, 779, 0), [Answer::plain(2, 18)]);
+}
+
+/// An insert of one's own present key is 16 with its record now.
+#[test]
+fn an_insert_of_ones_own_present_key_shows_its_record_now() {
+    let mut session = settled_with_begun(&[20], 1);
+    session.delete(1, 20);
+    session.insert(1, 20, 9);
+    assert_eq!(session.insert(1, 20, 5), [Answer::showing(1, 16, Key(20), 9)]);
+    let x_on_20 = Lock { name: Key(20), holder: 1, mode: Mode::X };
+    assert_eq!(session.tables().desk.locks().collect::<Vec<_>>(), [x_on_20], "not weakened");
+}
+
+/// An entry that is inserted and then deleted is absent now and before, and is taken out by commit
+/// and rollback alike.
+#[test]
+fn an_entry_absent_now_and_before_is_taken_out_at_the_end() {
+    for ends_by_commit in [true, false] {
+        let mut session = settled_with_begun(&[], 1);
+        session.insert(1, 20, 9);
+        assert_eq!(session.delete(1, 20), [Answer::plain(1, 0)]);
+        let ghost = Entry { key: Key(20), owner: 1, now: None, before: None };
+        assert_eq!(session.tables().index.pages[&1], Page::Leaf(vec![ghost]));
+        let answers = if ends_by_commit { session.commit(1) } else { session.rollback(1) };
+        assert_eq!(answers, [Answer::plain(1, 0)]);
+        assert_eq!(session.tables().index.pages[&1], Page::Leaf(vec![]));
+    }
+}
+
+/// 1 deletes 20; 2 to 15 take S on 30; 2 to 16 insert 15; 1 commits: thirteen nineteens, newest
+/// first. 16 holds nothing, so nobody waits behind it and it is on no circle.
+#[test]
+fn one_commit_gives_thirteen_nineteens() {
+    let mut session = settled_with_begun(&[10, 20, 30], 16);
+    session.delete(1, 20);
+    for transaction in 2..=15 {
+        let found = [Answer::showing(transaction, 1, Key(30), 30)];
+        assert_eq!(session.read(transaction, 30, 30), found);
+    }
+    for transaction in 2..=16 {
+        assert_eq!(session.insert(transaction, 15, 0), [Answer::plain(transaction, 3)]);
+    }
+    let mut expected = vec![Answer::plain(1, 0)];
+    expected.extend((3..=15).rev().map(|transaction| Answer::plain(transaction, 19)));
+    assert_eq!(expected.len(), 14);
+    assert_eq!(session.commit(1), expected);
+    assert_eq!(session.tables().desk.queue, [2, 16]);
+}
+
+/// A rollback that takes out an inserted entry can close a circle.
+#[test]
+fn a_rollback_can_close_a_circle() {
+    let mut session = settled_with_begun(&[10, 30, 50], 3);
+    assert_eq!(session.insert(1, 20, 0), [Answer::plain(1, 0)]);
+    session.read(2, 50, 50);
+    session.read(3, 30, 30);
+    assert_eq!(session.insert(2, 15, 0), [Answer::plain(2, 3)]);
+    assert_eq!(session.delete(3, 50), [Answer::plain(3, 3)]);
+    assert_eq!(session.rollback(1), [Answer::plain(1, 0), Answer::plain(3, 19)]);
+    assert_eq!(session.tables().desk.queue, [2]);
+}
+
+/// Settled 10, 20; 1 reads 12..18; 2 inserts 12: 3; 3 reads 16..18: 3; 1 inserts 15: 0 to 1 and 2
+/// to 3.
+#[test]
+fn a_joining_insert_can_free_others() {
+    let mut session = settled_with_begun(&[10, 20], 3);
+    assert_eq!(session.read(1, 12, 18), [Answer::plain(1, 2)]);
+    assert_eq!(session.insert(2, 12, 0), [Answer::plain(2, 3)]);
+    assert_eq!(session.read(3, 16, 18), [Answer::plain(3, 3)]);
+    let answers = session.insert(1, 15, 0);
+    assert_eq!(answers, [Answer::plain(1, 0), Answer::plain(3, 2)]);
+}
+
+/// A waiter whose target moves can be overtaken without end. 3 waits to insert 15; 1 and 2 take
+/// turns at reading 40 and inserting 20 below it.
+#[test]
+fn a_waiter_whose_target_moves_is_overtaken_again_and_again() {
+    let mut session = settled_with_begun(&[10, 40], 1);
+    session.begin(3);
+    let found = |transaction| [Answer::showing(transaction, 1, Key(40), 40)];
+    assert_eq!(session.read(1, 40, 40), found(1));
+    assert_eq!(session.insert(3, 15, 0), [Answer::plain(3, 3)]);
+    let (mut holder, mut other) = (1, 2);
+    for _ in 0..20 {
+        assert_eq!(session.insert(holder, 20, 0), [Answer::plain(holder, 0)]);
+        session.begin(other);
+        assert_eq!(session.read(other, 40, 40), found(other));
+        assert_eq!(session.rollback(holder), [Answer::plain(holder, 0)]);
+        assert_eq!(session.tables().desk.queue, [3]);
+        (holder, other) = (other, holder);
+    }
+    assert_eq!(session.rollback(holder), [Answer::plain(holder, 0), Answer::plain(3, 0)]);
+}
+
+/// Sixteen answers in one call. Fifteen wait to read the key that 1 has deleted.
+#[test]
+fn one_commit_gives_sixteen_answers() {
+    let mut session = settled_with_begun(&[10], 16);
+    session.delete(1, 10);
+    for transaction in 2..=16 {
+        assert_eq!(session.read(transaction, 10, 10), [Answer::plain(transaction, 3)]);
+    }
+    let mut expected = vec![Answer::plain(1, 0)];
+    expected.extend((2..=16).map(|transaction| Answer::plain(transaction, 2)));
+    assert_eq!(session.commit(1), expected);
+    let s_on_the_end = |holder| Slot::Taken(Lock { name: Key::END, holder, mode: Mode::S });
+    let tables = session.tables();
+    assert!(tables.desk.slots[..15].iter().copied().eq((2..=16).map(s_on_the_end)));
+    assert_eq!(tables.desk.slots[15], Slot::Free);
+}
+
+/// "Rollback of a waiting transaction drops its queued request without an answer" (document 01,
+/// Working the queue), and frees whoever waited behind it.
+#[test]
+fn rollback_drops_a_queued_request_and_frees_those_behind_it() {
+    let mut session = settled_with_begun(&[20], 3);
+    session.read(1, 20, 20);
+    assert_eq!(session.delete(2, 20), [Answer::plain(2, 3)]);
+    assert_eq!(session.read(3, 20, 20), [Answer::plain(3, 3)]);
+    let answers = session.rollback(2);
+    assert_eq!(answers, [Answer::plain(2, 0), Answer::showing(3, 1, Key(20), 20)]);
+}
