@@ -1,26 +1,31 @@
--- Laws of the answer record.
--- By the laws of records.
-use Prim.Native.Nat.{ℕ, _+_}
+-- Laws of the answer record: how the code writes it, that it touches its twenty bytes alone and is read back, and that code values fit it.
+-- By the laws of records, and by the offsets as sums of widths.
+use Prim.Native.Nat.{ℕ, _+_, _≤_, _<_}
 use mathlib.Core.Path.{_≡_}
 use mathlib.Core.List.{List, [], _∷_}
 use native.Mathlib.Omega.{arith}
-use Rattle.numbers.specs.Numbers.{putNumber, putFields}
-use Rattle.rules.specs.Runs.{paper}
+use lib.Dec.{lit<}
+use lib.ListN.{length}
+use Rattle.numbers.specs.Numbers.{putNumber, widthOf, fieldsAt, putFields, Fits}
+use Rattle.numbers.proofs.Agree.{Touches}
+use Rattle.numbers.proofs.Fields.{touches-putFields, fields-same}
+use Rattle.rules.specs.Runs as R
 use Rattle.entries.specs.declared.Paper.{Paper}
 use Rattle.entries.specs.declared.Answer.{Answer}
 use Rattle.entries.specs.Meaning.{bookSays, bookAnswer, OnPaper}
-use Rattle.entries.specs.Records.{answerFields, putAnswer}
+use Rattle.entries.specs.Records.{answerWidths, answerFields, putAnswer}
 
 -- ---- the code writes the head by four numbers, and the record by its head and two numbers
 pub head-written : (s t₁ t₂ t₃ t₄ : List ℕ) (at asker number : ℕ) → t₁ ≡ putNumber 2 s at 20 → t₂ ≡ putNumber 2 t₁ (at + 2) 7
-    → t₃ ≡ putNumber 2 t₂ (at + 4) asker → t₄ ≡ putNumber 2 t₃ (at + 6) number → t₄ ≡ putFields (2 ∷ 2 ∷ 2 ∷ 2 ∷ []) s at (20 ∷ 7 ∷ asker ∷ number ∷ [])
+    → t₃ ≡ putNumber 2 t₂ (at + 4) asker → t₄ ≡ putNumber 2 t₃ (at + 6) number
+    → t₄ ≡ putFields (2 ∷ 2 ∷ 2 ∷ 2 ∷ []) s at (20 ∷ 7 ∷ asker ∷ number ∷ [])
 unfolding putFields
 head-written s t₁ t₂ t₃ t₄ at asker number e₁ e₂ e₃ e₄ =
     let q₃ : at + 2 + 2 ≡ at + 4 = omega arith in
     let q₄ : at + 4 + 2 ≡ at + 6 = omega arith in
     rw (q₃, q₄, ← e₁, ← e₂, ← e₃) e₄
 
-pub answer-written : (s t₁ t₂ t₃ : List ℕ) (at : ℕ) (a : Answer) (p : Paper) → OnPaper (paper (bookSays (a .says))) p
+pub answer-written : (s t₁ t₂ t₃ : List ℕ) (at : ℕ) (a : Answer) (p : Paper) → OnPaper (R.paper (bookSays (a .says))) p
     → t₁ ≡ putFields (2 ∷ 2 ∷ 2 ∷ 2 ∷ []) s at (20 ∷ 7 ∷ a .asker ∷ p .number ∷ []) → t₂ ≡ putNumber 8 t₁ (at + 8) (p .key .0)
     → t₃ ≡ putNumber 4 t₂ (at + 16) (p .rec) → t₃ ≡ putAnswer s at (bookAnswer a)
 unfolding putAnswer answerFields putFields
@@ -28,3 +33,22 @@ answer-written s t₁ t₂ t₃ at a p o e₁ e₂ e₃ =
     let q₁ : at + 2 + 2 + 2 + 2 ≡ at + 8 = omega arith in
     let q₂ : at + 8 + 8 ≡ at + 16 = omega arith in
     rw (q₁, q₂, ← (o .number), ← (o .key), ← (o .rec), ← e₁, ← e₂) e₃
+
+-- ---- what is written
+pub touches-answer : (s : List ℕ) (at : ℕ) (a : R.Answer ℕ ℕ) → Touches at 20 s (putAnswer s at a)
+unfolding putAnswer widthOf
+touches-answer s at a = touches-putFields answerWidths s at (answerFields a)
+
+pub length-putAnswer : (s : List ℕ) (at : ℕ) (a : R.Answer ℕ ℕ) → length (putAnswer s at a) ≡ length s
+length-putAnswer s at a = touches-answer s at a .len
+
+pub answer-same : (s : List ℕ) (at : ℕ) (a : R.Answer ℕ ℕ) → Fits answerWidths (answerFields a) → at + 20 ≤ length s
+    → fieldsAt answerWidths (putAnswer s at a) at ≡ answerFields a
+unfolding putAnswer widthOf
+answer-same s at a f h = fields-same answerWidths s at (answerFields a) f h
+
+-- ---- an answer of the code fits its fields: its transaction and its paper are of their widths
+pub answer-fits : (a : Answer) (p : Paper) → OnPaper (R.paper (bookSays (a .says))) p → a .asker < 65536 → p .number < 65536
+    → p .key .0 < 18446744073709551616 → p .rec < 4294967296 → Fits answerWidths (answerFields (bookAnswer a))
+unfolding answerFields
+answer-fits a p o f₁ f₂ f₃ f₄ = rw (← (o .number), ← (o .key), ← (o .rec)) (lit< tt, (lit< tt, (f₁, (f₂, (f₃, (f₄, tt))))))

@@ -1,3 +1,7 @@
 pub mod Keys
+pub mod OneToOne
 pub mod Requests
+pub mod Number12
 pub mod Answers
+pub mod Written
+pub mod FirstCase

@@ -1,7 +1,7 @@
 -- What each way through the reading of a request comes to, in the very facts that the code has there.
 -- A record that is not misshapen has the length of its kind; and where the kind is known, the form is, and its fields are computed.
-use Prim.Native.Nat.{ℕ, zero, suc, _+_, _≤_, _<_}
-use mathlib.Core.Path.{_≡_, refl, sym, ap, ap₂, subst, _∙_}
+use Prim.Native.Nat.{ℕ, zero, suc, _≤_, _<_}
+use mathlib.Core.Path.{_≡_, refl, sym, ap, ap₂, _∙_}
 use mathlib.Core.Bool.{Bool, true, false, cond, not, _&&_, _||_, or-true, or-false, true≢false, false≢true}
 use mathlib.Core.List.{List, [], _∷_}
 use mathlib.Core.Option.{none, some}
@@ -9,7 +9,7 @@ use native.Mathlib.Omega.{arith}
 use lib.Dec.{eqb, leb, ltb}
 use lib.ListN.{length, getD, List·getD-map}
 use borrow.Author.Tests.{lt-ltb, le-ltb, ltb-false, eqb-true, leb-true, not-false}
-use Rattle.lists.proofs.Tests.{and-left, and-right}
+use Rattle.lists.proofs.Tests.{and-right}
 use Rattle.numbers.specs.Numbers.{numberAt, widthOf, fieldsAt}
 use Rattle.rules.specs.Kinds as K
 use Rattle.rules.specs.Desk.{legalAsk, legalCall, isTransaction, legalRequest}
@@ -21,14 +21,14 @@ use Rattle.entries.specs.declared.Request.{Request}
 use Rattle.entries.specs.declared.Request.the-variants.{Asks}
 use Rattle.entries.specs.declared.Call.{Call}
 use Rattle.entries.specs.Meaning.{bookAsk, bookRequest, bookCall}
-use Rattle.entries.specs.Records.{forms, formOf, kindIn, fieldsIn, requests, callIn, short, unlikeSlice, unlikeKind, unknownKind, filled, illegal, misshapen, Shaped, isBad, heard}
+use Rattle.entries.specs.Records.{forms, formOf, kindIn, requests, callIn, short, unlikeSlice, unlikeKind, unknownKind, filled, misshapen, Shaped, isBad, heard}
 
 -- ---- neither of two tests passes where their disjunction fails
-neither-left : (a b : Bool) → (a || b) ≡ false → a ≡ false
+pub neither-left : (a b : Bool) → (a || b) ≡ false → a ≡ false
 neither-left true b e = e
 neither-left false b e = refl
 
-neither-right : (a b : Bool) → (a || b) ≡ false → b ≡ false
+pub neither-right : (a b : Bool) → (a || b) ≡ false → b ≡ false
 neither-right true b e = absurd (true≢false e)
 neither-right false b e = e
 
@@ -93,11 +93,11 @@ room n s k h e f =
     let q : widthOf (formOf n) ≡ widthOf (formOf (kindIn s)) = ap (λ x. widthOf (formOf x)) (sym f ∙ e) in
     omega arith
 
-known : (s : List ℕ) → Shaped s → (leb 1 (kindIn s) && leb (kindIn s) 6) ≡ true
+pub known : (s : List ℕ) → Shaped s → (leb 1 (kindIn s) && leb (kindIn s) 6) ≡ true
 known s h = not-false (leb 1 (kindIn s) && leb (kindIn s) 6) (neither-right ((short s || unlikeSlice s) || unlikeKind s) (unknownKind s) (h .shape))
 
 -- what holds of each kind that there is holds of a shaped record's
-each-kind : (P : ℕ → Type 0) → P 1 → P 2 → P 3 → P 4 → P 5 → P 6 → (k : ℕ) → (leb 1 k && leb k 6) ≡ true → P k
+pub each-kind : (P : ℕ → Type 0) → P 1 → P 2 → P 3 → P 4 → P 5 → P 6 → (k : ℕ) → (leb 1 k && leb k 6) ≡ true → P k
 each-kind P p q r t u v zero h = absurd (false≢true h)
 each-kind P p q r t u v (suc zero) h = p
 each-kind P p q r t u v (suc (suc zero)) h = q
@@ -126,9 +126,11 @@ filled-other s k x h e f p =
     b : Bool
     b = not (eqb (numberAt 2 s 6) 0)
 
--- ---- what is asked
-pub asked : (n : ℕ) (s : List ℕ) (k : ℕ) → k ≡ kindIn s → k ≡ n
-    → getD (requests (getD (fieldsAt (formOf n) s 0) 4 0) (getD (fieldsAt (formOf n) s 0) 5 0)) n K.begin ≡ callIn s .request
+-- ---- what is asked by a record of kind n
+abbrev pub requestBy : ℕ → List ℕ → K.Request ℕ ℕ
+requestBy n s = getD (requests (getD (fieldsAt (formOf n) s 0) 4 0) (getD (fieldsAt (formOf n) s 0) 5 0)) n K.begin
+
+pub asked : (n : ℕ) (s : List ℕ) (k : ℕ) → k ≡ kindIn s → k ≡ n → requestBy n s ≡ callIn s .request
 unfolding callIn
 asked n s k e f = rw (sym f ∙ e)
 

@@ -7,8 +7,8 @@ use mathlib.Core.Option.{Option, none, some}
 use lib.Dec.{eqb, leb, ltb}
 use lib.ListN.{length, getD}
 use Rattle.numbers.specs.Numbers.{numberAt, widthOf, fieldsAt, putFields}
-use Rattle.rules.specs.Kinds.{Ask, read, insert, delete, Request, begin, commit, rollback, ask, Call}
-use Rattle.rules.specs.Runs.{Says, Paper, paper, Answer}
+use Rattle.rules.specs.Kinds.{read, insert, delete, Request, begin, commit, rollback, ask, Call}
+use Rattle.rules.specs.Runs.{paper, Answer}
 use Rattle.rules.specs.Desk.{legalCall}
 use Rattle.rules.specs.Document.{document, endless}
 
