@@ -2,7 +2,7 @@
 -- By the laws of records, and by the offsets as sums of widths.
 use Prim.Native.Nat.{ℕ, _+_, _≤_, _<_}
 use mathlib.Core.Path.{_≡_}
-use mathlib.Core.List.{List, [], _∷_}
+use mathlib.Core.List.{List}
 use native.Mathlib.Omega.{arith}
 use lib.Dec.{lit<}
 use lib.ListN.{length}
@@ -15,24 +15,17 @@ use Rattle.entries.specs.declared.Answer.{Answer}
 use Rattle.entries.specs.Meaning.{bookSays, bookAnswer, OnPaper}
 use Rattle.entries.specs.Records.{answerWidths, answerFields, putAnswer}
 
--- ---- the code writes the head by four numbers, and the record by its head and two numbers
-pub head-written : (s t₁ t₂ t₃ t₄ : List ℕ) (at asker number : ℕ) → t₁ ≡ putNumber 2 s at 20 → t₂ ≡ putNumber 2 t₁ (at + 2) 7
-    → t₃ ≡ putNumber 2 t₂ (at + 4) asker → t₄ ≡ putNumber 2 t₃ (at + 6) number
-    → t₄ ≡ putFields (2 ∷ 2 ∷ 2 ∷ 2 ∷ []) s at (20 ∷ 7 ∷ asker ∷ number ∷ [])
-unfolding putFields
-head-written s t₁ t₂ t₃ t₄ at asker number e₁ e₂ e₃ e₄ =
+-- ---- six numbers written one after the other are the record
+pub answer-written : (s t₁ t₂ t₃ t₄ t₅ t₆ : List ℕ) (at : ℕ) (a : Answer) (p : Paper) → OnPaper (R.paper (bookSays (a .says))) p
+    → t₁ ≡ putNumber 2 s at 20 → t₂ ≡ putNumber 2 t₁ (at + 2) 7 → t₃ ≡ putNumber 2 t₂ (at + 4) (a .asker) → t₄ ≡ putNumber 2 t₃ (at + 6) (p .number)
+    → t₅ ≡ putNumber 8 t₄ (at + 8) (p .key .0) → t₆ ≡ putNumber 4 t₅ (at + 16) (p .rec) → t₆ ≡ putAnswer s at (bookAnswer a)
+unfolding putAnswer answerFields putFields
+answer-written s t₁ t₂ t₃ t₄ t₅ t₆ at a p o e₁ e₂ e₃ e₄ e₅ e₆ =
     let q₃ : at + 2 + 2 ≡ at + 4 = omega arith in
     let q₄ : at + 4 + 2 ≡ at + 6 = omega arith in
-    rw (q₃, q₄, ← e₁, ← e₂, ← e₃) e₄
-
-pub answer-written : (s t₁ t₂ t₃ : List ℕ) (at : ℕ) (a : Answer) (p : Paper) → OnPaper (R.paper (bookSays (a .says))) p
-    → t₁ ≡ putFields (2 ∷ 2 ∷ 2 ∷ 2 ∷ []) s at (20 ∷ 7 ∷ a .asker ∷ p .number ∷ []) → t₂ ≡ putNumber 8 t₁ (at + 8) (p .key .0)
-    → t₃ ≡ putNumber 4 t₂ (at + 16) (p .rec) → t₃ ≡ putAnswer s at (bookAnswer a)
-unfolding putAnswer answerFields putFields
-answer-written s t₁ t₂ t₃ at a p o e₁ e₂ e₃ =
-    let q₁ : at + 2 + 2 + 2 + 2 ≡ at + 8 = omega arith in
-    let q₂ : at + 8 + 8 ≡ at + 16 = omega arith in
-    rw (q₁, q₂, ← (o .number), ← (o .key), ← (o .rec), ← e₁, ← e₂) e₃
+    let q₅ : at + 6 + 2 ≡ at + 8 = omega arith in
+    let q₆ : at + 8 + 8 ≡ at + 16 = omega arith in
+    rw (q₃, q₄, q₅, q₆, ← (o .number), ← (o .key), ← (o .rec), ← e₁, ← e₂, ← e₃, ← e₄, ← e₅) e₆
 
 -- ---- what is written
 pub touches-answer : (s : List ℕ) (at : ℕ) (a : R.Answer ℕ ℕ) → Touches at 20 s (putAnswer s at a)

@@ -2,10 +2,9 @@
 // (Document 01, "Keys and entries", "What the desk says", "Records and pages".)
 ghost use mathlib.Core.Path.{_≡_};
 ghost use mathlib.Core.Bool.{true, false};
-ghost use mathlib.Core.List.{[], _∷_};
 ghost use Prim.Native.Nat.{_+_, _<_, _≤_};
 ghost use lib.Dec.{leb, eqb, ltb};
-ghost use Rattle.numbers.specs.Numbers.{numberAt, putFields};
+ghost use Rattle.numbers.specs.Numbers.{numberAt};
 ghost use Rattle.rules.specs.Kinds.{read, insert, delete};
 ghost use Rattle.rules.specs.Entries.{isThere, committed, rolledBack, deleted, revived, inserted, ghost};
 ghost use Rattle.rules.specs.Desk.{isTransaction, legalAsk, legalRequest, legalCall};
@@ -24,7 +23,7 @@ impl Key {
 
     pub const END: Key = Key(18446744073709551615);
 
-    // The marks are those of the rule book: every key lies from the lowest to the highest, and the end comes next.
+    // The marks, with their places in the rule book: keys lie from the lowest to the highest, and the end comes next.
     pub fn lowest() -> Key
         ensures { λ r. ⌜ r .0 ≡ 0 ⌝ }
     {
@@ -57,12 +56,14 @@ impl Key {
         self.0 == Self::END.0
     }
 
+    // Whether it is not above another.
     pub fn at_most(self, other: Key) -> bool
         ensures { λ r. ⌜ r ≡ leb (self .0) (other .0) ⌝ }
     {
         self.0 <= other.0
     }
 
+    // Whether it is the same as another.
     pub fn same(self, other: Key) -> bool
         ensures { λ r. ⌜ r ≡ eqb (self .0) (other .0) ⌝ }
     {
@@ -77,6 +78,7 @@ pub enum Value {
 }
 
 impl Value {
+    // Whether there is a record.
     pub fn is_present(self) -> bool
         ensures { λ r. ⌜ r ≡ isThere (bookValue self) ⌝ }
     {
@@ -165,12 +167,12 @@ impl Entry {
         ensures { λ r. ⌜ bookEntry r ≡ rolledBack (bookEntry self) ⌝ }
     {
         let key = self.key;
-        let before = self.before;
+        let was = self.before;
         Entry {
             key: key,
             owner: 0,
-            now: before,
-            before: before,
+            now: was,
+            before: was,
         }
     }
 
@@ -186,9 +188,10 @@ impl Entry {
     }
 }
 
-// Transactions are numbered from 1.
+// Transactions are numbered from 1 to this.
 pub const TRANSACTIONS: u16 = 16;
 
+// Whether a transaction has this number.
 pub fn is_transaction(t: u16) -> bool
     ensures { λ r. ⌜ r ≡ isTransaction (document endless) t ⌝ }
 {
@@ -203,6 +206,13 @@ pub enum Ask {
 }
 
 impl Ask {
+    // The kinds of their records.
+    pub const READ: u16 = 4;
+
+    pub const INSERT: u16 = 5;
+
+    pub const DELETE: u16 = 6;
+
     // Whether its keys are keys, and lo is not above hi.
     pub fn is_legal(self) -> bool
         ensures { λ r. ⌜ r ≡ legalAsk (document endless) (bookAsk self) ⌝ }
@@ -215,6 +225,7 @@ impl Ask {
     }
 }
 
+// What a transaction can ask for.
 pub enum Request {
     Begin,
     Commit,
@@ -223,6 +234,14 @@ pub enum Request {
 }
 
 impl Request {
+    // The kinds of their records; a request that joins the queue has its ask's.
+    pub const BEGIN: u16 = 1;
+
+    pub const COMMIT: u16 = 2;
+
+    pub const ROLLBACK: u16 = 3;
+
+    // Whether what joins the queue is legal; the others always are.
     pub fn is_legal(self) -> bool
         ensures { λ r. ⌜ r ≡ legalRequest (document endless) (bookRequest self) ⌝ }
     {
@@ -282,12 +301,13 @@ fn is_filled(s: &[u8]) -> bool
 {
     let filler = numbers::read_u16(s, 6);
     let kind = numbers::read_u16(s, 2);
-    if kind == 5 {
+    if kind == Ask::INSERT {
         return (filler != 0) | (numbers::read_u32(s, 20) != 0);
     }
     filler != 0
 }
 
+// The bounds of a read.
 fn read_in(s: &[u8]) -> Ask
     requires { do ⌜ 24 ≤ (← ⟦s.len()⟧) ⌝ }
     ensures { λ r. ⌜ bookAsk r ≡ read (numberAt 8 (now (s .entry)) 8) (numberAt 8 (now (s .entry)) 16) ⌝ }
@@ -295,6 +315,7 @@ fn read_in(s: &[u8]) -> Ask
     Ask::Read(Key(numbers::read_u64(s, 8)), Key(numbers::read_u64(s, 16)))
 }
 
+// The key and record of an insert.
 fn insert_in(s: &[u8]) -> Ask
     requires { do ⌜ 24 ≤ (← ⟦s.len()⟧) ⌝ }
     ensures { λ r. ⌜ bookAsk r ≡ insert (numberAt 8 (now (s .entry)) 8) (numberAt 4 (now (s .entry)) 16) ⌝ }
@@ -302,6 +323,7 @@ fn insert_in(s: &[u8]) -> Ask
     Ask::Insert(Key(numbers::read_u64(s, 8)), numbers::read_u32(s, 16))
 }
 
+// The key of a delete.
 fn delete_in(s: &[u8]) -> Ask
     requires { do ⌜ 16 ≤ (← ⟦s.len()⟧) ⌝ }
     ensures { λ r. ⌜ bookAsk r ≡ delete (numberAt 8 (now (s .entry)) 8) ⌝ }
@@ -316,11 +338,11 @@ fn request_in(s: &[u8]) -> Request
 {
     let kind = numbers::read_u16(s, 2);
     match kind {
-        1 => Request::Begin,
-        2 => Request::Commit,
-        3 => Request::Rollback,
-        4 => Request::Asks(read_in(s)),
-        5 => Request::Asks(insert_in(s)),
+        Request::BEGIN => Request::Begin,
+        Request::COMMIT => Request::Commit,
+        Request::ROLLBACK => Request::Rollback,
+        Ask::READ => Request::Asks(read_in(s)),
+        Ask::INSERT => Request::Asks(insert_in(s)),
         _ => Request::Asks(delete_in(s)),
     }
 }
@@ -412,20 +434,10 @@ impl Says {
     }
 }
 
+// What the desk says, and to whom.
 pub struct Answer {
     pub asker: u16,
     pub says: Says,
-}
-
-// Writes the first eight bytes of an answer record at a place: length, kind, transaction and number.
-fn put_head(out: &mut [u8], at: usize, asker: u16, number: u16)
-    requires { do ⌜ at + 8 ≤ (← ⟦out.len()⟧) ⌝ }
-    ensures { λ _. ⌜ now (out .exit) ≡ putFields (2 ∷ 2 ∷ 2 ∷ 2 ∷ []) (now (out .entry)) at (20 ∷ 7 ∷ asker ∷ number ∷ []) ⌝ }
-{
-    numbers::write_u16(out, at, 20);
-    numbers::write_u16(out, at + 2, 7);
-    numbers::write_u16(out, at + 4, asker);
-    numbers::write_u16(out, at + 6, number);
 }
 
 // Writes an answer record at a place, and nothing else.
@@ -435,7 +447,10 @@ pub fn put_answer(out: &mut [u8], at: usize, a: Answer)
 {
     let says = a.says;
     let p = says.paper();
-    put_head(out, at, a.asker, p.number);
+    numbers::write_u16(out, at, 20);
+    numbers::write_u16(out, at + 2, 7);
+    numbers::write_u16(out, at + 4, a.asker);
+    numbers::write_u16(out, at + 6, p.number);
     numbers::write_u64(out, at + 8, p.key.0);
     numbers::write_u32(out, at + 16, p.rec);
 }
