@@ -3,11 +3,11 @@
 use Prim.Native.Nat.{ℕ, _≤_, _<_}
 use mathlib.Core.Path.{_≡_, refl, sym, ap, subst, _∙_}
 use mathlib.Core.Logic.{_⊎_, inl, inr, ⊎-elim}
-use mathlib.Core.Bool.{Bool, true, false, _&&_, _||_}
+use mathlib.Core.Bool.{Bool, true, false, not, _&&_, _||_, and-false}
 use mathlib.Core.List.{List}
 use mathlib.Core.Option.{none, some, Option·none-ne-some, Option·some-injective}
 use lib.Dec.{leb, ltb}
-use borrow.Author.Tests.{ltb-true, leb-true, not-false}
+use borrow.Author.Tests.{ltb-true, leb-true, lt-leb, not-false}
 use Rattle.lists.proofs.Elements.{both, either, or-left, or-right}
 use Rattle.numbers.specs.Numbers.{numberAt, fieldsAt, Bytes}
 use Rattle.numbers.proofs.Numbers.{number-below}
@@ -15,7 +15,8 @@ use Rattle.rules.specs.Kinds.{Paging, Ask, read, insert, delete, Request, begin
 use Rattle.rules.specs.Desk.{isTransaction, legalAsk, legalRequest, legalCall}
 use Rattle.rules.specs.Document.{document, endless, endMark}
 use Rattle.entries.specs.Records.{forms, requests, kindIn, callIn, short, unlikeSlice, unlikeKind, unknownKind, misshapen, filled, illegal, isBad, heard}
-use Rattle.entries.proofs.Requests.{neither-left, neither-right, shaped, known, each-kind, requestBy, asked}
+use Rattle.entries.proofs.Legal.{legal-any}
+use Rattle.entries.proofs.Requests.{neither, shaped, each-kind, requestBy, asked}
 
 module _ (s : List ℕ) where
   -- ---- 12 where the record is bad, and at no other time
@@ -34,8 +35,8 @@ module _ (s : List ℕ) where
       go true p = p
       go false p = absurd (Option·none-ne-some (callIn s) (sym e ∙ good-heard p))
 
-  pub heard-good : (c : Call ℕ ℕ) → heard s ≡ some c → (isBad s ≡ false) × (callIn s ≡ c)
-  heard-good c e = go (isBad s) refl
+  pub heard-is : (c : Call ℕ ℕ) → heard s ≡ some c → (isBad s ≡ false) × (callIn s ≡ c)
+  heard-is c e = go (isBad s) refl
     where
       go : (b : Bool) → isBad s ≡ b → (isBad s ≡ false) × (callIn s ≡ c)
       go true p = absurd (Option·none-ne-some c (sym (bad-unheard p) ∙ e))
@@ -71,6 +72,36 @@ module _ (s : List ℕ) where
   unfolding isBad
   illegal-bad e = or-right (misshapen s || filled s) (illegal s) e
 
+  -- what makes a request illegal: "a transaction outside 1..16, the end as key, lo or hi, or lo above hi"
+  pub outside-illegal : isTransaction (document endless) (numberAt 2 s 4) ≡ false → illegal s ≡ true
+  unfolding callIn
+  outside-illegal e = rw e
+
+  by-kind : (n : ℕ) → kindIn s ≡ n → legalRequest (document endless) (requestBy n s) ≡ false → illegal s ≡ true
+  by-kind n k e =
+      let t = isTransaction (document endless) (callIn s .asker) in
+      ap (λ b. not (t && b)) (ap (legalRequest (document endless)) (sym (asked n s (kindIn s) refl k)) ∙ e) ∙ ap not (and-false t)
+
+  pub end-lo-illegal : kindIn s ≡ 4 → numberAt 8 s 8 ≡ endMark → illegal s ≡ true
+  unfolding legalRequest legalAsk requests forms fieldsAt
+  end-lo-illegal k e = by-kind 4 k (rw e)
+
+  pub end-hi-illegal : kindIn s ≡ 4 → numberAt 8 s 16 ≡ endMark → illegal s ≡ true
+  unfolding legalRequest legalAsk requests forms fieldsAt
+  end-hi-illegal k e = by-kind 4 k (rw (e, and-false))
+
+  pub lo-above-hi-illegal : kindIn s ≡ 4 → numberAt 8 s 16 < numberAt 8 s 8 → illegal s ≡ true
+  unfolding legalRequest legalAsk requests forms fieldsAt
+  lo-above-hi-illegal k h = by-kind 4 k (rw (lt-leb (numberAt 8 s 8) (numberAt 8 s 16) h, and-false))
+
+  pub end-insert-illegal : kindIn s ≡ 5 → numberAt 8 s 8 ≡ endMark → illegal s ≡ true
+  unfolding legalRequest legalAsk requests forms fieldsAt
+  end-insert-illegal k e = by-kind 5 k (rw e)
+
+  pub end-delete-illegal : kindIn s ≡ 6 → numberAt 8 s 8 ≡ endMark → illegal s ≡ true
+  unfolding legalRequest legalAsk requests forms fieldsAt
+  end-delete-illegal k e = by-kind 6 k (rw e)
+
   pub bad-cause : isBad s ≡ true
       → (((((short s ≡ true) ⊎ (unlikeSlice s ≡ true)) ⊎ (unlikeKind s ≡ true)) ⊎ (unknownKind s ≡ true)) ⊎ (filled s ≡ true)) ⊎ (illegal s ≡ true)
   unfolding isBad
@@ -83,26 +114,14 @@ module _ (s : List ℕ) where
       first a b f h = ⊎-elim (λ p. inl (f p)) (λ p. inr p) (either a b h)
 
 -- ---- what is heard is legal, whatever the pages say
-legal-request-any : (P : Paging ℕ) (r : Request ℕ ℕ) → legalRequest (document P) r ≡ legalRequest (document endless) r
-unfolding legalRequest legalAsk
-legal-request-any P begin = refl
-legal-request-any P commit = refl
-legal-request-any P rollback = refl
-legal-request-any P (ask (read lo hi)) = refl
-legal-request-any P (ask (insert k r)) = refl
-legal-request-any P (ask (delete k)) = refl
-
-pub legal-any : (P : Paging ℕ) (c : Call ℕ ℕ) → legalCall (document P) c ≡ legalCall (document endless) c
-legal-any P c = ap (λ b. isTransaction (document endless) (c .asker) && b) (legal-request-any P (c .request))
-
 good-legal : (s : List ℕ) → isBad s ≡ false → legalCall (document endless) (callIn s) ≡ true
 unfolding isBad
-good-legal s e = not-false (legalCall (document endless) (callIn s)) (neither-right (misshapen s || filled s) (illegal s) e)
+good-legal s e = not-false (legalCall (document endless) (callIn s)) (neither (misshapen s || filled s) (illegal s) e .1)
 
 pub heard-legal : (P : Paging ℕ) (s : List ℕ) (c : Call ℕ ℕ) → heard s ≡ some c → legalCall (document P) c ≡ true
 heard-legal P s c e =
-    let h = heard-good s c e in
-    legal-any P c ∙ subst (λ x. legalCall (document endless) x ≡ true) (h .1) (good-legal s (h .0))
+    let h = heard-is s c e in
+    legal-any P (c .asker) (c .request) ∙ subst (λ x. legalCall (document endless) x ≡ true) (h .1) (good-legal s (h .0))
 
 -- ---- what is heard of bytes fits the fields that will hold it
 abbrev pub AskFits : Ask ℕ ℕ → Type 0
@@ -141,13 +160,13 @@ unfolding isBad
 good-fits s f e =
     let l = both (isTransaction (document endless) (callIn s .asker)) (legalRequest (document endless) (callIn s .request)) (good-legal s e) in
     let t = both (leb 1 (callIn s .asker)) (leb (callIn s .asker) 16) (l .0) in
-    let h = shaped s (misshapen s) refl (neither-left (misshapen s) (filled s) (neither-left (misshapen s || filled s) (illegal s) e)) in
+    let h = shaped s (misshapen s) refl (neither (misshapen s) (filled s) (neither (misshapen s || filled s) (illegal s) e .0) .0) in
     let q = asked (kindIn s) s (kindIn s) refl refl in
     record {
       low = leb-true 1 (callIn s .asker) (t .0);
       high = leb-true (callIn s .asker) 16 (t .1);
-      request = subst RequestFits q (request-fits s f (kindIn s) (known s h) (ap (legalRequest (document endless)) q ∙ l .1));
+      request = subst RequestFits q (request-fits s f (kindIn s) (h .known) (ap (legalRequest (document endless)) q ∙ l .1));
     }
 
 pub heard-fits : (s : List ℕ) (c : Call ℕ ℕ) → Bytes s → heard s ≡ some c → CallFits c
-heard-fits s c f e = let h = heard-good s c e in subst CallFits (h .1) (good-fits s f (h .0))
+heard-fits s c f e = let h = heard-is s c e in subst CallFits (h .1) (good-fits s f (h .0))

@@ -1,58 +1,29 @@
 -- What each way through the reading of a request comes to, in the very facts that the code has there.
 -- A record that is not misshapen has the length of its kind; and where the kind is known, the form is, and its fields are computed.
 use Prim.Native.Nat.{ℕ, zero, suc, _≤_, _<_}
-use mathlib.Core.Path.{_≡_, refl, sym, ap, ap₂, _∙_}
+use mathlib.Core.Path.{_≡_, refl, sym, ap, _∙_}
 use mathlib.Core.Bool.{Bool, true, false, cond, not, _&&_, _||_, or-true, or-false, true≢false, false≢true}
 use mathlib.Core.List.{List, [], _∷_}
 use mathlib.Core.Option.{none, some}
 use native.Mathlib.Omega.{arith}
-use lib.Dec.{eqb, leb, ltb}
+use lib.Dec.{eqb, leb}
 use lib.ListN.{length, getD, List·getD-map}
 use borrow.Author.Tests.{lt-ltb, le-ltb, ltb-false, eqb-true, leb-true, not-false}
 use Rattle.lists.proofs.Tests.{and-right}
 use Rattle.numbers.specs.Numbers.{numberAt, widthOf, fieldsAt}
 use Rattle.rules.specs.Kinds as K
-use Rattle.rules.specs.Desk.{legalAsk, legalCall, isTransaction, legalRequest}
-use Rattle.rules.specs.Document.{document, endless, endMark}
-use Rattle.entries.specs.declared.Key.{Key}
+use Rattle.rules.specs.Desk.{legalCall}
+use Rattle.rules.specs.Document.{document, endless}
 use Rattle.entries.specs.declared.Ask.{Ask}
-use Rattle.entries.specs.declared.Ask.the-variants.{Read, Insert, Delete}
 use Rattle.entries.specs.declared.Request.{Request}
-use Rattle.entries.specs.declared.Request.the-variants.{Asks}
 use Rattle.entries.specs.declared.Call.{Call}
 use Rattle.entries.specs.Meaning.{bookAsk, bookRequest, bookCall}
 use Rattle.entries.specs.Records.{forms, formOf, kindIn, requests, callIn, short, unlikeSlice, unlikeKind, unknownKind, filled, misshapen, Shaped, isBad, heard}
 
--- ---- neither of two tests passes where their disjunction fails
-pub neither-left : (a b : Bool) → (a || b) ≡ false → a ≡ false
-neither-left true b e = e
-neither-left false b e = refl
-
-pub neither-right : (a b : Bool) → (a || b) ≡ false → b ≡ false
-neither-right true b e = absurd (true≢false e)
-neither-right false b e = e
-
--- ---- a legal request
-pub legal-read : (a : Ask) (lo hi : Key) (x y z : Bool) → a ≡ Read lo hi → x ≡ ltb (lo .0) endMark → y ≡ ltb (hi .0) endMark → z ≡ leb (lo .0) (hi .0)
-    → ((x && y) && z) ≡ legalAsk (document endless) (bookAsk a)
-unfolding legalAsk
-legal-read a lo hi x y z e p q r = rw (e, p, q, r)
-
-pub legal-insert : (a : Ask) (k : Key) (v : ℕ) (x : Bool) → a ≡ Insert k v → x ≡ ltb (k .0) endMark → x ≡ legalAsk (document endless) (bookAsk a)
-unfolding legalAsk
-legal-insert a k v x e p = rw e p
-
-pub legal-delete : (a : Ask) (k : Key) (x : Bool) → a ≡ Delete k → x ≡ ltb (k .0) endMark → x ≡ legalAsk (document endless) (bookAsk a)
-unfolding legalAsk
-legal-delete a k x e p = rw e p
-
-pub legal-ask : (r : Request) (a : Ask) (x : Bool) → r ≡ Asks a → x ≡ legalAsk (document endless) (bookAsk a) → x ≡ legalRequest (document endless) (bookRequest r)
-unfolding legalRequest
-legal-ask r a x e p = rw e p
-
-pub legal-call : (c : Call) (x y : Bool) → x ≡ isTransaction (document endless) (c .asker) → y ≡ legalRequest (document endless) (bookRequest (c .request))
-    → (x && y) ≡ legalCall (document endless) (bookCall c)
-legal-call c x y p q = ap₂ (λ a b. a && b) p q
+-- neither of two tests passes where their disjunction fails
+pub neither : (a b : Bool) → (a || b) ≡ false → (a ≡ false) × (b ≡ false)
+neither true b e = absurd (true≢false e)
+neither false b e = (refl, e)
 
 -- ---- a misshapen record
 by-kind : (k : ℕ) → getD (0 ∷ 8 ∷ 8 ∷ 8 ∷ 24 ∷ 24 ∷ 16 ∷ []) k 0 ≡ widthOf (formOf k)
@@ -80,21 +51,23 @@ misshapen-length s k n l e h q =
 -- ---- a record of a kind that there is
 pub shaped : (s : List ℕ) (b : Bool) → b ≡ misshapen s → b ≡ false → Shaped s
 shaped s b e f =
-    let g : misshapen s ≡ false = sym e ∙ f in
-    record { shape = g; head = ltb-false (length s) 8 (neither-left (short s) (unlikeSlice s) (neither-left (short s || unlikeSlice s) (unlikeKind s) (neither-left ((short s || unlikeSlice s) || unlikeKind s) (unknownKind s) g))) }
+    let all = neither ((short s || unlikeSlice s) || unlikeKind s) (unknownKind s) (sym e ∙ f) in
+    let three = neither (short s || unlikeSlice s) (unlikeKind s) (all .0) in
+    let two = neither (short s) (unlikeSlice s) (three .0) in
+    record {
+      head = ltb-false (length s) 8 (two .0);
+      slice = same (numberAt 2 s 0) (length s) (two .1);
+      kind = same (numberAt 2 s 0) (widthOf (formOf (kindIn s))) (three .1);
+      known = not-false (leb 1 (kindIn s) && leb (kindIn s) 6) (all .1);
+    }
+  where
+    same : (m n : ℕ) → not (eqb m n) ≡ false → m ≡ n
+    same m n h = eqb-true m n (not-false (eqb m n) h)
 
 pub room : (n : ℕ) (s : List ℕ) (k : ℕ) → Shaped s → k ≡ kindIn s → k ≡ n → widthOf (formOf n) ≤ length s
 room n s k h e f =
-    let g = neither-left ((short s || unlikeSlice s) || unlikeKind s) (unknownKind s) (h .shape) in
-    let a : numberAt 2 s 0 ≡ widthOf (formOf (kindIn s)) =
-    eqb-true (numberAt 2 s 0) (widthOf (formOf (kindIn s))) (not-false (eqb (numberAt 2 s 0) (widthOf (formOf (kindIn s)))) (neither-right (short s || unlikeSlice s) (unlikeKind s) g)) in
-    let b : numberAt 2 s 0 ≡ length s =
-    eqb-true (numberAt 2 s 0) (length s) (not-false (eqb (numberAt 2 s 0) (length s)) (neither-right (short s) (unlikeSlice s) (neither-left (short s || unlikeSlice s) (unlikeKind s) g))) in
     let q : widthOf (formOf n) ≡ widthOf (formOf (kindIn s)) = ap (λ x. widthOf (formOf x)) (sym f ∙ e) in
-    omega arith
-
-pub known : (s : List ℕ) → Shaped s → (leb 1 (kindIn s) && leb (kindIn s) 6) ≡ true
-known s h = not-false (leb 1 (kindIn s) && leb (kindIn s) 6) (neither-right ((short s || unlikeSlice s) || unlikeKind s) (unknownKind s) (h .shape))
+    omega (arith, h .slice, h .kind)
 
 -- what holds of each kind that there is holds of a shaped record's
 pub each-kind : (P : ℕ → Type 0) → P 1 → P 2 → P 3 → P 4 → P 5 → P 6 → (k : ℕ) → (leb 1 k && leb k 6) ≡ true → P k
@@ -121,7 +94,7 @@ unfolding forms fieldsAt
 filled-other s k x h e f p =
     rw p
     (each-kind (λ n. (n ≡ 5 → ⊥) → not (eqb (numberAt 2 s 6) 0) ≡ (not (eqb (getD (fieldsAt (formOf n) s 0) 3 0) 0) || not (eqb (getD (fieldsAt (formOf n) s 0) 6 0) 0)))
-    (λ g. sym (or-false b)) (λ g. sym (or-false b)) (λ g. sym (or-false b)) (λ g. sym (or-false b)) (λ g. absurd (g refl)) (λ g. sym (or-false b)) (kindIn s) (known s h) (λ g. f (e ∙ g)))
+    (λ g. sym (or-false b)) (λ g. sym (or-false b)) (λ g. sym (or-false b)) (λ g. sym (or-false b)) (λ g. absurd (g refl)) (λ g. sym (or-false b)) (kindIn s) (h .known) (λ g. f (e ∙ g)))
   where
     b : Bool
     b = not (eqb (numberAt 2 s 6) 0)
@@ -146,7 +119,7 @@ asked-insert s k a e f p = ap K.ask p ∙ asked 5 s k e f
 
 last-kind : (s : List ℕ) (k : ℕ) → Shaped s → k ≡ kindIn s → (k ≡ 1 → ⊥) → (k ≡ 2 → ⊥) → (k ≡ 3 → ⊥) → (k ≡ 4 → ⊥) → (k ≡ 5 → ⊥) → k ≡ 6
 last-kind s k h e f₁ f₂ f₃ f₄ f₅ =
-    each-kind (λ n. k ≡ n → k ≡ 6) (λ q. absurd (f₁ q)) (λ q. absurd (f₂ q)) (λ q. absurd (f₃ q)) (λ q. absurd (f₄ q)) (λ q. absurd (f₅ q)) (λ q. q) (kindIn s) (known s h) e
+    each-kind (λ n. k ≡ n → k ≡ 6) (λ q. absurd (f₁ q)) (λ q. absurd (f₂ q)) (λ q. absurd (f₃ q)) (λ q. absurd (f₄ q)) (λ q. absurd (f₅ q)) (λ q. q) (kindIn s) (h .known) e
 
 pub room-delete : (s : List ℕ) (k : ℕ) → Shaped s → k ≡ kindIn s → (k ≡ 1 → ⊥) → (k ≡ 2 → ⊥) → (k ≡ 3 → ⊥) → (k ≡ 4 → ⊥) → (k ≡ 5 → ⊥) → 16 ≤ length s
 unfolding forms widthOf
@@ -167,17 +140,18 @@ pub heard-misshapen : (s : List ℕ) (b : Bool) → b ≡ misshapen s → b ≡ 
 unfolding heard isBad
 heard-misshapen s b e f = let m : misshapen s ≡ true = sym e ∙ f in rw m
 
-heard-if : (s : List ℕ) (f l : Bool) (c : Call) → Shaped s → f ≡ filled s → bookCall c ≡ callIn s → l ≡ legalCall (document endless) (bookCall c)
-    → cond (f || not l) none (some (bookCall c)) ≡ heard s
+heard-if : (s : List ℕ) (m f l : Bool) (c : Call) → m ≡ misshapen s → m ≡ false → f ≡ filled s → bookCall c ≡ callIn s
+    → l ≡ legalCall (document endless) (bookCall c) → cond (f || not l) none (some (bookCall c)) ≡ heard s
 unfolding heard isBad
-heard-if s f l c h p q r =
+heard-if s m f l c o n p q r =
+    let g : misshapen s ≡ false = sym o ∙ n in
     let e : l ≡ legalCall (document endless) (callIn s) = r ∙ ap (legalCall (document endless)) q in
-    rw (p, q, e, h .shape)
+    rw (p, q, e, g)
 
-pub heard-bad : (s : List ℕ) (f l : Bool) (c : Call) → Shaped s → f ≡ filled s → bookCall c ≡ callIn s → l ≡ legalCall (document endless) (bookCall c)
-    → (f || not l) ≡ true → none ≡ heard s
-heard-bad s f l c h p q r b = sym (ap (λ x. cond x none (some (bookCall c))) b) ∙ heard-if s f l c h p q r
+pub heard-bad : (s : List ℕ) (m f l : Bool) (c : Call) → m ≡ misshapen s → m ≡ false → f ≡ filled s → bookCall c ≡ callIn s
+    → l ≡ legalCall (document endless) (bookCall c) → (f || not l) ≡ true → none ≡ heard s
+heard-bad s m f l c o n p q r b = sym (ap (λ x. cond x none (some (bookCall c))) b) ∙ heard-if s m f l c o n p q r
 
-pub heard-good : (s : List ℕ) (f l : Bool) (c : Call) → Shaped s → f ≡ filled s → bookCall c ≡ callIn s → l ≡ legalCall (document endless) (bookCall c)
-    → (f || not l) ≡ false → some (bookCall c) ≡ heard s
-heard-good s f l c h p q r b = sym (ap (λ x. cond x none (some (bookCall c))) b) ∙ heard-if s f l c h p q r
+pub heard-good : (s : List ℕ) (m f l : Bool) (c : Call) → m ≡ misshapen s → m ≡ false → f ≡ filled s → bookCall c ≡ callIn s
+    → l ≡ legalCall (document endless) (bookCall c) → (f || not l) ≡ false → some (bookCall c) ≡ heard s
+heard-good s m f l c o n p q r b = sym (ap (λ x. cond x none (some (bookCall c))) b) ∙ heard-if s m f l c o n p q r

@@ -21,10 +21,10 @@ is-legal-requires : tie.Need-is-legal-requires
 is-legal-requires c κs = search needs
 
 returns-2 : tie.Need-returns-2
-returns-2 c = search (needs, shaped, heard-bad)
+returns-2 c = search (needs, heard-bad)
 
 returns-3 : tie.Need-returns-3
-returns-3 c = search (needs, shaped, heard-good)
+returns-3 c = search (needs, heard-good)
 
 pub read-request-spec : {M : Type 1} → statement M
 read-request-spec =

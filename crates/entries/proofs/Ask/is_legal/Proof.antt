@@ -1,7 +1,7 @@
 -- `entries::Ask::is_legal` meets its contract: the tests of the code are those of the rule book, kind by kind.
 -- Assumes nothing.
 use borrow.Author.Needs.{needs}
-use Rattle.entries.proofs.Requests.{legal-read, legal-insert, legal-delete}
+use Rattle.entries.proofs.Legal.{legal-read, legal-insert, legal-delete}
 use Rattle.entries.proofs.Ask.is_legal.Statement.{statement}
 use Rattle.entries.proofs.Ask.is_legal.Tie as tie
 

@@ -1,7 +1,7 @@
 -- `entries::Call::is_legal` meets its contract: a transaction that there is, and a legal request.
 -- Assumes nothing.
 use borrow.Author.Needs.{needs}
-use Rattle.entries.proofs.Requests.{legal-call}
+use Rattle.entries.proofs.Legal.{legal-call}
 use Rattle.entries.proofs.Call.is_legal.Statement.{statement}
 use Rattle.entries.proofs.Call.is_legal.Tie as tie
 

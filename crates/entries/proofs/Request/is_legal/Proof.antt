@@ -2,7 +2,7 @@
 -- Assumes nothing.
 use borrow.Author.Needs.{needs}
 use Rattle.rules.specs.Desk.{legalRequest}
-use Rattle.entries.proofs.Requests.{legal-ask}
+use Rattle.entries.proofs.Legal.{legal-ask}
 use Rattle.entries.proofs.Request.is_legal.Statement.{statement}
 use Rattle.entries.proofs.Request.is_legal.Tie as tie
 
