@@ -1,2 +1,3 @@
 pub mod Pictures
 pub mod Searches
+pub mod Changes

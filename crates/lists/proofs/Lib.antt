@@ -2,5 +2,7 @@ pub mod Tests
 pub mod Counts
 pub mod Places
 pub mod Tables
-pub mod Finite
 pub mod Elements
+pub mod Rows
+pub mod Pairs
+pub mod Finite

@@ -1,14 +1,14 @@
--- Laws of a list with one element put in at a place, or taken out there: its length, what stands where, its front and its rest.
--- Each by induction on the place and the list. Assumes nothing.
+-- Laws of a list with one element put in at a place, or taken out there: its length, what stands where, its front and its rest;
+-- and to put one in before the first that passes a test is to put it in at that place. By induction on place and list. Assumes nothing.
 use mathlib.Core.Path.{_≡_, refl, sym, ap, _∙_}
-use mathlib.Core.Bool.{Bool, true, _&&_, and-assoc, and-comm}
+use mathlib.Core.Bool.{Bool, true, false, cond, _&&_, and-assoc, and-comm}
 use mathlib.Core.List.{List, [], _∷_, _++_, map}
 use Prim.Native.Nat.{ℕ, zero, suc, _+_, _-_, _≤_, _<_}
 use native.Mathlib.Nat.{not-suc-le-zero, le-of-suc-le-suc, suc-sub-suc, sub-zero, suc-add}
 use native.Mathlib.Numerals.{add-one}
 use native.Mathlib.Omega.{arith}
 use lib.ListN.{length, getD, take, drop}
-use Rattle.lists.specs.Lists.{all, insertAt, removeAt}
+use Rattle.lists.specs.Lists.{all, place, insertAt, insertBefore, removeAt}
 use Rattle.lists.proofs.Tests.{and-left, and-right, and-both}
 
 module _ {A : Type 0} where
@@ -84,6 +84,17 @@ module _ {A : Type 0} where
       ∙ sym (and-assoc (p y) (p x) (all p ys))
       ∙ ap (λ b. b && all p ys) (and-comm (p y) (p x))
       ∙ and-assoc (p x) (p y) (all p ys)
+
+  -- ---- one put in before the first that passes the test
+  pub insertBefore-is : (p : A → Bool) (x : A) (xs : List A) → insertBefore p x xs ≡ insertAt (place p xs) x xs
+  unfolding insertBefore insertAt place
+  insertBefore-is p x [] = refl
+  insertBefore-is p x (y ∷ ys) = go (p y) (insertBefore-is p x ys)
+    where
+      go : (b : Bool) → insertBefore p x ys ≡ insertAt (place p ys) x ys
+          → cond b (x ∷ y ∷ ys) (y ∷ insertBefore p x ys) ≡ insertAt (cond b 0 (suc (place p ys))) x (y ∷ ys)
+      go true r = refl
+      go false r = ap (λ zs. y ∷ zs) r
 
   -- ---- one taken out
   pub removeAt-is : (i : ℕ) (xs : List A) → removeAt i xs ≡ take i xs ++ drop (i + 1) xs

@@ -1,4 +1,4 @@
--- Laws of the tests over lists: all, any, keep and first, over ++, over map, at a place, and against one another.
+-- Laws of tests: joined by && and ||, and over lists all, any, keep and first, over ++, over map, at a place, and against one another.
 -- Each by induction on the list; where a test decides, its value is an argument of the step. Assumes nothing.
 use mathlib.Core.Path.{_≡_, refl, sym, ap, _∙_}
 use mathlib.Core.Logic.{_⊎_, inl, inr}
@@ -8,8 +8,10 @@ use mathlib.Core.Option.{none, some, Option·map, Option·none-ne-some, Option·
 use Prim.Native.Nat.{ℕ, zero, suc, _<_}
 use native.Mathlib.Nat.{not-suc-le-zero, le-of-suc-le-suc, zero-lt-suc}
 use native.Mathlib.Omega.{arith}
+use borrow.Author.Tests.{eqb-true, eqb-false, eq-eqb, ne-eqb}
+use lib.Dec.{eqb}
 use lib.ListN.{length, getD}
-use Rattle.lists.specs.Lists.{all, any, keep, first}
+use Rattle.lists.specs.Lists.{all, any, keep, first, isNil}
 
 -- the two halves of a test, and a test of its halves
 pub and-left : (a b : Bool) → (a && b) ≡ true → a ≡ true
@@ -24,7 +26,49 @@ pub and-both : (a b : Bool) → a ≡ true → b ≡ true → (a && b) ≡ true
 and-both true b p q = q
 and-both false b p q = p
 
+-- which of two tests passes, and that one is enough
+pub either : (a b : Bool) → (a || b) ≡ true → (a ≡ true) ⊎ (b ≡ true)
+either true b e = inl refl
+either false b e = inr e
+
+pub or-left : (a b : Bool) → a ≡ true → (a || b) ≡ true
+or-left true b p = refl
+or-left false b p = absurd (false≢true p)
+
+pub or-right : (a b : Bool) → b ≡ true → (a || b) ≡ true
+or-right true b q = refl
+or-right false b q = q
+
+-- a test that cannot pass fails
+pub fails : (b : Bool) → (b ≡ true → ⊥) → b ≡ false
+fails true f = absurd (f refl)
+fails false f = refl
+
+-- two numbers are compared either way round
+pub eqb-turn : (a b : ℕ) → eqb a b ≡ eqb b a
+eqb-turn a b = go (eqb a b) refl
+  where
+    go : (t : Bool) → eqb a b ≡ t → t ≡ eqb b a
+    go true e = sym (eq-eqb b a (sym (eqb-true a b e)))
+    go false e = sym (ne-eqb b a (λ q. eqb-false a b e (sym q)))
+
+-- what can't be: `never (cc)` proves anything where the equations in scope make two constructors equal
+pub never {ℓ} : {A : Type ℓ} → _≡_ {A = ℕ} 0 1 → A
+never e = absurd (differ e)
+  where
+    differ : _≡_ {A = ℕ} 0 1 → ⊥
+    differ e = omega arith
+
 module _ {A : Type 0} where
+  -- ---- the empty list
+  pub nil-is : (xs : List A) → isNil xs ≡ true → xs ≡ []
+  nil-is [] e = refl
+  nil-is (x ∷ xs) e = absurd (false≢true e)
+
+  pub nil-left : (xs ys : List A) → xs ++ ys ≡ [] → xs ≡ []
+  nil-left [] ys e = refl
+  nil-left (x ∷ xs) ys e = never (cc)
+
   -- ---- all
   pub all-append : (p : A → Bool) (xs ys : List A) → all p (xs ++ ys) ≡ (all p xs && all p ys)
   unfolding all
@@ -58,9 +102,8 @@ module _ {A : Type 0} where
   pub any-at : (p : A → Bool) (xs : List A) (i : ℕ) (d : A) → p (getD xs i d) ≡ true → i < length xs → any p xs ≡ true
   unfolding any
   any-at p [] i d e h = absurd (not-suc-le-zero h)
-  any-at p (x ∷ xs) zero d e h = ap (λ b. b || any p xs) e
-  any-at p (x ∷ xs) (suc i) d e h =
-      ap (λ b. p x || b) (any-at p xs i d e (le-of-suc-le-suc h)) ∙ elim (p x) as (λ b. (b || true) ≡ true) [ true ↦ refl | false ↦ refl ]
+  any-at p (x ∷ xs) zero d e h = or-left (p x) (any p xs) e
+  any-at p (x ∷ xs) (suc i) d e h = or-right (p x) (any p xs) (any-at p xs i d e (le-of-suc-le-suc h))
 
   -- where some element passes, the place of one that does
   pub any-place : (p : A → Bool) (xs : List A) (d : A) → any p xs ≡ true → (i : ℕ) × (i < length xs) × (p (getD xs i d) ≡ true)
@@ -189,6 +232,20 @@ module _ {A : Type 0} where
       go : (b : Bool) → (b || any p xs) ≡ false → (any p xs ≡ false → first p (xs ++ ys) ≡ first p ys) → cond b (some x) (first p (xs ++ ys)) ≡ first p ys
       go true h r = absurd (true≢false h)
       go false h r = r h
+
+  -- where it is kept, it is the first of those kept
+  pub first-keep : (p q : A → Bool) (xs : List A) → ((x : A) → first p xs ≡ some x → q x ≡ true) → first p (keep q xs) ≡ first p xs
+  unfolding first keep
+  first-keep p q [] f = refl
+  first-keep p q (x ∷ xs) f = go (p x) (q x) refl refl f (first-keep p q xs)
+    where
+      go : (b c : Bool) → p x ≡ b → q x ≡ c → ((y : A) → cond b (some x) (first p xs) ≡ some y → q y ≡ true)
+          → (((y : A) → first p xs ≡ some y → q y ≡ true) → first p (keep q xs) ≡ first p xs)
+          → first p (cond c (x ∷ keep q xs) (keep q xs)) ≡ cond b (some x) (first p xs)
+      go true true d e g h = rw d
+      go true false d e g h = absurd (false≢true (sym e ∙ g x refl))
+      go false true d e g h = rw d (h g)
+      go false false d e g h = h g
 
 -- ---- over map
 module _ {A B : Type 0} where

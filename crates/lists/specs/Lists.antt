@@ -33,6 +33,11 @@ unfoldable pub first : {A : Type 0} → (A → Bool) → List A → Option A
 first p [] = none
 first p (x ∷ xs) = cond (p x) (some x) (first p xs)
 
+-- the first value that f gives of the elements, where it gives one
+unfoldable pub firstSome : {A B : Type 0} → (A → Option B) → List A → Option B
+firstSome f [] = none
+firstSome f (x ∷ xs) = orElse (f x) (firstSome f xs)
+
 -- the place of the first element that passes the test, or how many elements there are
 unfoldable pub place : {A : Type 0} → (A → Bool) → List A → ℕ
 place p [] = 0

@@ -10,12 +10,16 @@ use borrow.Author.Tests.{eq-eqb, eqb-true, ne-eqb, eqb-false, not-true}
 use lib.Dec.{eqb}
 use lib.ListN.{length}
 use Rattle.lists.specs.Lists.{In, all, any, pairs}
-use Rattle.lists.proofs.Finite.{and-both, all-in, in-all, in-any, any-in, append-in, pairs-last, keep-in, length-tab, no-more}
+use Rattle.lists.proofs.Tests.{and-both, fails}
+use Rattle.lists.proofs.Tables.{length-tab}
+use Rattle.lists.proofs.Elements.{all-in, in-all, any-in, in-any, append-in, keep-in}
+use Rattle.lists.proofs.Pairs.{pairs-cons, pairs-last}
+use Rattle.lists.proofs.Finite.{no-more}
 use Rattle.rules.specs.Kinds.{Book, Ask, Request, begin, commit, rollback, ask}
 use Rattle.rules.specs.Entries.{committed, rolledBack}
 use Rattle.rules.specs.Queue.{St, Q, leave, everyone}
 use Rattle.rules.specs.Runs.{Sy, En, Turn, turn, Worked, worked, waiting, done, runsAlready}
-use Rattle.rules.specs.Desk.{An, runs, waitsNow, says, ifSo, refusal, begun, ended, joined, waitingLast, acts, unless, step, isTransaction}
+use Rattle.rules.specs.Desk.{An, runs, waitsNow, says, refusal, begun, ended, joined, waitingLast, acts, unless, step, isTransaction}
 use Rattle.rules.specs.Good.{Good}
 use Rattle.rules.proofs.Waits.{in-everyone, runs-known, queued-runs}
 use Rattle.rules.proofs.Rest.{Leaves, turn-leaves, worked-by-turns}
@@ -48,13 +52,11 @@ module _ (B : Book) where
 
   served-turn : (s : St B) (t : Turn B) (w : Worked B) → turn B s ≡ some t → Served (t .state) w
       → Served s (record { state = w .state; answers = t .answer ∷ w .answers })
-  unfolding pairs
   served-turn s t w h v =
       record {
         waited = waited;
         freed = freed;
-        once = and-both (all (otherAnswered (t .answer)) (w .answers)) (pairs otherAnswered (w .answers))
-            (in-all (otherAnswered (t .answer)) (w .answers) (λ a i. ap not (fewer (a .asker) (v .waited a i) .1))) (v .once);
+        once = pairs-cons otherAnswered (t .answer) (w .answers) (λ a i. ap not (fewer (a .asker) (v .waited a i) .1)) (v .once);
         still = λ u k. fewer u (v .still u k) .0;
       }
     where
@@ -71,12 +73,11 @@ module _ (B : Book) where
           subst (λ u. waitsNow B s u ≡ true) (sym (l .answered) ∙ ap (λ (b : An B). b .asker) e) (queued-waits s (l .request) (l .queued))
       waited a (inr i) = fewer (a .asker) (v .waited a i) .0
 
-      gone : (u : ℕ) → t .answer .asker ≡ u → (b : Bool) → waitsNow B (w .state) u ≡ b → b ≡ false
-      gone u e false k = refl
-      gone u e true k = absurd (true≢false (sym (eq-eqb (t .answer .asker) u e) ∙ fewer u (v .still u k) .1))
+      gone : (u : ℕ) → t .answer .asker ≡ u → waitsNow B (w .state) u ≡ true → ⊥
+      gone u e k = true≢false (sym (eq-eqb (t .answer .asker) u e) ∙ fewer u (v .still u k) .1)
 
       freed : (a : An B) → In a (t .answer ∷ w .answers) → waitsNow B (w .state) (a .asker) ≡ false
-      freed a (inl e) = gone (a .asker) (ap (λ (b : An B). b .asker) e) (waitsNow B (w .state) (a .asker)) refl
+      freed a (inl e) = fails (waitsNow B (w .state) (a .asker)) (gone (a .asker) (ap (λ (b : An B). b .asker) e))
       freed a (inr i) = v .freed a i
 
   worked-served : (s : St B) → Served s (worked B s)
@@ -102,13 +103,11 @@ module _ (B : Book) where
 
     -- t is answered first, and has nothing queued
     answer-first : (m : Sy B) → waitsNow B s t ≡ false → OnceEach (says B t m ∷ worked B s .answers)
-    unfolding all pairs
+    unfolding all
     answer-first m h =
         record {
           known = and-both (isTransaction B t) _ known (in-all (λ a. isTransaction B (a .asker)) (worked B s .answers) worked-known);
-          once = and-both (all (otherAnswered (says B t m)) (worked B s .answers)) (pairs otherAnswered (worked B s .answers))
-              (in-all (otherAnswered (says B t m)) (worked B s .answers) (λ a i. ap not (ne-eqb t (a .asker) (other a i))))
-              (worked-served s .once);
+          once = pairs-cons otherAnswered (says B t m) (worked B s .answers) (λ a i. ap not (ne-eqb t (a .asker) (other a i))) (worked-served s .once);
         }
       where
         other : (a : An B) → In a (worked B s .answers) → t ≡ a .asker → ⊥
@@ -151,22 +150,15 @@ module _ (B : Book) where
 
     begin-answers : refusal B s t begin ≡ none → OnceEach (acts B s t begin .answers)
     unfolding refusal acts begun
-    begin-answers h = answer-first (begun B s t) t known waits-known done (go (waitsNow B s t) refl (runs B s t) refl h)
-      where
-        go : (b : Bool) → waitsNow B s t ≡ b → (c : Bool) → runs B s t ≡ c → ifSo B c runsAlready ≡ none → b ≡ false
-        go false w c e h = refl
-        go true w true e h = absurd (Option·none-ne-some runsAlready (sym h))
-        go true w false e h = absurd (true≢false (sym (waits-runs t w) ∙ e))
+    begin-answers h =
+        answer-first (begun B s t) t known waits-known done
+        (fails (waitsNow B s t) (λ w. Option·none-ne-some runsAlready (sym (rw (waits-runs t w) at h))))
 
     end-answers : (f : En B → En B) → OnceEach (says B t done ∷ worked B (ended B f s t) .answers)
     unfolding ended
     end-answers f =
         answer-first (ended B f s t) t known (λ u h. waits-known u (still-waits (s .queue) t u h .0)) done
-        (go (waitsNow B (ended B f s t) t) refl)
-      where
-        go : (b : Bool) → any (λ q. eqb (q .asker) t) (leave B t (s .queue)) ≡ b → b ≡ false
-        go false h = refl
-        go true h = absurd (true≢false (sym (eq-eqb t t refl) ∙ still-waits (s .queue) t t h .1))
+        (fails (waitsNow B (ended B f s t) t) (λ h. true≢false (sym (eq-eqb t t refl) ∙ still-waits (s .queue) t t h .1)))
 
     ask-answers : (a : Ask (B .Key) (B .Rec)) → OnceEach (waitingLast B t (worked B (joined B s t a)) .answers)
     unfolding joined

@@ -3,7 +3,7 @@
 use Prim.Native.Nat.{ℕ, zero, suc, _-_, _≤_}
 use mathlib.Core.Path.{_≡_, refl, sym, ap, subst, _∙_}
 use mathlib.Core.Logic.{_≢_, inl, inr}
-use mathlib.Core.Bool.{Bool, true, false, not, _&&_, _||_, or-true, true≢false}
+use mathlib.Core.Bool.{Bool, true, false, not, _&&_, _||_, true≢false}
 use mathlib.Core.List.{List, [], _∷_}
 use mathlib.Core.Option.{Option, none, some, Option·none-ne-some}
 use native.Mathlib.Omega.{arith}
@@ -11,7 +11,11 @@ use borrow.Author.Tests.{eqb-true, eqb-false, ne-eqb, not-false}
 use lib.Dec.{eqb}
 use lib.ListN.{length}
 use Rattle.lists.specs.Lists.{In, all, pairs, member}
-use Rattle.lists.proofs.Finite.{and-left, and-right, and-both, some-in, all-fails, in-all, in-any, any-in, in-member, member-in, in-keep, keep-in, length-tab, no-more}
+use Rattle.lists.proofs.Tests.{and-left, and-right, and-both, or-left, or-right}
+use Rattle.lists.proofs.Tables.{length-tab}
+use Rattle.lists.proofs.Elements.{some-in, any-in, in-any, all-fails, keep-in, in-keep, member-in, in-member}
+use Rattle.lists.proofs.Pairs.{pairs-split, pairs-cons}
+use Rattle.lists.proofs.Finite.{no-more}
 use Rattle.rules.specs.Kinds.{Book}
 use Rattle.rules.specs.Queue.{St, Q, Wait, waits, oldest, newest, everyone, linked, further, reached, onCircle}
 use Rattle.rules.specs.Runs.{refused, served, turn, AtRest}
@@ -41,12 +45,10 @@ module _ (B : Book) (s : St B) where
     once : pairs different (t ∷ steps) ≡ true
 
   straight-from : (x : ℕ) (us : List ℕ) (t u : ℕ) → Chain B s x us → endOf B x us ≡ u → pairs different us ≡ true → In t us → Straight t u
-  unfolding pairs
   straight-from x [] t u c e d i = absurd i
   straight-from x (v ∷ us) t u c e d (inl q) =
       subst (λ y. Straight y u) q (record { steps = us; chain = c .1; arrives = e; once = d })
-  straight-from x (v ∷ us) t u c e d (inr i) =
-      straight-from v us t u (c .1) e (and-right (all (different v) us) (pairs different us) d) i
+  straight-from x (v ∷ us) t u c e d (inr i) = straight-from v us t u (c .1) e (pairs-split different v us d .1) i
 
   straight : (t : ℕ) (us : List ℕ) → Chain B s t us → Straight t (endOf B t us)
   unfolding all pairs
@@ -74,7 +76,7 @@ module _ (B : Book) (s : St B) where
   further-stays : (xs : List ℕ) (u : ℕ) → In u (everyone B) → In u xs → In u (further B (waits B s) xs)
   unfolding further
   further-stays xs u k i =
-      in-keep (λ v. member v xs || linked B (waits B s) xs v) (everyone B) u k (ap (λ b. b || linked B (waits B s) xs u) (in-member u xs i))
+      in-keep (λ v. member v xs || linked B (waits B s) xs v) (everyone B) u k (or-left (member u xs) (linked B (waits B s) xs u) (in-member u xs i))
 
   further-link : (xs : List ℕ) (t u : ℕ) → In u (everyone B) → In t xs → Behind B s t u → In u (further B (waits B s) xs)
   unfolding further
@@ -84,7 +86,7 @@ module _ (B : Book) (s : St B) where
       in-any (λ v. member (v .request .asker) xs && member u (v .behind)) (waits B s) w (b .queued)
       (and-both (member (w .request .asker) xs) (member u (w .behind))
       (subst (λ a. member a xs ≡ true) (sym (b .asker)) (in-member t xs i)) (in-member u (w .behind) (b .blocker))) in
-      in-keep (λ v. member v xs || linked B (waits B s) xs v) (everyone B) u k (ap (λ b. member u xs || b) link ∙ or-true (member u xs))
+      in-keep (λ v. member v xs || linked B (waits B s) xs v) (everyone B) u k (or-right (member u xs) (linked B (waits B s) xs u) link)
 
   reached-stays : (n : ℕ) (xs : List ℕ) (u : ℕ) → In u (everyone B) → In u xs → In u (reached B n (waits B s) xs)
   unfolding reached
@@ -224,9 +226,7 @@ module _ (B : Book) (s : St B) where
     nobody-twice : (t : ℕ) (us : List ℕ) → Chain B s t us → pairs different (t ∷ us) ≡ true
     unfolding all pairs
     nobody-twice t [] c = refl
-    nobody-twice t (v ∷ us) c =
-        and-both (all (different t) (v ∷ us)) (pairs different (v ∷ us))
-        (in-all (different t) (v ∷ us) (λ u i. ap not (ne-eqb t u (round u i)))) (nobody-twice v us (c .1))
+    nobody-twice t (v ∷ us) c = pairs-cons different t (v ∷ us) (λ u i. ap not (ne-eqb t u (round u i))) (nobody-twice v us (c .1))
       where
         round : (u : ℕ) → In u (v ∷ us) → t ≡ u → ⊥
         round u i e =

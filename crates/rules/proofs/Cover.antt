@@ -10,7 +10,8 @@ use mathlib.Core.Option.{Option, none, some}
 use lib.Dec.{eqb}
 use borrow.Author.Tests.{eqb-true, eqb-false}
 use Rattle.lists.specs.Lists.{In}
-use Rattle.lists.proofs.Elements.{fails, first-in}
+use Rattle.lists.proofs.Tests.{fails}
+use Rattle.lists.proofs.Elements.{first-in}
 use Rattle.rules.specs.Kinds.{Book, Ordered, S, X, Name, on}
 use Rattle.rules.specs.Entries.{Entries, same, inserted, deleted, revived, committed, rolledBack, settled}
 use Rattle.rules.specs.Locks.{inUse, holds, released, wanted, named, itself}

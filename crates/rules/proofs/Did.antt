@@ -9,7 +9,8 @@ use mathlib.Core.Option.{Option, none, some}
 use lib.Dec.{eqb}
 use borrow.Author.Tests.{eqb-true}
 use Rattle.lists.specs.Lists.{keep, In}
-use Rattle.lists.proofs.Elements.{never, append-nil, keep-in, first-in, map-in}
+use Rattle.lists.proofs.Tests.{never, nil-left}
+use Rattle.lists.proofs.Elements.{first-in, in-keep, in-map}
 use Rattle.rules.specs.Kinds.{Book, Ordered, Mode, S, X, Name, on, Ask, read, insert, delete}
 use Rattle.rules.specs.Entries.{Entries, same, inserted, deleted, revived, put, changed}
 use Rattle.rules.specs.Locks.{Slots, inUse, conflict, sameName, taken, target, named, itself, mode, Want, wanted, holders, blockers}
@@ -142,12 +143,12 @@ module _ (B : Book) where
       go : (b : Bool) → eqb (l .holder) t ≡ b → l .holder ≡ t
       go true q = eqb-true (l .holder) t q
       go false q =
-          let k : In l (keep stands (inUse ls)) = keep-in stands (inUse ls) l i (rw (q, e, name-itself B L (w .name)) c) in
-          absurd (subst (λ (ks : List ℕ). In (l .holder) ks) n (map-in (λ l. l .holder) (keep stands (inUse ls)) l k))
+          let k : In l (keep stands (inUse ls)) = in-keep stands (inUse ls) l i (rw (q, e, name-itself B L (w .name)) c) in
+          absurd (subst (λ (ks : List ℕ). In (l .holder) ks) n (in-map (λ l. l .holder) (keep stands (inUse ls)) l k))
 
   pub unblocked : (L : Ordered (B .Key) (B .compare)) (s : St B) (w : Wait B) → In w (waits B s) → w .behind ≡ []
       → Clear B (s .slots) (w .request .asker) (wanted B (s .entries) (w .request) .name) (wanted B (s .entries) (w .request) .mode)
   unfolding waits blockers
   unblocked L s w i n =
       no-holder L (s .slots) (w .request .asker) (wanted B (s .entries) (w .request))
-      (append-nil _ _ (waits-from (s .entries) (s .slots) [] (s .queue) w i .1 .1 ∙ n))
+      (nil-left _ _ (waits-from (s .entries) (s .slots) [] (s .queue) w i .1 .1 ∙ n))

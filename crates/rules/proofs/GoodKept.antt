@@ -2,23 +2,25 @@
 -- of sound tables; the rest is the principle of Keeps. Assumes nothing.
 use Prim.Native.Nat.{ℕ, zero, suc, _≤_, _<_}
 use mathlib.Core.Path.{_≡_, refl, sym, ap, subst, _∙_}
-use mathlib.Core.Logic.{⊎-elim}
+use mathlib.Core.Logic.{_⊎_, inl, inr, ⊎-elim}
 use mathlib.Core.Bool.{Bool, true, false, not}
-use mathlib.Core.List.{List, []}
+use mathlib.Core.List.{List, [], _∷_}
 use mathlib.Core.Option.{none}
 use native.Mathlib.Omega.{arith}
 use lib.Dec.{eqb, leb}
 use lib.ListN.{length, getD, set, replicate, length-set, length-replicate}
 use lib.Seq.{getD-set-same, getD-set-other}
-use borrow.Author.Tests.{eqb-true, eqb-false, eq-eqb, ne-eqb, leb-true, not-true}
+use borrow.Author.Tests.{eqb-true, eqb-false, eq-eqb, leb-true, not-true}
 use Rattle.lists.specs.Lists.{all, pairs, In}
-use Rattle.lists.proofs.Elements.{both, and, or-left, or-right, in-all, not-any, in-keep, pairs-keep, pairs-insert, in-insert, insert-end}
+use Rattle.lists.proofs.Tests.{and-left, and-right, and-both, or-left, or-right, not-any}
+use Rattle.lists.proofs.Elements.{in-all, append-in, keep-in}
+use Rattle.lists.proofs.Pairs.{pairs-keep, pairs-last}
 use Rattle.rules.specs.Kinds.{Book, Ordered, on, Ask, Mark, idle, running}
 use Rattle.rules.specs.Entries.{committed, rolledBack}
 use Rattle.rules.specs.Locks.{inUse}
 use Rattle.rules.specs.Queue.{St, Q, leave}
 use Rattle.rules.specs.Runs.{circle, En, Ran, unmoved, left, run}
-use Rattle.rules.specs.Desk.{isRunning, runs, waitsNow, begun, ended, joined, step, isTransaction, legalAsk, legalRequest, Cl, legalCall, fresh, after}
+use Rattle.rules.specs.Desk.{isRunning, runs, waitsNow, begun, ended, joined, step, isTransaction, legalAsk, Cl, legalCall, fresh, after}
 use Rattle.rules.specs.Good.{ascending, lockStands, ownerHolds, queueStands, otherAsker, Good}
 use Rattle.rules.proofs.LockTable.{held-holdsX}
 use Rattle.rules.proofs.Sound.{Settles, committed-settles, rolledBack-settles, Sound, sound-more, sound-ended}
@@ -37,17 +39,17 @@ module _ (B : Book) (L : Ordered (B .Key) (B .compare)) where
     modes = h .modes;
     settled = h .settled;
     askers = q .askers;
-    names = in-all (lockStands B s) (inUse (s .slots)) (λ l i. let w = h .names l i in and _ _ (w .0) (w .1));
+    names = in-all (lockStands B s) (inUse (s .slots)) (λ l i. let w = h .names l i in and-both _ _ (w .0) (w .1));
     owners = in-all (ownerHolds B s) (s .entries) (λ e i. ⊎-elim (λ z. or-left _ _ (eq-eqb (e .owner) 0 z))
-        (λ w. or-right (eqb (e .owner) 0) _ (and _ _ (w .0) (held-holdsX B L (s .slots) (e .owner) (on (e .key)) (w .1)))) (h .owners e i));
-    queued = in-all (queueStands B s) (s .queue) (λ p i. let w = q .queued p i in and _ _ (w .0) (w .1));
+        (λ w. or-right (eqb (e .owner) 0) _ (and-both _ _ (w .0) (held-holdsX B L (s .slots) (e .owner) (on (e .key)) (w .1)))) (h .owners e i));
+    queued = in-all (queueStands B s) (s .queue) (λ p i. let w = q .queued p i in and-both _ _ (w .0) (w .1));
   }
 
   -- a request that leaves the queue
   left-good : (s : St B) (q : Q B) (r : Ran B) → Good B s → Sound B (runs B s) (r .entries) (r .slots) → Good B (left B s q r .state)
   unfolding leave
   left-good s q r g h = sound-good (left B s q r .state) (g .marks) (g .nobody) h (record {
-    queued = λ p i. good-queues B s g .queued p (in-keep _ (s .queue) p i .0);
+    queued = λ p i. good-queues B s g .queued p (keep-in _ (s .queue) p i .0);
     askers = pairs-keep (otherAsker B) _ (s .queue) (g .askers);
   })
 
@@ -55,9 +57,8 @@ module _ (B : Book) (L : Ordered (B .Key) (B .compare)) where
   module _ (s : St B) (t : ℕ) (g : Good B s) (h : isTransaction B t ≡ true) where
     known : (t < length (s .marks)) × (t ≡ 0 → ⊥)
     known =
-        let b : (leb 1 t ≡ true) × (leb t (B .transactions) ≡ true) = both _ _ h in
-        let p : 1 ≤ t = leb-true 1 t (b .0) in
-        let q : t ≤ B .transactions = leb-true t (B .transactions) (b .1) in
+        let p : 1 ≤ t = leb-true 1 t (and-left _ _ h) in
+        let q : t ≤ B .transactions = leb-true t (B .transactions) (and-right (leb 1 t) _ h) in
         let m : length (s .marks) ≡ suc (B .transactions) = g .marks in
         (omega arith, λ z. omega arith)
 
@@ -83,7 +84,7 @@ module _ (B : Book) (L : Ordered (B .Key) (B .compare)) where
         (sound-ended B L (runs B s) (runs B (ended B f s t)) (s .entries) (s .slots) t f (known .1) c others (good-sound B L s g))
         (record {
           askers = pairs-keep (otherAsker B) _ (s .queue) (g .askers);
-          queued = λ q i. let k = in-keep _ (s .queue) q i in let w = good-queues B s g .queued q (k .0) in
+          queued = λ q i. let k = keep-in _ (s .queue) q i in let w = good-queues B s g .queued q (k .0) in
               (others (q .asker) (eqb-false (q .asker) t (not-true _ (k .1))) (w .0), w .1);
         })
       where
@@ -93,17 +94,16 @@ module _ (B : Book) (L : Ordered (B .Key) (B .compare)) where
   joined-good : (s : St B) (t : ℕ) (a : Ask (B .Key) (B .Rec)) → runs B s t ≡ true → waitsNow B s t ≡ false → legalAsk B a ≡ true → Good B s → Good B (joined B s t a)
   unfolding joined
   joined-good s t a r w l g = sound-good (joined B s t a) (g .marks) (g .nobody) (good-sound B L s g) (record {
-    askers = rw (insert-end new (s .queue)) (pairs-insert (otherAsker B) (length (s .queue)) new (s .queue) (g .askers)
-        (λ q i. let o = other q i in (ap not (ne-eqb t (q .asker) (λ z. eqb-false (q .asker) t o (sym z))), ap not o)));
-    queued = λ q i. ⊎-elim (λ z. subst (λ (p : Q B). (runs B s (p .asker) ≡ true) × (legalAsk B (p .asks) ≡ true)) z (r, l)) (good-queues B s g .queued q)
-        (in-insert (length (s .queue)) new (s .queue) q (rw (insert-end new (s .queue)) at i));
+    askers = pairs-last (otherAsker B) (s .queue) new (g .askers) (sym (not-any (λ q. eqb (q .asker) t) (s .queue)) ∙ ap not w);
+    queued = λ q i. each q (append-in (s .queue) (new ∷ []) q i);
   })
     where
       new : Q B
       new = record { asker = t; asks = a }
 
-      other : (q : Q B) → In q (s .queue) → eqb (q .asker) t ≡ false
-      other q i = not-any (λ p. eqb (p .asker) t) (s .queue) q w i
+      each : (q : Q B) → In q (s .queue) ⊎ In q (new ∷ []) → (runs B s (q .asker) ≡ true) × (legalAsk B (q .asks) ≡ true)
+      each q (inl i) = good-queues B s g .queued q i
+      each q (inr (inl z)) = subst (λ (p : Q B). (runs B s (p .asker) ≡ true) × (legalAsk B (p .asks) ≡ true)) z (r, l)
 
   pub good-kept : Kept B (Anyone B) (Good B)
   good-kept = record {
@@ -117,8 +117,8 @@ module _ (B : Book) (L : Ordered (B .Key) (B .compare)) where
 
   pub step-good : (s : St B) (c : Cl B) → legalCall B c ≡ true → Good B s → Good B (step B s (c .asker) (c .request) .state)
   step-good s c l g =
-      let b : (isTransaction B (c .asker) ≡ true) × (legalRequest B (c .request) ≡ true) = both _ _ l in
-      step-keeps B (Anyone B) (Good B) good-kept s (c .asker) (c .request) (b .0) (b .1) (anyone-may B (c .asker) (c .request)) g
+      step-keeps B (Anyone B) (Good B) good-kept s (c .asker) (c .request) (and-left _ _ l) (and-right (isTransaction B (c .asker)) _ l)
+      (anyone-may B (c .asker) (c .request)) g
 
   -- no lock, no entry, nobody runs
   free-none : (n : ℕ) → inUse {K = B .Key} (replicate n none) ≡ []

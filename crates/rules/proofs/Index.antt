@@ -1,7 +1,7 @@
 -- The sorted entries: which there are, and that they stay in order, after one is put in, some are changed where they stand, and a
 -- transaction's are settled. `put` is an insertion, `changed` a map, `settled` a map of what stays; the laws of those do the rest.
 -- Assumes nothing.
-use Prim.Native.Nat.{ℕ, suc}
+use Prim.Native.Nat.{ℕ}
 use mathlib.Core.Path.{_≡_, refl, sym, ap, subst, _∙_}
 use mathlib.Core.Logic.{_⊎_, inl, inr, ⊎-elim}
 use mathlib.Core.Bool.{Bool, true, false, cond, not, _&&_, true≢false, false≢true}
@@ -9,8 +9,10 @@ use mathlib.Core.List.{List, [], _∷_, _++_, map}
 use mathlib.Core.Option.{Option, none, some, Option·map}
 use lib.Dec.{eqb}
 use borrow.Author.Tests.{not-true}
-use Rattle.lists.specs.Lists.{all, keep, first, pairs, In, join, insertAt, insertBefore}
-use Rattle.lists.proofs.Elements.{both, and, fails, never, all-in, in-all, any-in, in-any, in-keep, keep-in, first-in, pairs-split, pairs-cons, pairs-keep, first-least, first-keep, first-map, in-insert, insert-in, in-map, map-in, pairs-map}
+use Rattle.lists.specs.Lists.{keep, first, pairs, In, join, insertBefore}
+use Rattle.lists.proofs.Tests.{and-left, and-right, and-both, fails, never, first-keep, all-map, first-map}
+use Rattle.lists.proofs.Elements.{all-in, in-all, any-in, in-any, first-in, keep-in, in-keep, insertBefore-in, in-insertBefore, map-in, in-map}
+use Rattle.lists.proofs.Pairs.{pairs-split, pairs-cons, first-least, pairs-keep, pairs-map}
 use Rattle.rules.specs.Kinds.{Book, Ordered, Entry, Name, on, end}
 use Rattle.rules.specs.Entries.{Entries, atMost, same, present, left, settled, takenOut, put, changed}
 use Rattle.rules.specs.Locks.{named, itself}
@@ -39,11 +41,11 @@ module _ {K R : Type 0} (f : Entry K R → Entry K R) (t : ℕ) where
       go false p q h = cc
 
   -- an entry of the settled list: another's as it was, or t's own, there after its end
-  pub in-settled : (es : List (Entry K R)) (y : Entry K R) → In y (settled f t es)
+  pub settled-in : (es : List (Entry K R)) (y : Entry K R) → In y (settled f t es)
       → (In y es × (eqb (y .owner) t ≡ false)) ⊎ ((e : Entry K R) × In e es × (eqb (e .owner) t ≡ true) × (present (f e) ≡ true) × (f e ≡ y))
-  in-settled es y i =
-      let w : (e : Entry K R) × In e (keep stays es) × (settledOne e ≡ y) = in-map settledOne (keep stays es) y (rw (settled-is es) at i) in
-      let k : In (w .0) es × (stays (w .0) ≡ true) = in-keep stays es (w .0) (w .1) in
+  settled-in es y i =
+      let w : (e : Entry K R) × In e (keep stays es) × (settledOne e ≡ y) = map-in settledOne (keep stays es) y (rw (settled-is es) at i) in
+      let k : In (w .0) es × (stays (w .0) ≡ true) = keep-in stays es (w .0) (w .1) in
       go (w .0) (k .0) (k .1) (w .2) (eqb (w .0 .owner) t) (present (f (w .0))) refl refl
     where
       go : (e : Entry K R) → In e es → stays e ≡ true → settledOne e ≡ y → (o p : Bool) → eqb (e .owner) t ≡ o → present (f e) ≡ p
@@ -55,17 +57,16 @@ module _ {K R : Type 0} (f : Entry K R → Entry K R) (t : ℕ) where
   pub settled-other : (es : List (Entry K R)) (e : Entry K R) → In e es → eqb (e .owner) t ≡ false → In e (settled f t es)
   settled-other es e i q =
       let z : settledOne e ≡ e = rw q in
-      rw (settled-is es) (subst (λ (v : Entry K R). In v (map settledOne (keep stays es))) z (map-in settledOne (keep stays es) e (keep-in stays es e i (rw q))))
+      rw (settled-is es) (subst (λ (v : Entry K R). In v (map settledOne (keep stays es))) z (in-map settledOne (keep stays es) e (in-keep stays es e i (rw q))))
 
   -- a key that is taken out was that of an entry of t's, absent after its end
-  pub in-takenOut : (es : List (Entry K R)) (k : K) → In k (takenOut f t es)
+  pub takenOut-in : (es : List (Entry K R)) (k : K) → In k (takenOut f t es)
       → (e : Entry K R) × In e es × (eqb (e .owner) t ≡ true) × (present (f e) ≡ false) × (e .key ≡ k)
   unfolding takenOut
-  in-takenOut es k i =
-      let w = in-map (λ (e : Entry K R). e .key) (keep (λ e. eqb (e .owner) t && not (present (f e))) es) k i in
-      let j : In (w .0) es × (eqb (w .0 .owner) t && not (present (f (w .0))) ≡ true) = in-keep _ es (w .0) (w .1) in
-      let b : (eqb (w .0 .owner) t ≡ true) × (not (present (f (w .0))) ≡ true) = both _ _ (j .1) in
-      (w .0, j .0, b .0, not-true (present (f (w .0))) (b .1), w .2)
+  takenOut-in es k i =
+      let w = map-in (λ (e : Entry K R). e .key) (keep (λ e. eqb (e .owner) t && not (present (f e))) es) k i in
+      let j : In (w .0) es × (eqb (w .0 .owner) t && not (present (f (w .0))) ≡ true) = keep-in _ es (w .0) (w .1) in
+      (w .0, j .0, and-left _ _ (j .1), not-true (present (f (w .0))) (and-right (eqb (w .0 .owner) t) _ (j .1)), w .2)
 
 module _ (B : Book) where
   -- the first entry at or above k
@@ -73,26 +74,19 @@ module _ (B : Book) where
   atOrAbove k es = first (λ e. atMost B k (e .key)) es
 
   -- put, as an insertion
-  put-place : (e : En B) (es : Entries B) → (i : ℕ) × (put B e es ≡ insertAt i e es)
-  unfolding put insertAt insertBefore
-  put-place e [] = (0, refl)
-  put-place e (x ∷ xs) = go (atMost B (e .key) (x .key)) (put-place e xs)
-    where
-      go : (b : Bool) → ((i : ℕ) × (put B e xs ≡ insertAt i e xs)) → (i : ℕ) × (cond b (e ∷ x ∷ xs) (x ∷ put B e xs) ≡ insertAt i e (x ∷ xs))
-      go true w = (0, refl)
-      go false w = (suc (w .0), ap (λ (ys : Entries B). x ∷ ys) (w .1))
+  pub put-in : (e : En B) (es : Entries B) (y : En B) → In y (put B e es) → (e ≡ y) ⊎ In y es
+  unfolding put
+  put-in e es y i = insertBefore-in _ e es y i
 
-  pub in-put : (e : En B) (es : Entries B) (y : En B) → In y (put B e es) → (e ≡ y) ⊎ In y es
-  in-put e es y i = let w = put-place e es in in-insert (w .0) e es y (rw (w .1) at i)
-
-  pub put-in : (e : En B) (es : Entries B) (y : En B) → (e ≡ y) ⊎ In y es → In y (put B e es)
-  put-in e es y i = let w = put-place e es in rw (w .1) (insert-in (w .0) e es y i)
+  pub in-put : (e : En B) (es : Entries B) (y : En B) → (e ≡ y) ⊎ In y es → In y (put B e es)
+  unfolding put
+  in-put e es y i = in-insertBefore _ e es y i
 
   -- changed, as a map
-  pub in-changed : (k : B .Key) (f : En B → En B) (es : Entries B) (y : En B) → In y (changed B k f es)
+  pub changed-in : (k : B .Key) (f : En B → En B) (es : Entries B) (y : En B) → In y (changed B k f es)
       → In y es ⊎ ((e : En B) × In e es × (same B (e .key) k ≡ true) × (f e ≡ y))
   unfolding changed
-  in-changed k f es y i = let w = in-map _ es y i in go (w .0) (w .1) (same B (w .0 .key) k) refl (w .2)
+  changed-in k f es y i = let w = map-in _ es y i in go (w .0) (w .1) (same B (w .0 .key) k) refl (w .2)
     where
       go : (e : En B) → In e es → (b : Bool) → same B (e .key) k ≡ b → cond b (f e) e ≡ y
           → In y es ⊎ ((e : En B) × In e es × (same B (e .key) k ≡ true) × (f e ≡ y))
@@ -107,15 +101,12 @@ module _ (B : Book) where
   ascending-keep : (p : En B → Bool) (es : Entries B) → ascending B es ≡ true → ascending B (keep p es) ≡ true
   unfolding ascending
   ascending-keep p es h =
-      let b : (pairs (below B) es ≡ true) × (all (λ e. B .legal (e .key)) es ≡ true) = both _ _ h in
-      and _ _ (pairs-keep (below B) p es (b .0)) (in-all _ (keep p es) (λ e i. all-in _ es e (b .1) (in-keep p es e i .0)))
+      and-both _ _ (pairs-keep (below B) p es (and-left _ _ h))
+      (in-all _ (keep p es) (λ e i. all-in _ es e (and-right (pairs (below B) es) _ h) (keep-in p es e i .0)))
 
   ascending-map : (f : En B → En B) (es : Entries B) → ((e : En B) → f e .key ≡ e .key) → ascending B es ≡ true → ascending B (map f es) ≡ true
   unfolding ascending
-  ascending-map f es g h =
-      let b : (pairs (below B) es ≡ true) × (all (λ e. B .legal (e .key)) es ≡ true) = both _ _ h in
-      and _ _ (pairs-map f (below B) (below B) es (λ x y i j r. rw (g x, g y) r) (b .0))
-      (in-all _ (map f es) (λ y i. let w = in-map f es y i in rw (← w .2, g (w .0)) (all-in _ es (w .0) (b .1) (w .1))))
+  ascending-map f es g h = simp (pairs-map, all-map, g) h
 
   -- an entry changed or not, by something that keeps keys
   kept-key : (f : En B → En B) → ((e : En B) → f e .key ≡ e .key) → (b : Bool) (e : En B) → cond b (f e) e .key ≡ e .key
@@ -132,6 +123,9 @@ module _ (B : Book) where
   ascending-settled f t es g h =
       rw (settled-is f t es) (ascending-map (settledOne f t) (keep (stays f t) es) (λ e. kept-key f g (eqb (e .owner) t) e) (ascending-keep (stays f t) es h))
 
+  first-mapped : (g : En B → En B) (x : B .Key) (es : Entries B) → ((e : En B) → g e .key ≡ e .key) → atOrAbove x (map g es) ≡ Option·map g (atOrAbove x es)
+  first-mapped g x es h = simp (first-map, h)
+
   unmapped : (g : En B → En B) (o : Option (En B)) → ((e : En B) → o ≡ some e → g e ≡ e) → Option·map g o ≡ o
   unmapped g none h = refl
   unmapped g (some e) h = ap some (h e refl)
@@ -141,13 +135,13 @@ module _ (B : Book) where
       → ((e : En B) → atOrAbove x es ≡ some e → same B (e .key) k ≡ false) → atOrAbove x (changed B k f es) ≡ atOrAbove x es
   unfolding changed
   first-changed k f x es g h =
-      first-map (λ e. cond (same B (e .key) k) (f e) e) _ _ es (λ e. rw (kept-key f g (same B (e .key) k) e))
+      first-mapped _ x es (λ e. kept-key f g (same B (e .key) k) e)
       ∙ unmapped (λ e. cond (same B (e .key) k) (f e) e) (atOrAbove x es) (λ e q. rw (h e q))
 
   pub named-changed : (k : B .Key) (f : En B → En B) (x : B .Key) (es : Entries B) → ((e : En B) → f e .key ≡ e .key)
       → named B (atOrAbove x (changed B k f es)) ≡ named B (atOrAbove x es)
   unfolding changed
-  named-changed k f x es g = ap (named B) (first-map (λ e. cond (same B (e .key) k) (f e) e) _ _ es (λ e. rw (kept-key f g (same B (e .key) k) e))) ∙ go (atOrAbove x es)
+  named-changed k f x es g = ap (named B) (first-mapped _ x es (λ e. kept-key f g (same B (e .key) k) e)) ∙ go (atOrAbove x es)
     where
       go : (o : Option (En B)) → named B (Option·map (λ e. cond (same B (e .key) k) (f e) e) o) ≡ named B o
       go none = refl
@@ -156,7 +150,7 @@ module _ (B : Book) where
   pub first-settled : (f : En B → En B) (t : ℕ) (x : B .Key) (es : Entries B) → ((e : En B) → f e .key ≡ e .key)
       → ((e : En B) → atOrAbove x es ≡ some e → eqb (e .owner) t ≡ false) → atOrAbove x (settled f t es) ≡ atOrAbove x es
   first-settled f t x es g h = rw (settled-is f t es)
-      (first-map (settledOne f t) _ _ (keep (stays f t) es) (λ e. rw (kept-key f g (eqb (e .owner) t) e))
+      (first-mapped (settledOne f t) x (keep (stays f t) es) (λ e. kept-key f g (eqb (e .owner) t) e)
       ∙ ap (Option·map (settledOne f t)) (first-keep _ (stays f t) es (λ e q. rw (h e q)))
       ∙ unmapped (settledOne f t) (atOrAbove x es) (λ e q. rw (h e q)))
 
@@ -166,7 +160,7 @@ module _ (B : Book) where
 
     pub name-put : (e : En B) (es : Entries B) (n : Name (B .Key)) → isName B es n ≡ true → isName B (put B e es) n ≡ true
     name-put e es end h = refl
-    name-put e es (on k) h = let w = name-in es k h in in-name (put B e es) (w .0) k (put-in e es (w .0) (inr (w .1))) (rw (w .2) (same-itself B L k))
+    name-put e es (on k) h = let w = name-in es k h in in-name (put B e es) (w .0) k (in-put e es (w .0) (inr (w .1))) (rw (w .2) (same-itself B L k))
 
     pub name-changed : (k : B .Key) (f : En B → En B) (es : Entries B) (n : Name (B .Key)) → ((e : En B) → f e .key ≡ e .key) → isName B es n ≡ true
         → isName B (changed B k f es) n ≡ true
@@ -174,7 +168,7 @@ module _ (B : Book) where
     name-changed k f es end g h = refl
     name-changed k f es (on j) g h =
         let w = name-in es j h in
-        in-name (changed B k f es) _ j (map-in (λ e. cond (same B (e .key) k) (f e) e) es (w .0) (w .1)) (rw (kept-key f g (same B (w .0 .key) k) (w .0) ∙ w .2) (same-itself B L j))
+        in-name (changed B k f es) _ j (in-map (λ e. cond (same B (e .key) k) (f e) e) es (w .0) (w .1)) (rw (kept-key f g (same B (w .0 .key) k) (w .0) ∙ w .2) (same-itself B L j))
 
     -- e at or below x: below what x is below, and below x itself where the keys differ
     below-along : (e x y : En B) → atMost B (e .key) (x .key) ≡ true → below B x y ≡ true → below B e y ≡ true
@@ -200,15 +194,15 @@ module _ (B : Book) where
             (λ y i. ⊎-elim (λ z. subst (λ (v : En B). below B e v ≡ true) z (below-other e x q (m x (inl refl)))) (λ j. below-along e x y q (f y j)) i) h
         go false q f k =
             pairs-cons (below B) x (put B e xs)
-            (λ y i. ⊎-elim (λ z. subst (λ (v : En B). below B x v ≡ true) z (rw q)) (λ j. f y j) (in-put e xs y i)) k
+            (λ y i. ⊎-elim (λ z. subst (λ (v : En B). below B x v ≡ true) z (rw q)) (λ j. f y j) (put-in e xs y i)) k
 
     pub ascending-put : (e : En B) (es : Entries B) → ((x : En B) → In x es → same B (x .key) (e .key) ≡ false) → B .legal (e .key) ≡ true
         → ascending B es ≡ true → ascending B (put B e es) ≡ true
     unfolding ascending
     ascending-put e es m l h =
-        let b : (pairs (below B) es ≡ true) × (all (λ e. B .legal (e .key)) es ≡ true) = both _ _ h in
-        and _ _ (pairs-put e es m (b .0))
-        (in-all _ (put B e es) (λ y i. ⊎-elim (λ z. subst (λ (v : En B). B .legal (v .key) ≡ true) z l) (λ j. all-in _ es y (b .1) j) (in-put e es y i)))
+        and-both _ _ (pairs-put e es m (and-left _ _ h))
+        (in-all _ (put B e es) (λ y i. ⊎-elim (λ z. subst (λ (v : En B). B .legal (v .key) ≡ true) z l)
+        (λ j. all-in _ es y (and-right (pairs (below B) es) _ h) j) (put-in e es y i)))
 
     -- the first entry at or above k isn't k: k is missing
     pub missing : (es : Entries B) (k : B .Key) → ascending B es ≡ true → itself B k (atOrAbove k es) ≡ none
@@ -216,7 +210,7 @@ module _ (B : Book) where
     unfolding ascending
     missing es k h n e i = fails (same B (e .key) k) (λ q.
         let z : e .key ≡ k = same-equal B L (e .key) k q in
-        let w = first-least (λ x. atMost B k (x .key)) (below B) es e (both _ _ h .0) i (rw z (atMost-itself B L k)) in
+        let w = first-least (λ x. atMost B k (x .key)) (below B) es e (and-left _ _ h) i (rw z (atMost-itself B L k)) in
         found (w .0) (w .1) z (w .2))
       where
         found : (x : En B) → atOrAbove k es ≡ some x → e .key ≡ k → (x ≡ e) ⊎ (below B x e ≡ true) → ⊥

@@ -8,7 +8,8 @@ use mathlib.Core.List.{List, [], _∷_}
 use mathlib.Core.Option.{Option, none, some}
 use lib.ListN.{length}
 use Rattle.lists.specs.Lists.{In, isNil}
-use Rattle.lists.proofs.Elements.{both, never, nil-is, first-in, last-in}
+use Rattle.lists.proofs.Tests.{and-left, and-right, never, nil-is}
+use Rattle.lists.proofs.Elements.{first-in, last-in}
 use Rattle.rules.specs.Kinds.{Book, Ask, Request, begin, commit, rollback, ask}
 use Rattle.rules.specs.Entries.{committed, rolledBack}
 use Rattle.rules.specs.Queue.{St, Wait, waits, oldest, newest}
@@ -105,9 +106,7 @@ module _ (B : Book) where
     call-keeps s c m p = go (legalCall B c) refl
       where
         go : (b : Bool) → legalCall B c ≡ b → P (stateAfter B s (cond b (some (step B s (c .asker) (c .request))) none))
-        go true e =
-            let l : (isTransaction B (c .asker) ≡ true) × (legalRequest B (c .request) ≡ true) = both _ _ e in
-            step-keeps s (c .asker) (c .request) (l .0) (l .1) m p
+        go true e = step-keeps s (c .asker) (c .request) (and-left _ _ e) (and-right (isTransaction B (c .asker)) _ e) m p
         go false e = p
 
     pub after-keeps : (s : St B) (cs : List (Cl B)) → ((c : Cl B) → In c cs → MayEnd Ends (c .asker) (c .request)) → P s → P (after B s cs)

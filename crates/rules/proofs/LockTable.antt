@@ -10,7 +10,9 @@ use lib.Dec.{eqb}
 use lib.ListN.{length, length-map}
 use borrow.Author.Tests.{eqb-true, eqb-false, eq-eqb, ne-eqb, not-true}
 use Rattle.lists.specs.Lists.{keep, pairs, In, insertAt}
-use Rattle.lists.proofs.Elements.{both, and, fails, never, any-in, in-any, not-any, in-keep, keep-in, pairs-in, pairs-keep, pairs-insert, in-insert, insert-in, in-map, map-in, pairs-map}
+use Rattle.lists.proofs.Tests.{and-left, and-right, and-both, fails, eqb-turn, never}
+use Rattle.lists.proofs.Elements.{any-in, in-any, none-any, keep-in, in-keep, insertAt-in, in-insertAt, map-in, in-map}
+use Rattle.lists.proofs.Pairs.{pairs-in, pairs-weaker, pairs-keep, pairs-insertAt, pairs-map}
 use Rattle.rules.specs.Kinds.{Book, Ordered, Mode, S, X, Name}
 use Rattle.rules.specs.Locks.{Slots, conflict, stronger, inUse, sameName, isOf, holds, raised, behind, added, taken, freed, released}
 use Rattle.rules.specs.Good.{Lk, isX, together, holdsX}
@@ -144,7 +146,7 @@ module _ (B : Book) where
   pub held-kept : (ls ls′ : Slots B) (t : ℕ) (n : Name (B .Key)) (m : Mode) → Took ls ls′ t n m → (u : ℕ) (p : Name (B .Key)) (x : Mode) → Held ls u p x → Held ls′ u p x
   held-kept ls ls′ t n m (raisedIn e q z) u p x h = record {
     lock = raise t n m (h .lock);
-    stands = rw z (map-in (raise t n m) (inUse ls) (h .lock) (h .stands));
+    stands = rw z (in-map (raise t n m) (inUse ls) (h .lock) (h .stands));
     holder = h .holder;
     name = h .name;
     strong = go (isOf B t n (h .lock));
@@ -155,7 +157,7 @@ module _ (B : Book) where
       go false = h .strong
   held-kept ls ls′ t n m (putAt i e q z) u p x h = record {
     lock = h .lock;
-    stands = rw z (insert-in i (lockOf t n m) (inUse ls) (h .lock) (inr (h .stands)));
+    stands = rw z (in-insertAt i (lockOf t n m) (inUse ls) (h .lock) (inr (h .stands)));
     holder = h .holder;
     name = h .name;
     strong = h .strong;
@@ -166,15 +168,15 @@ module _ (B : Book) where
   unfolding released
   released-length t ls = length-map ls (freed B t)
 
-  pub in-released : (t : ℕ) (ls : Slots B) (l : Lk B) → In l (inUse (released B t ls)) → In l (inUse ls) × (l .holder ≡ t → ⊥)
-  in-released t ls l i =
-      let w = in-keep (isOthers t) (inUse ls) l (rw (released-is t ls) at i) in
+  pub released-in : (t : ℕ) (ls : Slots B) (l : Lk B) → In l (inUse (released B t ls)) → In l (inUse ls) × (l .holder ≡ t → ⊥)
+  released-in t ls l i =
+      let w = keep-in (isOthers t) (inUse ls) l (rw (released-is t ls) at i) in
       (w .0, eqb-false (l .holder) t (not-true (eqb (l .holder) t) (w .1)))
 
   pub held-released : (t : ℕ) (ls : Slots B) (u : ℕ) (n : Name (B .Key)) (m : Mode) → (u ≡ t → ⊥) → Held ls u n m → Held (released B t ls) u n m
   held-released t ls u n m o h = record {
     lock = h .lock;
-    stands = rw (released-is t ls) (keep-in (isOthers t) (inUse ls) (h .lock) (h .stands) (rw (ne-eqb (h .lock .holder) t (λ z. o (sym (h .holder) ∙ z)))));
+    stands = rw (released-is t ls) (in-keep (isOthers t) (inUse ls) (h .lock) (h .stands) (rw (ne-eqb (h .lock .holder) t (λ z. o (sym (h .holder) ∙ z)))));
     holder = h .holder;
     name = h .name;
     strong = h .strong;
@@ -185,12 +187,10 @@ module _ (B : Book) where
 
   module _ (L : Ordered (B .Key) (B .compare)) where
     is-of : (t : ℕ) (n : Name (B .Key)) (l : Lk B) → l .holder ≡ t → l .name ≡ n → isOf B t n l ≡ true
-    is-of t n l p q = and _ _ (eq-eqb (l .holder) t p) (rw q (name-itself B L n))
+    is-of t n l p q = and-both _ _ (eq-eqb (l .holder) t p) (rw q (name-itself B L n))
 
     of-is : (t : ℕ) (n : Name (B .Key)) (l : Lk B) → isOf B t n l ≡ true → (l .holder ≡ t) × (l .name ≡ n)
-    of-is t n l h =
-        let b : (eqb (l .holder) t ≡ true) × (sameName B (l .name) n ≡ true) = both _ _ h in
-        (eqb-true (l .holder) t (b .0), name-equal B L (l .name) n (b .1))
+    of-is t n l h = (eqb-true (l .holder) t (and-left _ _ h), name-equal B L (l .name) n (and-right (eqb (l .holder) t) _ h))
 
     pub holds-held : (ls : Slots B) (t : ℕ) (n : Name (B .Key)) → holds B ls t n ≡ true → Held ls t n S
     holds-held ls t n h =
@@ -204,14 +204,13 @@ module _ (B : Book) where
     pub holdsX-held : (ls : Slots B) (t : ℕ) (n : Name (B .Key)) → holdsX B ls t n ≡ true → Held ls t n X
     holdsX-held ls t n h =
         let w = any-in (λ l. isOf B t n l && isX (l .mode)) (inUse ls) h in
-        let b : (isOf B t n (w .0) ≡ true) × (isX (w .0 .mode) ≡ true) = both _ _ (w .2) in
-        let o = of-is t n (w .0) (b .0) in
-        record { lock = w .0; stands = w .1; holder = o .0; name = o .1; strong = x-strong (w .0 .mode) (b .1) }
+        let o = of-is t n (w .0) (and-left _ _ (w .2)) in
+        record { lock = w .0; stands = w .1; holder = o .0; name = o .1; strong = x-strong (w .0 .mode) (and-right (isOf B t n (w .0)) _ (w .2)) }
 
     pub held-holdsX : (ls : Slots B) (t : ℕ) (n : Name (B .Key)) → Held ls t n X → holdsX B ls t n ≡ true
     held-holdsX ls t n h =
         in-any (λ l. isOf B t n l && isX (l .mode)) (inUse ls) (h .lock) (h .stands)
-        (and _ _ (is-of t n (h .lock) (h .holder) (h .name)) (strong-x (h .lock .mode) (h .strong)))
+        (and-both _ _ (is-of t n (h .lock) (h .holder) (h .name)) (strong-x (h .lock .mode) (h .strong)))
 
     -- two locks on one name: other holders, and modes that go together
     abbrev Apart : Lk B → Lk B → Type 0
@@ -221,8 +220,7 @@ module _ (B : Book) where
     unfolding together
     together-apart k l h e =
         let c : not (eqb (k .holder) (l .holder)) && not (conflict (k .mode) (l .mode)) ≡ true = rw (e, name-itself B L (l .name)) at h in
-        let b : (not (eqb (k .holder) (l .holder)) ≡ true) × (not (conflict (k .mode) (l .mode)) ≡ true) = both _ _ c in
-        (not-true _ (b .0), not-true _ (b .1))
+        (not-true _ (and-left _ _ c), not-true _ (and-right (not (eqb (k .holder) (l .holder))) _ c))
 
     apart-together : (k l : Lk B) → (k .name ≡ l .name → Apart k l) → together B k l ≡ true
     unfolding together
@@ -233,7 +231,7 @@ module _ (B : Book) where
         go false q = refl
 
     apart-turn : (k l : Lk B) → Apart k l → Apart l k
-    apart-turn k l a = (ne-eqb (l .holder) (k .holder) (λ z. eqb-false (k .holder) (l .holder) (a .0) (sym z)), conflict-turn (l .mode) (k .mode) ∙ a .1)
+    apart-turn k l a = (eqb-turn (l .holder) (k .holder) ∙ a .0, conflict-turn (l .mode) (k .mode) ∙ a .1)
 
     -- W2 in use: whoever is on a name that t holds in X is t
     pub alone : (ls : Slots B) (t : ℕ) (n : Name (B .Key)) → pairs (together B) (inUse ls) ≡ true → Held ls t n X
@@ -250,13 +248,13 @@ module _ (B : Book) where
 
     -- a lock taken
     module _ (ls ls′ : Slots B) (t : ℕ) (n : Name (B .Key)) (m : Mode) where
-      pub in-took : Took ls ls′ t n m → (l : Lk B) → In l (inUse ls′) → In l (inUse ls) ⊎ ((l .holder ≡ t) × (l .name ≡ n))
-      in-took (raisedIn e h z) l i = let w = in-map (raise t n m) (inUse ls) l (rw z at i) in go (w .0) (w .1) (w .2) (isOf B t n (w .0)) refl
+      pub took-in : Took ls ls′ t n m → (l : Lk B) → In l (inUse ls′) → In l (inUse ls) ⊎ ((l .holder ≡ t) × (l .name ≡ n))
+      took-in (raisedIn e h z) l i = let w = map-in (raise t n m) (inUse ls) l (rw z at i) in go (w .0) (w .1) (w .2) (isOf B t n (w .0)) refl
         where
           go : (k : Lk B) → In k (inUse ls) → raise t n m k ≡ l → (b : Bool) → isOf B t n k ≡ b → In l (inUse ls) ⊎ ((l .holder ≡ t) × (l .name ≡ n))
           go k j y true q = let o = of-is t n k q in inr (ap (λ (x : Lk B). x .holder) (sym y) ∙ o .0, ap (λ (x : Lk B). x .name) (sym y) ∙ o .1)
           go k j y false q = inl (subst (λ (x : Lk B). In x (inUse ls)) (rw q at y) j)
-      in-took (putAt j e h z) l i = go (in-insert j (lockOf t n m) (inUse ls) l (rw z at i))
+      took-in (putAt j e h z) l i = go (insertAt-in j (lockOf t n m) (inUse ls) l (rw z at i))
         where
           go : (lockOf t n m ≡ l) ⊎ In l (inUse ls) → In l (inUse ls) ⊎ ((l .holder ≡ t) × (l .name ≡ n))
           go (inl y) = inr (ap (λ (x : Lk B). x .holder) (sym y), ap (λ (x : Lk B). x .name) (sym y))
@@ -265,14 +263,14 @@ module _ (B : Book) where
       pub held-took : Took ls ls′ t n m → Held ls′ t n m
       held-took (raisedIn e q z) = let h = holds-held ls t n q in record {
         lock = raise t n m (h .lock);
-        stands = rw z (map-in (raise t n m) (inUse ls) (h .lock) (h .stands));
+        stands = rw z (in-map (raise t n m) (inUse ls) (h .lock) (h .stands));
         holder = h .holder;
         name = h .name;
         strong = rw (is-of t n (h .lock) (h .holder) (h .name)) (stronger-has (h .lock .mode) m);
       }
       held-took (putAt i e q z) = record {
         lock = lockOf t n m;
-        stands = rw z (insert-in i (lockOf t n m) (inUse ls) (lockOf t n m) (inl refl));
+        stands = rw z (in-insertAt i (lockOf t n m) (inUse ls) (lockOf t n m) (inl refl));
         holder = refl;
         name = refl;
         strong = stronger-has S m;
@@ -300,13 +298,13 @@ module _ (B : Book) where
 
         new-apart : holds B ls t n ≡ false → (l : Lk B) → In l (inUse ls) → l .name ≡ n → Apart l (lockOf t n m)
         new-apart q l i z =
-            let o : l .holder ≡ t → ⊥ = λ y. true≢false (sym (is-of t n l y z) ∙ not-any (isOf B t n) (inUse ls) l q i) in
+            let o : l .holder ≡ t → ⊥ = λ y. true≢false (sym (is-of t n l y z) ∙ none-any (isOf B t n) (inUse ls) l q i) in
             (ne-eqb (l .holder) t o, clear-of l i z o)
 
         pub took-together : Took ls ls′ t n m → pairs (together B) (inUse ls) ≡ true → pairs (together B) (inUse ls′) ≡ true
-        took-together (raisedIn e q z) h = rw z (pairs-map (raise t n m) (together B) (together B) (inUse ls)
+        took-together (raisedIn e q z) h = rw (z, pairs-map) (pairs-weaker (together B) _ (inUse ls)
             (λ x y i j r. apart-together (raise t n m x) (raise t n m y) (λ v. raised-apart x y i j v (together-apart x y r v))) h)
-        took-together (putAt i e q z) h = rw z (pairs-insert (together B) i (lockOf t n m) (inUse ls) h (λ y j. (
+        took-together (putAt i e q z) h = rw z (pairs-insertAt (together B) i (lockOf t n m) (inUse ls) h (λ y j. (
           apart-together (lockOf t n m) y (λ v. apart-turn y (lockOf t n m) (new-apart q y j (sym v))),
           apart-together y (lockOf t n m) (λ v. new-apart q y j v),
         )))

@@ -6,10 +6,11 @@ use mathlib.Core.Bool.{Bool, true, false, cond, not}
 use mathlib.Core.List.{List, [], _∷_}
 use mathlib.Core.Option.{Option, none, some, Option·none-ne-some, Option·some-injective}
 use native.Mathlib.Omega.{arith}
-use borrow.Author.Tests.{eq-eqb, ne-eqb, eqb-false, not-true}
+use borrow.Author.Tests.{eq-eqb}
 use lib.Dec.{eqb}
 use lib.ListN.{length}
 use Rattle.lists.specs.Lists.{In, pairs}
+use Rattle.lists.proofs.Tests.{eqb-turn}
 use Rattle.lists.proofs.Finite.{keep-shorter, keep-but-one}
 use Rattle.rules.specs.Kinds.{Book, Request, begin, commit, rollback, ask}
 use Rattle.rules.specs.Entries.{committed, rolledBack}
@@ -61,8 +62,7 @@ module _ (B : Book) where
       let a = l .request .asker in
       subst (λ qs. suc (length qs) ≡ length (s .queue)) (sym (l .queue))
       (keep-but-one (otherAsker B) (λ q. not (eqb (q .asker) a)) (s .queue) (l .request) d
-      (λ q e. ap not (ne-eqb (q .asker) a (λ same. eqb-false a (q .asker) (not-true (eqb a (q .asker)) e) (sym same))))
-      (λ q e. e) (l .queued) (ap not (eq-eqb a a refl)))
+      (λ q e. ap not (eqb-turn (q .asker) a) ∙ e) (λ q e. e) (l .queued) (ap not (eq-eqb a a refl)))
 
   -- with nobody queued there is no turn
   pub empty-rests : (s : St B) → length (s .queue) ≤ 0 → AtRest B s

@@ -14,8 +14,8 @@ use Rattle.rules.specs.Locks.{Slots, inUse, released}
 use Rattle.rules.specs.Runs.{En}
 use Rattle.rules.specs.Good.{Lk, ascending, isName, together, Settled}
 use Rattle.rules.proofs.Keys.{same-equal, same-itself}
-use Rattle.rules.proofs.Index.{in-settled, settled-other, in-put, put-in, in-changed, in-name, name-in, name-put, name-changed, ascending-changed, ascending-settled, ascending-put}
-use Rattle.rules.proofs.LockTable.{Held, Clear, alone, Took, took-length, in-took, held-kept, held-took, took-together, released-length, in-released, held-released, released-together}
+use Rattle.rules.proofs.Index.{settled-in, settled-other, put-in, in-put, changed-in, in-name, name-in, name-put, name-changed, ascending-changed, ascending-settled, ascending-put}
+use Rattle.rules.proofs.LockTable.{Held, Clear, alone, Took, took-length, took-in, held-kept, held-took, took-together, released-length, released-in, held-released, released-together}
 
 -- what an end makes of an entry of its transaction's
 pub record Settles (B : Book) (f : En B → En B) : Type 0 where
@@ -72,7 +72,7 @@ module _ (B : Book) where
       slots = took-length B ls ls′ t n m e ∙ h .slots;
       keys = h .keys;
       settled = h .settled;
-      names = λ l i. ⊎-elim (h .names l) (λ w. (rw (w .0) g, rw (w .1) k)) (in-took B L ls ls′ t n m e l i);
+      names = λ l i. ⊎-elim (h .names l) (λ w. (rw (w .0) g, rw (w .1) k)) (took-in B L ls ls′ t n m e l i);
       modes = took-together B L ls ls′ t n m c e (h .modes);
       owners = λ x i. ⊎-elim inl (λ w. inr (w .0, held-kept B ls ls′ t n m e (x .owner) (on (x .key)) X (w .1))) (h .owners x i);
     }
@@ -85,8 +85,8 @@ module _ (B : Book) where
       modes = h .modes;
       keys = ascending-changed B k f es (c .key) (h .keys);
       names = λ l i. let w = h .names l i in (w .0, name-changed B L k f es (l .name) (c .key) (w .1));
-      owners = λ y i. ⊎-elim (h .owners y) own (in-changed B k f es y i);
-      settled = λ y i o. ⊎-elim (λ j. h .settled y j o) (λ w. absurd (z (sym (c .owner (w .0)) ∙ ap (λ (e : En B). e .owner) (w .3) ∙ o))) (in-changed B k f es y i);
+      owners = λ y i. ⊎-elim (h .owners y) own (changed-in B k f es y i);
+      settled = λ y i o. ⊎-elim (λ j. h .settled y j o) (λ w. absurd (z (sym (c .owner (w .0)) ∙ ap (λ (e : En B). e .owner) (w .3) ∙ o))) (changed-in B k f es y i);
     }
       where
         own : {y : En B} → ((e : En B) × In e es × (same B (e .key) k ≡ true) × (f e ≡ y)) → OwnerHolds r ls y
@@ -99,11 +99,11 @@ module _ (B : Book) where
       slots = took-length B ls ls′ t (on k) X e ∙ h .slots;
       keys = ascending-put B L new es m l (h .keys);
       names = λ x i. ⊎-elim (λ j. let w = h .names x j in (w .0, name-put B L new es (x .name) (w .1)))
-          (λ w. (rw (w .0) g, rw (w .1) (in-name B (put B new es) new k (put-in B new es new (inl refl)) (same-itself B L k)))) (in-took B L ls ls′ t (on k) X e x i);
+          (λ w. (rw (w .0) g, rw (w .1) (in-name B (put B new es) new k (in-put B new es new (inl refl)) (same-itself B L k)))) (took-in B L ls ls′ t (on k) X e x i);
       modes = took-together B L ls ls′ t (on k) X free e (h .modes);
       owners = λ y i. ⊎-elim (λ q. subst (OwnerHolds r ls′) q (inr (g, held-took B L ls ls′ t (on k) X e)))
-          (λ j. ⊎-elim inl (λ w. inr (w .0, held-kept B ls ls′ t (on k) X e (y .owner) (on (y .key)) X (w .1))) (h .owners y j)) (in-put B new es y i);
-      settled = λ y i o. ⊎-elim (λ q. absurd (z (ap (λ (e : En B). e .owner) q ∙ o))) (λ j. h .settled y j o) (in-put B new es y i);
+          (λ j. ⊎-elim inl (λ w. inr (w .0, held-kept B ls ls′ t (on k) X e (y .owner) (on (y .key)) X (w .1))) (h .owners y j)) (put-in B new es y i);
+      settled = λ y i o. ⊎-elim (λ q. absurd (z (ap (λ (e : En B). e .owner) q ∙ o))) (λ j. h .settled y j o) (put-in B new es y i);
     }
       where
         new : En B
@@ -120,12 +120,12 @@ module _ (B : Book) where
     sound-ended r r′ es ls t f z c g h = record {
       slots = released-length B t ls ∙ h .slots;
       keys = ascending-settled B f t es (c .key) (h .keys);
-      names = λ l i. let w = in-released B t ls l i in let n = h .names l (w .0) in (g (l .holder) (w .1) (n .0), still l (w .0) (w .1) (l .name) refl (n .1));
+      names = λ l i. let w = released-in B t ls l i in let n = h .names l (w .0) in (g (l .holder) (w .1) (n .0), still l (w .0) (w .1) (l .name) refl (n .1));
       modes = released-together B t ls (h .modes);
       owners = λ y i. ⊎-elim (λ w. others y (eqb-false (y .owner) t (w .1)) (h .owners y (w .0)))
-          (λ w. inl (ap (λ (e : En B). e .owner) (sym (w .4)) ∙ c .owner (w .0))) (in-settled f t es y i);
+          (λ w. inl (ap (λ (e : En B). e .owner) (sym (w .4)) ∙ c .owner (w .0))) (settled-in f t es y i);
       settled = λ y i o. ⊎-elim (λ w. h .settled y (w .0) o)
-          (λ w. subst (Settled B) (w .4) (record { isThere = w .3; equal = c .equal (w .0) })) (in-settled f t es y i);
+          (λ w. subst (Settled B) (w .4) (record { isThere = w .3; equal = c .equal (w .0) })) (settled-in f t es y i);
     }
       where
         others : (y : En B) → (y .owner ≡ t → ⊥) → OwnerHolds r ls y → OwnerHolds r′ (released B t ls) y

@@ -8,7 +8,8 @@ use mathlib.Core.List.{[]}
 use mathlib.Core.Option.{none, some}
 use borrow.Author.Tests.{eqb-true}
 use Rattle.lists.specs.Lists.{pairs, In}
-use Rattle.lists.proofs.Elements.{both, either, all-in}
+use Rattle.lists.proofs.Tests.{and-left, and-right, either}
+use Rattle.lists.proofs.Elements.{all-in}
 use Rattle.rules.specs.Kinds.{Book, Ordered, Mode, S, X, on, Ask}
 use Rattle.rules.specs.Entries.{isThere, deleted, revived}
 use Rattle.rules.specs.Locks.{Slots, inUse, target, Want, wanted}
@@ -30,7 +31,10 @@ module _ (B : Book) where
 
   pub good-queues : (s : St B) → Good B s → Queues s
   unfolding queueStands
-  good-queues s g = record { askers = g .askers; queued = λ q i. both _ _ (all-in (queueStands B s) (s .queue) q (g .queued) i) }
+  good-queues s g = record {
+    askers = g .askers;
+    queued = λ q i. let h = all-in (queueStands B s) (s .queue) q (g .queued) i in (and-left _ _ h, and-right (runs B s (q .asker)) _ h);
+  }
 
 module _ (B : Book) (L : Ordered (B .Key) (B .compare)) where
   pub good-sound : (s : St B) → Good B s → Sound B (runs B s) (s .entries) (s .slots)
@@ -40,9 +44,9 @@ module _ (B : Book) (L : Ordered (B .Key) (B .compare)) where
     keys = g .keys;
     modes = g .modes;
     settled = g .settled;
-    names = λ l i. both _ _ (all-in (lockStands B s) (inUse (s .slots)) l (g .names) i);
+    names = λ l i. let h = all-in (lockStands B s) (inUse (s .slots)) l (g .names) i in (and-left _ _ h, and-right (runs B s (l .holder)) _ h);
     owners = λ e i. ⊎-elim (λ z. inl (eqb-true (e .owner) 0 z))
-        (λ w. let b = both (runs B s (e .owner)) _ w in inr (b .0, holdsX-held B L (s .slots) (e .owner) (on (e .key)) (b .1)))
+        (λ w. inr (and-left _ _ w, holdsX-held B L (s .slots) (e .owner) (on (e .key)) (and-right (runs B s (e .owner)) _ w)))
         (either _ _ (all-in (ownerHolds B s) (s .entries) e (g .owners) i));
   }
 

@@ -12,7 +12,8 @@ use borrow.Author.Tests.{not-true, leb-true, le-leb}
 use lib.Dec.{eqb, leb}
 use lib.ListN.{length, List·getD-eq-default}
 use Rattle.lists.specs.Lists.{keep, In, isNil}
-use Rattle.lists.proofs.Finite.{and-left, and-right, and-both, all-in, append-in, keep-in, first-in, none-first, last-in, none-last, in-tab, map-in}
+use Rattle.lists.proofs.Tests.{and-left, and-right, and-both}
+use Rattle.lists.proofs.Elements.{all-in, first-in, none-first, last-in, none-last, append-in, keep-in, in-tab, map-in}
 use Rattle.rules.specs.Kinds.{Book, idle}
 use Rattle.rules.specs.Entries.{Entries}
 use Rattle.rules.specs.Locks.{Slots, Want, wanted, inUse, sameName, conflict, clash, holds, holders, earlier, blockers}

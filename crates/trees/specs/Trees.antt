@@ -3,8 +3,8 @@
 -- Assumes nothing.
 use Prim.Native.Nat.{ℕ, zero, suc, _+_, _≤_, Ordering}
 use mathlib.Core.Path.{_≡_}
-use mathlib.Core.Bool.{Bool, true, false, cond, not, _&&_}
-use mathlib.Core.List.{List, [], _∷_, map}
+use mathlib.Core.Bool.{Bool, true, cond, not, _&&_}
+use mathlib.Core.List.{List, [], _∷_}
 use mathlib.Core.Option.{Option, none, some}
 use lib.Dec.{isLe, isEq, leb, eqb}
 use lib.ListN.{length}
@@ -78,7 +78,7 @@ module _ (K A : Type 0) where
       (leb least (length (t .holds)) && leb (length (t .holds)) (Z .innerMost))
       && all (λ c. counted Z (Z .fewest) n (c .tree)) (t .holds)
 
-module _ {K A : Type 0} (compare : K → K → Ordering) (key : A → K) where
+module _ {K : Type 0} (compare : K → K → Ordering) where
   abbrev pub atMost : K → K → Bool
   atMost a b = isLe (compare a b)
 
@@ -102,11 +102,12 @@ module _ {K A : Type 0} (compare : K → K → Ordering) (key : A → K) where
   firstLow lowest [] = true
   firstLow lowest (c ∷ cs) = isEq (compare (c .low) lowest)
 
+module _ {K A : Type 0} (compare : K → K → Ordering) (key : A → K) where
   -- "keys, and separators after a page's first, strictly ascending and in that page's range"
   unfoldable pub ranged : K → (n : ℕ) → K → Option K → Tree K A n → Bool
   ranged lowest zero lo hi t =
-      all (λ a. atMost lo (key a) && inside (key a) hi) (t .holds) && pairs (λ a b. under (key a) (key b)) (t .holds)
-  ranged lowest (suc n) lo hi t = firstLow lowest (t .holds) && ranges (ranged lowest n) lo hi (t .holds)
+      all (λ a. atMost compare lo (key a) && inside compare (key a) hi) (t .holds) && pairs (λ a b. under compare (key a) (key b)) (t .holds)
+  ranged lowest (suc n) lo hi t = firstLow compare lowest (t .holds) && ranges compare (ranged lowest n) lo hi (t .holds)
 
   -- the tree's part of "Whole": what document 01 asks of the pages of an index. `top` is the end where the end is a key's value: "none of
   -- them the end".
@@ -116,13 +117,11 @@ module _ {K A : Type 0} (compare : K → K → Ordering) (key : A → K) where
     pub keys : ranged lowest (x .level) lowest top (x .tree) ≡ true
     pub room : x .used ≤ Z .pages
 
--- What the sizes have to be for a divided page to be whole on both sides.
+-- What the sizes have to be for a divided page to be whole on both sides, and for a fresh index to fit.
 pub record Fair (Z : Sizes) : Type 0 where
-  pub leafLeft : Z .leafStay ≤ Z .leafMost
   pub leafSome : 1 ≤ Z .leafStay
-  pub leafRight : suc (Z .leafMost) ≤ Z .leafStay + Z .leafMost
-  pub innerLeft : Z .innerStay ≤ Z .innerMost
+  pub leafLeft : Z .leafStay ≤ Z .leafMost
   pub innerEnough : Z .fewest ≤ Z .innerStay
-  pub innerRight : suc (Z .innerMost) ≤ Z .innerStay + Z .innerMost
   pub innerMoved : Z .innerStay + Z .fewest ≤ suc (Z .innerMost)
   pub fewestSome : 2 ≤ Z .fewest
+  pub fresh : 2 ≤ Z .pages

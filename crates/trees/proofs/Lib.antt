@@ -1,0 +1,16 @@
+pub mod Keys
+pub mod Spots
+pub mod Places
+pub mod Pages
+pub mod Counts
+pub mod Need
+pub mod Sorted
+pub mod Ranges
+pub mod Order
+pub mod Wholes
+pub mod Thinning
+pub mod Shaped
+pub mod Settling
+pub mod Refill
+pub mod Searches
+pub mod Example
