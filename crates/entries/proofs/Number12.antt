@@ -8,7 +8,7 @@ use mathlib.Core.List.{List}
 use mathlib.Core.Option.{none, some, Option·none-ne-some, Option·some-injective}
 use lib.Dec.{leb, ltb}
 use borrow.Author.Tests.{ltb-true, leb-true, lt-leb, not-false}
-use Rattle.lists.proofs.Elements.{both, either, or-left, or-right}
+use Rattle.lists.proofs.Tests.{and-left, and-right, either, or-left, or-right}
 use Rattle.numbers.specs.Numbers.{numberAt, fieldsAt, Bytes}
 use Rattle.numbers.proofs.Numbers.{number-below}
 use Rattle.rules.specs.Kinds.{Paging, Ask, read, insert, delete, Request, begin, commit, rollback, ask, Call}
@@ -144,9 +144,9 @@ request-fits : (s : List ℕ) → Bytes s → (k : ℕ) → (leb 1 k && leb k 6)
 unfolding legalRequest legalAsk requests forms fieldsAt
 request-fits s f =
     each-kind (λ k. legalRequest (document endless) (requestBy k s) ≡ true → RequestFits (requestBy k s)) (λ h. tt) (λ h. tt) (λ h. tt)
-    (λ h. let p = both (ltb lo endMark && ltb hi endMark) (leb lo hi) h in
-    let q = both (ltb lo endMark) (ltb hi endMark) (p .0) in
-    (ltb-true lo endMark (q .0), (ltb-true hi endMark (q .1), leb-true lo hi (p .1))))
+    (λ h. let keys = and-left (ltb lo endMark && ltb hi endMark) (leb lo hi) h in
+    let order = and-right (ltb lo endMark && ltb hi endMark) (leb lo hi) h in
+    (ltb-true lo endMark (and-left (ltb lo endMark) (ltb hi endMark) keys), (ltb-true hi endMark (and-right (ltb lo endMark) (ltb hi endMark) keys), leb-true lo hi order)))
     (λ h. (ltb-true lo endMark h, number-below 4 s 16 f)) (λ h. ltb-true lo endMark h)
   where
     lo : ℕ
@@ -158,14 +158,16 @@ request-fits s f =
 good-fits : (s : List ℕ) → Bytes s → isBad s ≡ false → CallFits (callIn s)
 unfolding isBad
 good-fits s f e =
-    let l = both (isTransaction (document endless) (callIn s .asker)) (legalRequest (document endless) (callIn s .request)) (good-legal s e) in
-    let t = both (leb 1 (callIn s .asker)) (leb (callIn s .asker) 16) (l .0) in
+    let t = callIn s .asker in
+    let r = callIn s .request in
+    let known = and-left (isTransaction (document endless) t) (legalRequest (document endless) r) (good-legal s e) in
+    let legal = and-right (isTransaction (document endless) t) (legalRequest (document endless) r) (good-legal s e) in
     let h = shaped s (misshapen s) refl (neither (misshapen s) (filled s) (neither (misshapen s || filled s) (illegal s) e .0) .0) in
     let q = asked (kindIn s) s (kindIn s) refl refl in
     record {
-      low = leb-true 1 (callIn s .asker) (t .0);
-      high = leb-true (callIn s .asker) 16 (t .1);
-      request = subst RequestFits q (request-fits s f (kindIn s) (h .known) (ap (legalRequest (document endless)) q ∙ l .1));
+      low = leb-true 1 t (and-left (leb 1 t) (leb t 16) known);
+      high = leb-true t 16 (and-right (leb 1 t) (leb t 16) known);
+      request = subst RequestFits q (request-fits s f (kindIn s) (h .known) (ap (legalRequest (document endless)) q ∙ legal));
     }
 
 pub heard-fits : (s : List ℕ) (c : Call ℕ ℕ) → Bytes s → heard s ≡ some c → CallFits c
