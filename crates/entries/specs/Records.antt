@@ -69,7 +69,7 @@ illegal s = not (legalCall (document endless) (callIn s))
 abbrev pub misshapen : List ℕ → Bool
 misshapen s = ((short s || unlikeSlice s) || unlikeKind s) || unknownKind s
 
--- a record that is not: it has a head, its length is that of the slice and of its kind, and its kind is one of the six
+-- one that is not misshapen: it has a head, its length is that of the slice and of its kind, and its kind is one of the six
 pub record Shaped (s : List ℕ) : Type 0 where
   pub head : 8 ≤ length s
   pub slice : numberAt 2 s 0 ≡ length s
