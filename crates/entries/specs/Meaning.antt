@@ -1,12 +1,14 @@
 -- What the code's values mean in the rule book. Each map is one to one, so a promise about what a value means says which value it is.
 -- Assumes nothing.
 use Prim.Native.Nat.{ℕ}
-use mathlib.Core.Bool.{Bool, cond}
+use mathlib.Core.Path.{_≡_}
+use mathlib.Core.Bool.{cond}
 use mathlib.Core.Option.{Option, none, some}
 use lib.Dec.{eqb}
 use Rattle.rules.specs.Kinds as K
 use Rattle.rules.specs.Runs as R
 use Rattle.rules.specs.Document.{endMark}
+use Rattle.entries.specs.Records.{orZero}
 use Rattle.entries.specs.declared.Key.{Key}
 use Rattle.entries.specs.declared.Value.{Value}
 use Rattle.entries.specs.declared.Value.the-variants.{Present, Absent}
@@ -20,6 +22,7 @@ use Rattle.entries.specs.declared.Heard.{Heard}
 use Rattle.entries.specs.declared.Heard.the-variants.{Good, Bad}
 use Rattle.entries.specs.declared.Says.{Says}
 use Rattle.entries.specs.declared.Says.the-variants.{Done, Found, Nothing, Waiting, RunsAlready, RunsNot, WaitsAlready, IsPresent, LocksShort, PagesShort, Circle}
+use Rattle.entries.specs.declared.Paper.{Paper}
 use Rattle.entries.specs.declared.Answer.{Answer}
 
 -- the end mark as a lock's name: a case of its own in the rule book
@@ -66,3 +69,9 @@ bookSays Circle = R.circle
 
 abbrev pub bookAnswer : Answer → R.Answer ℕ ℕ
 bookAnswer a = record { asker = a .asker; says = bookSays (a .says) }
+
+-- the rule book's paper as it stands in bytes: what is none is 0
+pub record OnPaper (p : R.Paper ℕ ℕ) (r : Paper) : Type 0 where
+  pub number : r .number ≡ p .number
+  pub key : r .key .0 ≡ orZero (p .key)
+  pub rec : r .rec ≡ orZero (p .rec)

@@ -1,13 +1,14 @@
 -- Document 01, "Records and pages": the request record and when it is bad (number 12), and the answer record. Assumes nothing.
-use Prim.Native.Nat.{ℕ, _-_, _+_}
-use mathlib.Core.Bool.{Bool, cond, not, _||_, _&&_}
+use Prim.Native.Nat.{ℕ, _+_, _≤_}
+use mathlib.Core.Path.{_≡_}
+use mathlib.Core.Bool.{Bool, true, cond, not, _||_, _&&_}
 use mathlib.Core.List.{List, [], _∷_}
 use mathlib.Core.Option.{Option, none, some}
 use lib.Dec.{eqb, leb, ltb}
 use lib.ListN.{length, getD}
 use Rattle.numbers.specs.Numbers.{numberAt, widthOf, fieldsAt, putFields}
-use Rattle.rules.specs.Kinds.{Ask, read, insert, delete, Request, begin, commit, rollback, ask, Call}
-use Rattle.rules.specs.Runs.{Says, Paper, paper, Answer}
+use Rattle.rules.specs.Kinds.{read, insert, delete, Request, begin, commit, rollback, ask, Call}
+use Rattle.rules.specs.Runs.{paper, Answer}
 use Rattle.rules.specs.Desk.{legalCall}
 use Rattle.rules.specs.Document.{document, endless}
 
@@ -64,8 +65,19 @@ filled s = not (eqb (getD (fieldsIn s) 3 0) 0) || not (eqb (getD (fieldsIn s) 6 
 abbrev pub illegal : List ℕ → Bool
 illegal s = not (legalCall (document endless) (callIn s))
 
+-- no record of a kind that there is, whatever its fields hold
+abbrev pub misshapen : List ℕ → Bool
+misshapen s = ((short s || unlikeSlice s) || unlikeKind s) || unknownKind s
+
+-- one that is not misshapen: it has a head, its length is that of the slice and of its kind, and its kind is one of the six
+pub record Shaped (s : List ℕ) : Type 0 where
+  pub head : 8 ≤ length s
+  pub slice : numberAt 2 s 0 ≡ length s
+  pub kind : numberAt 2 s 0 ≡ widthOf (formOf (kindIn s))
+  pub known : (leb 1 (kindIn s) && leb (kindIn s) 6) ≡ true
+
 unfoldable pub isBad : List ℕ → Bool
-isBad s = ((((short s || unlikeSlice s) || unlikeKind s) || unknownKind s) || filled s) || illegal s
+isBad s = (misshapen s || filled s) || illegal s
 
 -- the call that a slice is, or none: number 12
 unfoldable pub heard : List ℕ → Option (Call ℕ ℕ)

@@ -1,13 +1,17 @@
 // Keys, entries, requests and answers as values, and requests and answers as records.
 // (Document 01, "Keys and entries", "What the desk says", "Records and pages".)
 ghost use mathlib.Core.Path.{_≡_};
-ghost use mathlib.Core.Option.{some, none};
-ghost use Prim.Native.Nat.{ℕ, _+_, _<_, _≤_};
+ghost use mathlib.Core.Bool.{true, false};
+ghost use Prim.Native.Nat.{_+_, _<_, _≤_};
 ghost use lib.Dec.{leb, eqb, ltb};
-ghost use Rattle.rules.specs.Entries.{committed, rolledBack, deleted, revived, inserted, ghost};
-ghost use Rattle.rules.specs.Document.{endMark};
-ghost use Rattle.entries.specs.Meaning.{bookEntry, bookValue, bookHeard, bookAnswer};
-ghost use Rattle.entries.specs.Records.{heard, putAnswer};
+ghost use Rattle.numbers.specs.Numbers.{numberAt};
+ghost use Rattle.rules.specs.Kinds.{read, insert, delete};
+ghost use Rattle.rules.specs.Entries.{isThere, committed, rolledBack, deleted, revived, inserted, ghost};
+ghost use Rattle.rules.specs.Desk.{isTransaction, legalAsk, legalRequest, legalCall};
+ghost use Rattle.rules.specs.Document.{endMark, document, endless};
+ghost use Rattle.rules.specs.Runs.{paper, numbered};
+ghost use Rattle.entries.specs.Meaning.{bookEntry, bookValue, bookAsk, bookRequest, bookCall, bookHeard, bookSays, bookAnswer, OnPaper};
+ghost use Rattle.entries.specs.Records.{misshapen, Shaped, filled, callIn, heard, orZero, putAnswer};
 
 // A key: its upper half is the pupil, its lower half the delivery. The marks belong to it; the end is never a key, but names a lock.
 pub struct Key(pub u64);
@@ -19,19 +23,47 @@ impl Key {
 
     pub const END: Key = Key(18446744073709551615);
 
+    // The marks, with their places in the rule book: keys lie from the lowest to the highest, and the end comes next.
+    pub fn lowest() -> Key
+        ensures { λ r. ⌜ r .0 ≡ 0 ⌝ }
+    {
+        Self::LOWEST
+    }
+
+    pub fn highest() -> Key
+        ensures { λ r. ⌜ r .0 + 1 ≡ endMark ⌝ }
+    {
+        Self::HIGHEST
+    }
+
+    pub fn end() -> Key
+        ensures { λ r. ⌜ r .0 ≡ endMark ⌝ }
+    {
+        Self::END
+    }
+
     // Whether it is a key, and not the end.
     pub fn is_key(self) -> bool
         ensures { λ r. ⌜ r ≡ ltb (self .0) endMark ⌝ }
     {
-        self.0 < Self::END.0
+        (Self::LOWEST.0 <= self.0) & (self.0 <= Self::HIGHEST.0)
     }
 
+    // Whether it is the end, and no key.
+    pub fn is_end(self) -> bool
+        ensures { λ r. ⌜ r ≡ eqb (self .0) endMark ⌝ }
+    {
+        self.0 == Self::END.0
+    }
+
+    // Whether it is not above another.
     pub fn at_most(self, other: Key) -> bool
         ensures { λ r. ⌜ r ≡ leb (self .0) (other .0) ⌝ }
     {
         self.0 <= other.0
     }
 
+    // Whether it is the same as another.
     pub fn same(self, other: Key) -> bool
         ensures { λ r. ⌜ r ≡ eqb (self .0) (other .0) ⌝ }
     {
@@ -43,6 +75,28 @@ impl Key {
 pub enum Value {
     Present(u32),
     Absent,
+}
+
+impl Value {
+    // Whether there is a record.
+    pub fn is_present(self) -> bool
+        ensures { λ r. ⌜ r ≡ isThere (bookValue self) ⌝ }
+    {
+        match self {
+            Value::Present(_) => true,
+            Value::Absent => false,
+        }
+    }
+
+    // The record as it stands in bytes: an absent one is 0.
+    pub fn record(self) -> u32
+        ensures { λ r. ⌜ r ≡ orZero (bookValue self) ⌝ }
+    {
+        match self {
+            Value::Present(rec) => rec,
+            Value::Absent => 0,
+        }
+    }
 }
 
 // An entry of the index. Owner 0 is nobody.
@@ -113,12 +167,12 @@ impl Entry {
         ensures { λ r. ⌜ bookEntry r ≡ rolledBack (bookEntry self) ⌝ }
     {
         let key = self.key;
-        let before = self.before;
+        let was = self.before;
         Entry {
             key: key,
             owner: 0,
-            now: before,
-            before: before,
+            now: was,
+            before: was,
         }
     }
 
@@ -134,6 +188,16 @@ impl Entry {
     }
 }
 
+// Transactions are numbered from 1 to this.
+pub const TRANSACTIONS: u16 = 16;
+
+// Whether a transaction has this number.
+pub fn is_transaction(t: u16) -> bool
+    ensures { λ r. ⌜ r ≡ isTransaction (document endless) t ⌝ }
+{
+    (1 <= t) & (t <= TRANSACTIONS)
+}
+
 // What joins the queue.
 pub enum Ask {
     Read(Key, Key),
@@ -141,11 +205,53 @@ pub enum Ask {
     Delete(Key),
 }
 
+impl Ask {
+    // The kinds of their records.
+    pub const READ: u16 = 4;
+
+    pub const INSERT: u16 = 5;
+
+    pub const DELETE: u16 = 6;
+
+    // Whether its keys are keys, and lo is not above hi.
+    pub fn is_legal(self) -> bool
+        ensures { λ r. ⌜ r ≡ legalAsk (document endless) (bookAsk self) ⌝ }
+    {
+        match self {
+            Ask::Read(lo, hi) => lo.is_key() & hi.is_key() & lo.at_most(hi),
+            Ask::Insert(key, _) => key.is_key(),
+            Ask::Delete(key) => key.is_key(),
+        }
+    }
+}
+
+// What a transaction can ask for.
 pub enum Request {
     Begin,
     Commit,
     Rollback,
     Asks(Ask),
+}
+
+impl Request {
+    // The kinds of their records; a request that joins the queue has its ask's.
+    pub const BEGIN: u16 = 1;
+
+    pub const COMMIT: u16 = 2;
+
+    pub const ROLLBACK: u16 = 3;
+
+    // Whether what joins the queue is legal; the others always are.
+    pub fn is_legal(self) -> bool
+        ensures { λ r. ⌜ r ≡ legalRequest (document endless) (bookRequest self) ⌝ }
+    {
+        match self {
+            Request::Begin => true,
+            Request::Commit => true,
+            Request::Rollback => true,
+            Request::Asks(ask) => ask.is_legal(),
+        }
+    }
 }
 
 // A request with the transaction that makes it.
@@ -154,10 +260,116 @@ pub struct Call {
     pub request: Request,
 }
 
+impl Call {
+    // Number 12 as far as it is about values.
+    pub fn is_legal(self) -> bool
+        ensures { λ r. ⌜ r ≡ legalCall (document endless) (bookCall self) ⌝ }
+    {
+        let request = self.request;
+        is_transaction(self.asker) & request.is_legal()
+    }
+}
+
 // What a slice of bytes is, read as a request record: a call, or number 12.
 pub enum Heard {
     Good(Call),
     Bad,
+}
+
+// The length of a request record by its kind. Kind 0 is none.
+const LENGTHS: [usize; 7] = [0, 8, 8, 8, 24, 24, 16];
+
+// Whether a slice is no record of a kind that there is: under 8 bytes, of a length unlike slice or kind, or of an unknown kind.
+fn is_misshapen(s: &[u8]) -> bool
+    ensures { λ r. ⌜ r ≡ misshapen (now (s .entry)) ⌝ }
+{
+    if s.len() < 8 {
+        return true;
+    }
+    let kind = numbers::number_at(s, 2);
+    if !((1 <= kind) & (kind <= 6)) {
+        return true;
+    }
+    let length = numbers::number_at(s, 0);
+    (length != s.len()) | (length != LENGTHS[kind])
+}
+
+// Whether a filler is not zero: the one that every record has, and that of an insert.
+fn is_filled(s: &[u8]) -> bool
+    requires { ⌜ Shaped (now s) ⌝ }
+    ensures { λ r. ⌜ r ≡ filled (now (s .entry)) ⌝ }
+{
+    let filler = numbers::read_u16(s, 6);
+    let kind = numbers::read_u16(s, 2);
+    if kind == Ask::INSERT {
+        return (filler != 0) | (numbers::read_u32(s, 20) != 0);
+    }
+    filler != 0
+}
+
+// The bounds of a read.
+fn read_in(s: &[u8]) -> Ask
+    requires { do ⌜ 24 ≤ (← ⟦s.len()⟧) ⌝ }
+    ensures { λ r. ⌜ bookAsk r ≡ read (numberAt 8 (now (s .entry)) 8) (numberAt 8 (now (s .entry)) 16) ⌝ }
+{
+    Ask::Read(Key(numbers::read_u64(s, 8)), Key(numbers::read_u64(s, 16)))
+}
+
+// The key and record of an insert.
+fn insert_in(s: &[u8]) -> Ask
+    requires { do ⌜ 24 ≤ (← ⟦s.len()⟧) ⌝ }
+    ensures { λ r. ⌜ bookAsk r ≡ insert (numberAt 8 (now (s .entry)) 8) (numberAt 4 (now (s .entry)) 16) ⌝ }
+{
+    Ask::Insert(Key(numbers::read_u64(s, 8)), numbers::read_u32(s, 16))
+}
+
+// The key of a delete.
+fn delete_in(s: &[u8]) -> Ask
+    requires { do ⌜ 16 ≤ (← ⟦s.len()⟧) ⌝ }
+    ensures { λ r. ⌜ bookAsk r ≡ delete (numberAt 8 (now (s .entry)) 8) ⌝ }
+{
+    Ask::Delete(Key(numbers::read_u64(s, 8)))
+}
+
+// What a record asks.
+fn request_in(s: &[u8]) -> Request
+    requires { ⌜ Shaped (now s) ⌝ }
+    ensures { λ r. ⌜ bookRequest r ≡ callIn (now (s .entry)) .request ⌝ }
+{
+    let kind = numbers::read_u16(s, 2);
+    match kind {
+        Request::BEGIN => Request::Begin,
+        Request::COMMIT => Request::Commit,
+        Request::ROLLBACK => Request::Rollback,
+        Ask::READ => Request::Asks(read_in(s)),
+        Ask::INSERT => Request::Asks(insert_in(s)),
+        _ => Request::Asks(delete_in(s)),
+    }
+}
+
+// What a record asks, with the transaction that asks it.
+fn call_in(s: &[u8]) -> Call
+    requires { ⌜ Shaped (now s) ⌝ }
+    ensures { λ r. ⌜ bookCall r ≡ callIn (now (s .entry)) ⌝ }
+{
+    Call {
+        asker: numbers::read_u16(s, 4),
+        request: request_in(s),
+    }
+}
+
+// The call that a slice is, read as a request record, or number 12.
+pub fn read_request(s: &[u8]) -> Heard
+    ensures { λ r. ⌜ bookHeard r ≡ heard (now (s .entry)) ⌝ }
+{
+    if is_misshapen(s) {
+        return Heard::Bad;
+    }
+    let call = call_in(s);
+    if is_filled(s) | !call.is_legal() {
+        return Heard::Bad;
+    }
+    Heard::Good(call)
 }
 
 // What the desk says.
@@ -175,7 +387,70 @@ pub enum Says {
     Circle,
 }
 
+// The paper's number, key and record; key and record are zero where there is none.
+pub struct Paper {
+    pub number: u16,
+    pub key: Key,
+    pub rec: u32,
+}
+
+// A number alone.
+fn numbered(number: u16) -> Paper
+    ensures { λ r. ⌜ OnPaper (numbered number) r ⌝ }
+{
+    Paper {
+        number: number,
+        key: Key(0),
+        rec: 0,
+    }
+}
+
+impl Says {
+    // The number, key and record that document 01 gives to each case.
+    pub fn paper(self) -> Paper
+        ensures { λ r. ⌜ OnPaper (paper (bookSays self)) r ⌝ }
+    {
+        match self {
+            Says::Done => numbered(0),
+            Says::Found(key, now) => Paper {
+                number: 1,
+                key: key,
+                rec: now.record(),
+            },
+            Says::Nothing => numbered(2),
+            Says::Waiting => numbered(3),
+            Says::RunsAlready => numbered(13),
+            Says::RunsNot => numbered(14),
+            Says::WaitsAlready => numbered(15),
+            Says::IsPresent(key, now) => Paper {
+                number: 16,
+                key: key,
+                rec: now.record(),
+            },
+            Says::LocksShort => numbered(17),
+            Says::PagesShort => numbered(18),
+            Says::Circle => numbered(19),
+        }
+    }
+}
+
+// What the desk says, and to whom.
 pub struct Answer {
     pub asker: u16,
     pub says: Says,
+}
+
+// Writes an answer record at a place, and nothing else.
+pub fn put_answer(out: &mut [u8], at: usize, a: Answer)
+    requires { do ⌜ at + 20 ≤ (← ⟦out.len()⟧) ⌝ }
+    ensures { λ _. ⌜ now (out .exit) ≡ putAnswer (now (out .entry)) at (bookAnswer a) ⌝ }
+{
+    let says = a.says;
+    let p = says.paper();
+    numbers::write_u16(out, at, 20);
+    numbers::write_u16(out, at + 2, 7);
+    numbers::write_u16(out, at + 4, a.asker);
+    numbers::write_u16(out, at + 6, p.number);
+    numbers::write_u64(out, at + 8, p.key.0);
+    numbers::write_u32(out, at + 16, p.rec);
 }

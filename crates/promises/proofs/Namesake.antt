@@ -11,5 +11,5 @@ use Rattle.rules.specs.Cases as C
 use Rattle.promises.specs.Namesake as N
 
 pub namesake-waits : N.NamesakeWaits
-unfolding L.insertBefore L.any L.keep L.first L.last L.join L.tab E.left E.settled E.takenOut E.put E.changed K.inUse K.added K.taken K.released K.target K.mode K.wanted K.holders K.earlier K.blockers Q.waitsFrom Q.waits Q.oldest Q.further Q.reached Q.onCircle Q.newest Q.leave R.paper R.readSays R.insertMissing R.insertThere R.insertAs R.deleteThere R.deleteAs R.runOn R.run R.turn R.turns R.worked D.refusal D.begun D.ended D.joined D.acts D.step D.legalAsk D.legalRequest D.call D.fresh D.after D.session C.played C.stated N.namesake
+unfolding L.insertBefore L.any L.keep L.first L.last L.join L.tab E.left E.settled E.takenOut E.put E.changed K.inUse K.added K.taken K.released K.target K.mode K.wanted K.holders K.earlier K.blockers Q.waitsFrom Q.waits Q.oldest Q.further Q.reached Q.onCircle Q.newest Q.leave R.readSays R.insertMissing R.insertThere R.insertAs R.deleteThere R.deleteAs R.runOn R.run R.turn R.turns R.worked D.refusal D.begun D.ended D.joined D.acts D.step D.legalAsk D.legalRequest D.call D.fresh D.after D.session C.played C.stated N.namesake
 namesake-waits = refl

@@ -35,7 +35,7 @@ pub record Paper (K R : Type 0) : Type 0 where
 abbrev pub numbered : {K R : Type 0} → ℕ → Paper K R
 numbered n = record { number = n; key = none; rec = none }
 
-unfoldable pub paper : {K R : Type 0} → Says K R → Paper K R
+abbrev pub paper : {K R : Type 0} → Says K R → Paper K R
 paper done = numbered 0
 paper (found k r) = record { number = 1; key = some k; rec = r }
 paper nothing = numbered 2

@@ -1,0 +1,12 @@
+-- `entries::Key::is_key` meets its contract: what lies from the lowest to the highest is below the end.
+-- Assumes nothing.
+use borrow.Author.Needs.{needs}
+use Rattle.entries.proofs.Keys.{key-range}
+use Rattle.entries.proofs.Key.is_key.Statement.{statement}
+use Rattle.entries.proofs.Key.is_key.Tie as tie
+
+returns : tie.Need-returns
+returns c = search (needs, key-range)
+
+pub is-key-spec : {M : Type 1} → statement M
+is-key-spec = tie.close (tie.spec returns)
