@@ -1,15 +1,15 @@
 -- Demand 3, of any run of calls from a fresh index, in the words of the demand. Assumes nothing.
-use Prim.Native.Nat.{ℕ, _-_}
+use Prim.Native.Nat.{ℕ}
 use mathlib.Core.Path.{_≡_}
-use mathlib.Core.Bool.{Bool, true, false, cond, not, _&&_}
-use mathlib.Core.List.{List, [], _∷_, _++_}
+use mathlib.Core.Bool.{Bool, true, false, not, _&&_}
+use mathlib.Core.List.{List, _∷_, _++_}
 use mathlib.Core.Option.{Option, none, some}
 use lib.Dec.{eqb}
 use Rattle.lists.specs.Lists.{first, all, In}
-use Rattle.rules.specs.Kinds.{Book, Entry, Ask, read, insert, delete, Request, begin, commit, rollback, ask, Lock, State}
+use Rattle.rules.specs.Kinds.{Book, read, insert, delete, Request, begin, commit, rollback, ask, Lock}
 use Rattle.rules.specs.Entries.{Entries, same}
 use Rattle.rules.specs.Locks.{inUse, sameName, conflict}
-use Rattle.rules.specs.Runs.{En, Sy, waitsAlready}
+use Rattle.rules.specs.Runs.{En, waitsAlready}
 use Rattle.rules.specs.Desk.{Cl, fresh, after}
 use Rattle.rules.specs.Chains.{ChainsEnd}
 use Rattle.promises.specs.Story.{Deed, story, Faithful, Seamless, told, within, Range, ends, isDone}

@@ -9,11 +9,11 @@ use mathlib.Core.Option.{Option, none, some}
 use lib.Dec.{eqb}
 use lib.ListN.{length}
 use Rattle.lists.specs.Lists.{first, join}
-use Rattle.rules.specs.Kinds.{Book, Ask, read, insert, delete, Request, begin, commit, rollback, ask, Queued, State, Call}
-use Rattle.rules.specs.Entries.{Entries, atMost, same, committed, rolledBack}
+use Rattle.rules.specs.Kinds.{Book, Ask, read, insert, delete, Request, begin, commit, rollback, ask, Queued}
+use Rattle.rules.specs.Entries.{Entries, atMost, committed, rolledBack}
 use Rattle.rules.specs.Queue.{St}
-use Rattle.rules.specs.Runs.{Says, done, found, nothing, waiting, runsAlready, runsNot, waitsAlready, isPresent, locksShort, pagesShort, circle, Answer, Sy, Turn, turn, worked}
-use Rattle.rules.specs.Desk.{An, Cl, refusal, begun, ended, joined, waitsNow, legalCall, call, stateAfter, answersOf, fresh, session}
+use Rattle.rules.specs.Runs.{done, found, nothing, waiting, runsAlready, runsNot, waitsAlready, isPresent, locksShort, pagesShort, circle, Sy, Turn, turn, worked}
+use Rattle.rules.specs.Desk.{An, Cl, refusal, begun, ended, joined, waitsNow, legalCall, call, stateAfter, fresh, session}
 
 module _ (B : Book) where
   -- one answer: who got it, what it had asked, what it was told, and the entries before and after
