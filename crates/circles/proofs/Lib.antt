@@ -1,0 +1,5 @@
+pub mod Bits
+pub mod Turns
+pub mod Known
+pub mod Links
+pub mod Collected
