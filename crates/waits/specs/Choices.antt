@@ -1,0 +1,42 @@
+-- What the searches through the queue find, in the rule book's words, of a whole picture. Assumes nothing.
+use Prim.Native.Nat.{ℕ, _<_}
+use mathlib.Core.Path.{_≡_}
+use mathlib.Core.List.{List}
+use mathlib.Core.Option.{Option, none, some}
+use Rattle.rules.specs.Kinds.{Queued}
+use Rattle.rules.specs.Locks as K
+use Rattle.rules.specs.Queue.{Wait, oldest, newest}
+use Rattle.tables.specs.Layout.{queued, queuedAt, nameIn, bookMode}
+use Rattle.whole.specs.States.{book, stateOf}
+use Rattle.waits.specs.declared.Want.{Want}
+use Rattle.waits.specs.declared.Place.{Place}
+use Rattle.waits.specs.declared.Place.the-variants.{At, Nowhere}
+
+-- what the code's want means
+abbrev pub bookWant : Want → K.Want book
+bookWant w = record { name = nameIn (w .name .0); mode = bookMode (w .mode) }
+
+-- the request at a place of the queue
+abbrev pub requestAt : List ℕ → Place → Option (Queued ℕ ℕ)
+requestAt d (At q) = some (queuedAt d q)
+requestAt d Nowhere = none
+
+abbrev pub requestOf : Option (Wait book) → Option (Queued ℕ ℕ)
+requestOf none = none
+requestOf (some w) = some (w .request)
+
+abbrev pub Inside : List ℕ → Place → Type 0
+Inside d (At q) = q < queued d
+Inside d Nowhere = Unit {0}
+
+-- a choice among the queued requests, found at its place
+pub record Chosen (d : List ℕ) (c : Option (Wait book)) (r : Place) : Type 0 where
+  pub inside : Inside d r
+  pub request : requestAt d r ≡ requestOf c
+
+-- "the oldest such"; "the newest queued request that lies on a circle"
+abbrev pub OldestAt : List ℕ → List ℕ → Place → Type 0
+OldestAt p d r = Chosen d (oldest book (stateOf p d)) r
+
+abbrev pub NewestAt : List ℕ → List ℕ → Place → Type 0
+NewestAt p d r = Chosen d (newest book (stateOf p d)) r
