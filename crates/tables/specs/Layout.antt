@@ -1,6 +1,6 @@
 -- Document 01, "Records and pages": the bytes of the desk, read as the rule book's lock slots, queue and marks. Assumes nothing.
 use Prim.Native.Nat.{ℕ, _+_, _*_}
-use mathlib.Core.Bool.{Bool, true, false, cond}
+use mathlib.Core.Bool.{Bool, true, false, cond, not}
 use mathlib.Core.List.{List, [], _∷_}
 use mathlib.Core.Option.{Option, none, some}
 use lib.Dec.{eqb}
@@ -20,6 +20,9 @@ transactionsMost = 16
 
 abbrev pub locksMost : ℕ
 locksMost = 256
+
+abbrev pub deskSize : ℕ
+deskSize = 4672
 
 -- "Desk: 32-byte head (length 4,672, kind 8, queue count, 26 zeros)"
 abbrev pub headWidths : List ℕ
@@ -51,6 +54,9 @@ markIn r = cond (eqb r 1) running idle
 
 abbrev pub isRunning : List ℕ → ℕ → Bool
 isRunning d t = eqb (numberAt 2 d (recordPlace t)) 1
+
+abbrev pub isWaiting : List ℕ → ℕ → Bool
+isWaiting d t = not (eqb (numberAt 2 d (recordPlace t + 2)) 0)
 
 -- the waiting request; the waiting kinds are 4, 5 and 6
 abbrev pub askBy : ℕ → ℕ → ℕ → ℕ → Ask ℕ ℕ

@@ -1,6 +1,6 @@
 -- What taking and releasing locks, and joining and leaving the queue, do to the bytes of the desk. Assumes nothing.
 use Prim.Native.Nat.{ℕ, _+_, _*_, _-_}
-use mathlib.Core.Bool.{Bool, true, false, cond, not}
+use mathlib.Core.Bool.{Bool, true, false, cond, not, _&&_}
 use mathlib.Core.List.{List, [], _∷_, map}
 use mathlib.Core.Option.{Option, none, some}
 use lib.Dec.{eqb, ltb}
@@ -9,13 +9,19 @@ use Rattle.lists.specs.Lists.{tab, join, place}
 use Rattle.numbers.specs.Numbers.{numberAt, putNumber, part, putPart, moved, zeroed}
 use Rattle.rules.specs.Kinds.{Ask, Mode, Name, Lock, Book}
 use Rattle.rules.specs.Entries.{isThere}
-use Rattle.rules.specs.Locks.{isOf, stronger}
+use Rattle.rules.specs.Locks.{isOf, sameName, conflict, stronger}
 use Rattle.rules.specs.Document.{document, endless}
-use Rattle.tables.specs.Layout.{transactionsMost, locksMost, slotsOf, slotAt, putSlot, lockPlace, queued, queuePlace, inPlace, recordPlace, putAsk, askFields}
+use Rattle.tables.specs.Layout.{transactionsMost, locksMost, slotsOf, slotAt, putSlot, lockPlace, queueOf, queued, queuePlace, inPlace, recordPlace, putAsk, askFields}
 
 abbrev pub isSlotOf : ℕ → Name ℕ → Option (Lock ℕ) → Bool
 isSlotOf t n none = false
 isSlotOf t n (some l) = isOf (document endless) t n l
+
+-- another's lock on a name in a conflicting mode: the test of the rule book's `holders`
+abbrev pub isSlotAgainst : ℕ → Name ℕ → Mode → Option (Lock ℕ) → Bool
+isSlotAgainst t n m none = false
+isSlotAgainst t n m (some l) =
+    not (eqb (l .holder) t) && (sameName (document endless) (l .name) n && conflict (l .mode) m)
 
 -- the slot of t's lock on a name, and the lowest free slot; the number of slots where there is none
 unfoldable pub heldIn : List ℕ → ℕ → Name ℕ → ℕ
@@ -43,8 +49,15 @@ lockGiven d t n = cond (ltb (heldIn d t n) locksMost) true (ltb (freeIn d) locks
 abbrev pub rowFreed : ℕ → List ℕ → List ℕ
 rowFreed t r = cond (eqb (numberAt 2 r 8) t) (replicate 16 0) r
 
+unfoldable pub rowReleased : ℕ → ℕ → List ℕ → List ℕ
+rowReleased t i d = putPart (lockPlace i) (rowFreed t (part (lockPlace i) 16 d)) d
+
 unfoldable pub locksReleased : ℕ → List ℕ → List ℕ
 locksReleased t d = putPart (lockPlace 0) (join (rowFreed t) (tab locksMost 0 (λ i. part (lockPlace i) 16 d))) d
+
+-- the place of t's request in the queue, or how many wait where t's does not
+unfoldable pub waitsIn : List ℕ → ℕ → ℕ
+waitsIn d t = place (λ q. eqb (q .asker) t) (queueOf d)
 
 -- t's request joins the end of the queue
 unfoldable pub queueJoined : List ℕ → ℕ → Ask ℕ ℕ → List ℕ

@@ -1,0 +1,12 @@
+pub mod Values
+pub mod Scans
+pub mod Back
+pub mod Slots
+pub mod Takes
+pub mod Releases
+pub mod Holders
+pub mod Order
+pub mod Frames
+pub mod Queues
+pub mod Marks
+pub mod Records

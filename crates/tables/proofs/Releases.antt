@@ -1,0 +1,190 @@
+-- Releasing the locks of a transaction: one slot after the other as the code does it, and that the slots are then the rule book's `released`.
+-- When i slots are passed, the first i rows are released and the rest is as it was. Assumes nothing.
+use Prim.Native.Nat.{ℕ, zero, suc, _+_, _-_, _*_, _≤_, _<_}
+use mathlib.Core.Path.{_≡_, refl, sym, ap, subst, _∙_}
+use mathlib.Core.Bool.{Bool, true, false, cond}
+use mathlib.Core.List.{List, [], _∷_, _++_, append-assoc, append-nil}
+use mathlib.Core.Option.{none, some}
+use native.Mathlib.Nat.{zero-add, add-zero}
+use native.Mathlib.Omega.{arith}
+use borrow.Author.Tests.{eq-eqb, ne-eqb}
+use lib.Dec.{eqb, lit≤}
+use lib.ListN.{length, take, drop, replicate, length-append, length-replicate}
+use lib.Seq.{take-at, drop-at, drop-drop, length-take-le}
+use Rattle.lists.specs.Lists.{tab, join}
+use Rattle.lists.proofs.Tables.{tab-append, tab-ext, map-tab}
+use Rattle.lists.proofs.Counts.{join-append}
+use Rattle.numbers.specs.Numbers.{numberAt, widthOf, fieldsAt, part, putPart, zeroed}
+use Rattle.numbers.proofs.Agree.{Touches, touches-wider}
+use Rattle.numbers.proofs.Parts.{length-part, numberAt-part, fieldsAt-part, putPart-part, putPart-none, part-apart, part-same, touches-putPart}
+use Rattle.rules.specs.Kinds.{Paging, Lock}
+use Rattle.rules.specs.Locks.{freed, released}
+use Rattle.rules.specs.Document.{document}
+use Rattle.tables.specs.Layout.{deskSize, locksMost, lockWidths, lockPlace, nameIn, modeIn, slotIn, slotAt, slotsOf}
+use Rattle.tables.specs.Moves.{rowFreed, rowReleased, locksReleased}
+
+-- ---- one slot, as the code tests and writes it
+module _ (d : List ℕ) (t i h : ℕ) (e : h ≡ numberAt 2 d (576 + 16 * i + 8)) where
+  holder-in : numberAt 2 (part (lockPlace i) 16 d) 8 ≡ h
+  holder-in = numberAt-part 2 (lockPlace i) 16 d 8 (omega arith) ∙ sym e
+
+  pub row-freed : (u : List ℕ) → h ≡ t → u ≡ zeroed 16 (576 + 16 * i) d → u ≡ rowReleased t i d
+  unfolding rowReleased zeroed
+  row-freed u q p =
+      let z : eqb (numberAt 2 (part (lockPlace i) 16 d) 8) t ≡ true = eq-eqb (numberAt 2 (part (lockPlace i) 16 d) 8) t (holder-in ∙ q) in rw z p
+
+  pub row-kept : (h ≡ t → ⊥) → i < locksMost → length d ≡ deskSize → d ≡ rowReleased t i d
+  unfolding rowReleased
+  row-kept q l n =
+      let z : eqb (numberAt 2 (part (lockPlace i) 16 d) 8) t ≡ false =
+      ne-eqb (numberAt 2 (part (lockPlace i) 16 d) 8) t (λ x. q (sym holder-in ∙ x)) in
+      rw z (sym (putPart-part (lockPlace i) 16 d (omega arith)))
+
+-- ---- all of them
+unfoldable pub releasedTo : ℕ → ℕ → List ℕ → List ℕ
+releasedTo t i d = putPart (lockPlace 0) (join (rowFreed t) (tab i 0 (λ k. part (lockPlace k) 16 d))) d
+
+pub release-start : (t : ℕ) (d : List ℕ) → d ≡ releasedTo t 0 d
+unfolding releasedTo join tab
+release-start t d = putPart-none (lockPlace 0) d
+
+putPart-append : (at : ℕ) (a b s : List ℕ) → at + length a ≤ length s → putPart at (a ++ b) s ≡ putPart (at + length a) b (putPart at a s)
+unfolding putPart
+putPart-append at a b s h =
+    let front : List ℕ = take at s ++ a in
+    let len : length front ≡ at + length a = length-append (take at s) a ∙ ap (λ n. n + length a) (length-take-le at s (omega arith)) in
+    let len₂ : at + length (a ++ b) ≡ at + length a + length b = simp length-append (omega arith) in
+    let rest : drop (at + length (a ++ b)) s ≡ drop (at + length a + length b) (front ++ drop (at + length a) s) =
+    ap (λ n. drop n s) len₂
+    ∙ sym (drop-drop (length b) (at + length a) s)
+    ∙ ap (λ x. drop (length b) x) (sym (drop-at front (drop (at + length a) s) (at + length a) len))
+    ∙ drop-drop (length b) (at + length a) (front ++ drop (at + length a) s) in
+    ap (λ x. x ++ drop (at + length (a ++ b)) s)
+    (sym (append-assoc (take at s) a b) ∙ ap (λ x. x ++ b) (sym (take-at front (drop (at + length a) s) (at + length a) len)))
+    ∙ ap (λ x. take (at + length a) (front ++ drop (at + length a) s) ++ b ++ x) rest
+
+module _ (t : ℕ) (d : List ℕ) (size : length d ≡ deskSize) where
+  abbrev row : ℕ → List ℕ
+  row k = part (lockPlace k) 16 d
+
+  length-freed : (r : List ℕ) → length r ≡ 16 → length (rowFreed t r) ≡ 16
+  length-freed r e = go (eqb (numberAt 2 r 8) t)
+    where
+      go : (b : Bool) → length (cond b (replicate 16 0) r) ≡ 16
+      go true = length-replicate {A = ℕ} 16 0
+      go false = e
+
+  length-rows : (n i : ℕ) → i + n ≤ locksMost → length (join (rowFreed t) (tab n i row)) ≡ 16 * n
+  unfolding join tab
+  length-rows zero i h = refl
+  length-rows (suc n) i h =
+      let r = length-rows n (i + 1) (omega arith) in
+      let f = length-freed (row i) (length-part (lockPlace i) 16 d (omega arith)) in
+      omega (arith, length-append (rowFreed t (row i)) (join (rowFreed t) (tab n (i + 1) row)))
+
+  rows-next : (i : ℕ) → join (rowFreed t) (tab (i + 1) 0 row) ≡ join (rowFreed t) (tab i 0 row) ++ rowFreed t (row i)
+  unfolding join tab
+  rows-next i =
+      ap (join (rowFreed t)) (tab-append i 1 0 row)
+      ∙ join-append (rowFreed t) (tab i 0 row) (row (0 + i) ∷ [])
+      ∙ ap (λ x. join (rowFreed t) (tab i 0 row) ++ x) (append-nil (rowFreed t (row (0 + i))) ∙ ap (λ k. rowFreed t (row k)) (zero-add i))
+
+  pub touches-releasedTo : (i : ℕ) → i ≤ locksMost → Touches 576 (16 * i) d (releasedTo t i d)
+  unfolding releasedTo
+  touches-releasedTo i h =
+      let e = length-rows i 0 (omega arith) in
+      touches-wider 576 (16 * i) (omega arith) (omega arith) (touches-putPart 576 (join (rowFreed t) (tab i 0 row)) d (omega arith))
+
+  released-next : (i : ℕ) → i < locksMost → putPart (lockPlace i) (rowFreed t (row i)) (releasedTo t i d) ≡ releasedTo t (i + 1) d
+  unfolding releasedTo
+  released-next i h =
+      let n = length-rows i 0 (omega arith) in
+      let place : lockPlace i ≡ 576 + length (join (rowFreed t) (tab i 0 row)) = omega arith in
+      ap (λ p. putPart p (rowFreed t (row i)) (releasedTo t i d)) place
+      ∙ sym (putPart-append 576 (join (rowFreed t) (tab i 0 row)) (rowFreed t (row i)) d (omega arith))
+      ∙ ap (λ rs. putPart 576 rs d) (sym (rows-next i))
+
+  -- what the loop has passed over is not touched yet
+  row-before : (i : ℕ) → i < locksMost → part (lockPlace i) 16 (releasedTo t i d) ≡ row i
+  row-before i h = part-apart (lockPlace i) 16 (touches-releasedTo i (omega arith)) (omega arith) (omega arith)
+
+  pub release-turn : (i : ℕ) (u v : List ℕ) → u ≡ releasedTo t i d → v ≡ rowReleased t i u → i < locksMost → v ≡ releasedTo t (i + 1) d
+  unfolding rowReleased
+  release-turn i u v e q h =
+      q
+      ∙ ap (rowReleased t i) e
+      ∙ ap (λ r. putPart (lockPlace i) (rowFreed t r) (releasedTo t i d)) (row-before i h)
+      ∙ released-next i h
+
+  pub release-end : (i : ℕ) (u : List ℕ) → u ≡ releasedTo t i d → i ≤ locksMost → locksMost ≤ i → u ≡ locksReleased t d
+  unfolding releasedTo locksReleased
+  release-end i u e h l = let q : i ≡ locksMost = omega arith in rw q at e
+
+  -- ---- what stands in slot k then
+  touches-later : (k n : ℕ) → k ≤ n → n ≤ locksMost → Touches (lockPlace k) (16 * (n - k)) (releasedTo t k d) (releasedTo t n d)
+  unfolding releasedTo
+  touches-later k n h l =
+      let e = length-rows k 0 (omega arith) in
+      let f = length-rows (n - k) (0 + k) (omega arith) in
+      let g : k + (n - k) ≡ n = omega arith in
+      let parts : join (rowFreed t) (tab n 0 row) ≡ join (rowFreed t) (tab k 0 row) ++ join (rowFreed t) (tab (n - k) (0 + k) row) =
+      ap (λ x. join (rowFreed t) (tab x 0 row)) (sym g)
+      ∙ ap (join (rowFreed t)) (tab-append k (n - k) 0 row)
+      ∙ join-append (rowFreed t) (tab k 0 row) (tab (n - k) (0 + k) row) in
+      let whole : putPart 576 (join (rowFreed t) (tab n 0 row)) d
+      ≡ putPart (576 + length (join (rowFreed t) (tab k 0 row))) (join (rowFreed t) (tab (n - k) (0 + k) row)) (releasedTo t k d) =
+      ap (λ x. putPart 576 x d) parts ∙ putPart-append 576 (join (rowFreed t) (tab k 0 row)) (join (rowFreed t) (tab (n - k) (0 + k) row)) d (omega arith) in
+      let m = touches-releasedTo k (omega arith) .len in
+      subst (Touches (lockPlace k) (16 * (n - k)) (releasedTo t k d)) (sym whole)
+      (touches-wider (lockPlace k) (16 * (n - k)) (omega arith) (omega arith)
+      (touches-putPart (576 + length (join (rowFreed t) (tab k 0 row))) (join (rowFreed t) (tab (n - k) (0 + k) row)) (releasedTo t k d) (omega arith)))
+
+  -- "a released one is zeroed", and the others keep their bytes
+  pub row-released : (k : ℕ) → k < locksMost → part (lockPlace k) 16 (locksReleased t d) ≡ rowFreed t (part (lockPlace k) 16 d)
+  unfolding releasedTo locksReleased
+  row-released k h =
+      let m = touches-releasedTo k (omega arith) in
+      let n = touches-releasedTo (k + 1) (omega arith) in
+      part-apart (lockPlace k) 16 (touches-later (k + 1) locksMost (omega arith) (omega arith)) (omega arith) (omega (arith, n .len))
+      ∙ ap (part (lockPlace k) 16) (sym (released-next k h))
+      ∙ part-same (lockPlace k) 16 (rowFreed t (row k)) (releasedTo t k d) (length-freed (row k) (length-part (lockPlace k) 16 d (omega arith)))
+      (omega (arith, m .len))
+
+  -- the slot that a row holds, when the row is freed
+  slot-zero : slotIn (fieldsAt lockWidths (replicate 16 0) 0) ≡ none
+  unfolding slotIn fieldsAt numberAt
+  slot-zero = refl
+
+  slot-freed : (P : Paging ℕ) (r : List ℕ) → slotIn (fieldsAt lockWidths (rowFreed t r) 0) ≡ freed (document P) t (slotIn (fieldsAt lockWidths r 0))
+  unfolding slotIn fieldsAt
+  slot-freed P r = zero (eqb (numberAt 2 r 8) t) ∙ go (eqb (numberAt 2 r 8) t) (eqb (numberAt 2 r 8) 0) refl
+    where
+      held : Lock ℕ
+      held = record { name = nameIn (numberAt 8 r 0); holder = numberAt 2 r 8; mode = modeIn (numberAt 2 r 10) }
+
+      zero : (b : Bool) → slotIn (fieldsAt lockWidths (cond b (replicate 16 0) r) 0) ≡ cond b none (slotIn (fieldsAt lockWidths r 0))
+      zero true = slot-zero
+      zero false = refl
+
+      go : (b z : Bool) → eqb (numberAt 2 r 8) t ≡ b → cond b none (cond z none (some held)) ≡ freed (document P) t (cond z none (some held))
+      go true true e = refl
+      go true false e = rw e
+      go false true e = refl
+      go false false e = rw e
+
+  pub slot-released : (P : Paging ℕ) (k : ℕ) → k < locksMost → slotAt (locksReleased t d) k ≡ freed (document P) t (slotAt d k)
+  unfolding slotAt widthOf
+  slot-released P k h =
+      sym (fields (locksReleased t d))
+      ∙ ap (λ r. slotIn (fieldsAt lockWidths r 0)) (row-released k h)
+      ∙ slot-freed P (row k)
+      ∙ ap (freed (document P) t) (fields d)
+    where
+      fields : (s : List ℕ) → slotIn (fieldsAt lockWidths (part (lockPlace k) 16 s) 0) ≡ slotIn (fieldsAt lockWidths s (lockPlace k))
+      fields s = ap slotIn (fieldsAt-part lockWidths (lockPlace k) 16 s 0 (lit≤ tt) ∙ ap (fieldsAt lockWidths s) (add-zero (lockPlace k)))
+
+  pub slots-released : (P : Paging ℕ) → slotsOf (locksReleased t d) ≡ released (document P) t (slotsOf d)
+  unfolding slotsOf released
+  slots-released P =
+      tab-ext locksMost 0 (slotAt (locksReleased t d)) (λ k. freed (document P) t (slotAt d k)) (λ k _ h. slot-released P k h)
+      ∙ sym (map-tab (freed (document P) t) locksMost 0 (slotAt d))

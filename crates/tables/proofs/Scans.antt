@@ -1,0 +1,69 @@
+-- The place of the first element that passes a test: what one turn of a scan over a table comes to, and what stands at that place.
+-- A scan that has passed i places without success has i and the place in the rest. Assumes nothing.
+use Prim.Native.Nat.{ℕ, suc, _+_, _-_, _≤_, _<_}
+use mathlib.Core.Path.{_≡_, refl, sym, ap, _∙_}
+use mathlib.Core.Bool.{Bool, true, false, cond, _||_, false≢true}
+use mathlib.Core.List.{List, [], _∷_}
+use native.Mathlib.Nat.{sub-zero}
+use native.Mathlib.Omega.{arith}
+use borrow.Author.Tests.{lt-ltb}
+use lib.Dec.{ltb, leb·suc-suc}
+use lib.ListN.{length, getD}
+use Rattle.lists.specs.Lists.{any, tab, place}
+use Rattle.lists.proofs.Tables.{tab-next, tab-done}
+
+module _ {A : Type 0} (p : A → Bool) where
+  place-hit : (x : A) (xs : List A) → p x ≡ true → place p (x ∷ xs) ≡ 0
+  unfolding place
+  place-hit x xs e = rw e
+
+  place-miss : (x : A) (xs : List A) → p x ≡ false → place p (x ∷ xs) ≡ suc (place p xs)
+  unfolding place
+  place-miss x xs e = rw e
+
+  -- ---- the loop
+  module _ (n : ℕ) (f : ℕ → A) where
+    pub scan-start : place p (tab n 0 f) ≡ 0 + place p (tab n 0 f)
+    scan-start = omega arith
+
+    pub scan-start-of : (m : ℕ) → m ≡ n → place p (tab n 0 f) ≡ 0 + place p (tab (m - 0) 0 f)
+    scan-start-of m e = rw (sub-zero, e) scan-start
+
+  module _ (n : ℕ) (f : ℕ → A) (whole : ℕ) where
+    module _ (i : ℕ) (b : Bool) (q : b ≡ p (f i)) (h : i < n) (e : whole ≡ i + place p (tab (n - i) i f)) where
+      pub scan-next : b ≡ false → whole ≡ i + 1 + place p (tab (n - (i + 1)) (i + 1) f)
+      scan-next z =
+          let r = ap (place p) (tab-next n i f h) ∙ place-miss (f i) (tab (n - (i + 1)) (i + 1) f) (sym q ∙ z) in
+          omega arith
+
+      pub scan-found : b ≡ true → i ≡ whole
+      scan-found z =
+          let r = ap (place p) (tab-next n i f h) ∙ place-hit (f i) (tab (n - (i + 1)) (i + 1) f) (sym q ∙ z) in
+          omega arith
+
+    none-left : place p [] ≡ 0
+    unfolding place
+    none-left = refl
+
+    pub scan-done : (i : ℕ) → n ≤ i → i ≤ n → whole ≡ i + place p (tab (n - i) i f) → n ≡ whole
+    scan-done i h l e = let r = ap (place p) (tab-done n i f h) ∙ none-left in omega arith
+
+  -- ---- the list: some element passes where the place is one of its places, and the one there passes
+  pub place-any : (xs : List A) → any p xs ≡ ltb (place p xs) (length xs)
+  unfolding any place
+  place-any [] = refl
+  place-any (x ∷ xs) = go (p x) (place-any xs)
+    where
+      go : (b : Bool) → any p xs ≡ ltb (place p xs) (length xs) → (b || any p xs) ≡ ltb (cond b 0 (suc (place p xs))) (suc (length xs))
+      go true r = sym (lt-ltb 0 (suc (length xs)) (omega arith))
+      go false r = r ∙ sym (leb·suc-suc (suc (place p xs)) (length xs))
+
+  pub place-passes : (xs : List A) (d : A) → any p xs ≡ true → p (getD xs (place p xs) d) ≡ true
+  unfolding any place
+  place-passes [] d e = absurd (false≢true e)
+  place-passes (x ∷ xs) d e = go (p x) refl e (place-passes xs d)
+    where
+      go : (b : Bool) → p x ≡ b → (b || any p xs) ≡ true → (any p xs ≡ true → p (getD xs (place p xs) d) ≡ true)
+          → p (getD (x ∷ xs) (cond b 0 (suc (place p xs))) d) ≡ true
+      go true q e r = q
+      go false q e r = r e

@@ -1,0 +1,130 @@
+-- What the code's values are in the rule book, case by case: modes, names, locks and requests, as they are made, read and written.
+-- Each by the value of the test that the code has made there. Assumes nothing.
+use Prim.Native.Nat.{ℕ, _+_, _*_}
+use mathlib.Core.Path.{_≡_, refl, sym, ap, _∙_}
+use mathlib.Core.Bool.{Bool, true, false, cond, not, _&&_, false≢true}
+use mathlib.Core.List.{List, [], _∷_}
+use mathlib.Core.Option.{none}
+use borrow.Author.Tests.{eqb-true, eqb-false, eq-eqb, ne-eqb}
+use lib.Dec.{eqb}
+use Rattle.numbers.specs.Numbers.{numberAt, fieldsAt, putFields}
+use Rattle.rules.specs.Kinds.{Ask, read, insert, delete, Paging, Mode, S, X, Name, on, end}
+use Rattle.rules.specs.Locks.{conflict, stronger, sameName}
+use Rattle.rules.specs.Document.{document, endless, endMark}
+use Rattle.entries.specs.declared.Key.{Key}
+use Rattle.entries.specs.declared.Ask as A
+use Rattle.entries.specs.declared.Ask.the-variants as AV
+use Rattle.entries.specs.Meaning.{bookAsk}
+use Rattle.tables.specs.declared.Mode as M
+use Rattle.tables.specs.declared.Mode.the-variants as MV
+use Rattle.tables.specs.declared.Lock as L
+use Rattle.tables.specs.declared.Slot as Sl
+use Rattle.tables.specs.declared.Slot.the-variants as SV
+use Rattle.tables.specs.Layout.{recordPlace, recordAt, askIn, askAt, askFields, putAsk, lockWidths, lockPlace, nameIn, nameNumber, modeIn, modeNumber, slotIn, slotAt, slotFields, putSlot, bookMode, bookSlot}
+use Rattle.tables.specs.Moves.{isSlotOf, isSlotAgainst, strengthened}
+
+-- ---- modes
+pub mode-x : (number : ℕ) → number ≡ 2 → X ≡ modeIn number
+mode-x number e = sym (ap (λ b. cond b X S) (eq-eqb number 2 e))
+
+pub mode-s : (number : ℕ) → (number ≡ 2 → ⊥) → S ≡ modeIn number
+mode-s number h = sym (ap (λ b. cond b X S) (ne-eqb number 2 h))
+
+pub x-conflicts : (x y : M.Mode) → x ≡ MV.X → true ≡ conflict (bookMode x) (bookMode y)
+x-conflicts x MV.S e = rw e
+x-conflicts x MV.X e = rw e
+
+-- ---- names: the number of the end mark is the end, every other one a key
+pub name-back : (k : ℕ) → nameNumber (nameIn k) ≡ k
+name-back k = go (eqb k endMark) refl
+  where
+    go : (b : Bool) → eqb k endMark ≡ b → nameNumber (cond b end (on k)) ≡ k
+    go true e = sym (eqb-true k endMark e)
+    go false e = refl
+
+pub same-name : (P : Paging ℕ) (a b : ℕ) → sameName (document P) (nameIn a) (nameIn b) ≡ eqb a b
+same-name P a b = go (eqb a endMark) (eqb b endMark) refl refl
+  where
+    go : (x y : Bool) → eqb a endMark ≡ x → eqb b endMark ≡ y → sameName (document P) (cond x end (on a)) (cond y end (on b)) ≡ eqb a b
+    go true true p q = sym (eq-eqb a b (eqb-true a endMark p ∙ sym (eqb-true b endMark q)))
+    go true false p q = sym (ne-eqb a b (λ e. eqb-false b endMark q (sym e ∙ eqb-true a endMark p)))
+    go false true p q = sym (ne-eqb a b (λ e. eqb-false a endMark p (e ∙ eqb-true b endMark q)))
+    go false false p q = refl
+
+-- whatever the pages, names are the same in one book where they are in another, and only where they are equal
+pub names-any : (P : Paging ℕ) (a b : Name ℕ) → sameName (document P) a b ≡ sameName (document endless) a b
+names-any P (on a) (on b) = refl
+names-any P (on a) end = refl
+names-any P end (on b) = refl
+names-any P end end = refl
+
+pub same-is : (P : Paging ℕ) (a b : Name ℕ) → sameName (document P) a b ≡ true → a ≡ b
+same-is P (on a) (on b) e = ap on (eqb-true a b e)
+same-is P (on a) end e = absurd (false≢true e)
+same-is P end (on b) e = absurd (false≢true e)
+same-is P end end e = refl
+
+pub same-itself : (P : Paging ℕ) (a : Name ℕ) → sameName (document P) a a ≡ true
+same-itself P (on a) = eq-eqb a a refl
+same-itself P end = refl
+
+-- ---- a slot's tests
+module _ (s : Sl.Slot) (l : L.Lock) (e : s ≡ SV.Held l) (k : ℕ) (b : Bool) (q : b ≡ eqb (l .name .0) k) where
+  pub held-of : (t : ℕ) → (eqb (l .holder) t && b) ≡ isSlotOf t (nameIn k) (bookSlot s)
+  held-of t = rw (e, q, same-name endless (l .name .0) k)
+
+  pub held-against : (t : ℕ) (m : Mode) (c : Bool) → c ≡ conflict (bookMode (l .mode)) m
+      → (not (eqb (l .holder) t) && (b && c)) ≡ isSlotAgainst t (nameIn k) m (bookSlot s)
+  held-against t m c p = rw (e, p, q, same-name endless (l .name .0) k)
+
+pub held-strengthened : (s : Sl.Slot) (l : L.Lock) (m : Mode) (x : M.Mode) → s ≡ SV.Held l → bookMode x ≡ stronger (bookMode (l .mode)) m
+    → bookSlot (SV.Held (record { name = l .name; holder = l .holder; mode = x })) ≡ strengthened m (bookSlot s)
+held-strengthened s l m x e p = rw (e, p)
+
+-- ---- a slot read, and written
+pub read-free : (d : List ℕ) (i holder : ℕ) → holder ≡ numberAt 2 d (576 + 16 * i + 8) → holder ≡ 0 → none ≡ slotAt d i
+unfolding slotAt slotIn fieldsAt
+read-free d i holder e h = let z : eqb (numberAt 2 d (576 + 16 * i + 8)) 0 ≡ true = eq-eqb (numberAt 2 d (576 + 16 * i + 8)) 0 (sym e ∙ h) in rw z
+
+pub read-held : (d : List ℕ) (i : ℕ) (k : Key) (holder number : ℕ) (x : M.Mode) → holder ≡ numberAt 2 d (576 + 16 * i + 8) → (holder ≡ 0 → ⊥)
+    → k .0 ≡ numberAt 8 d (576 + 16 * i) → number ≡ numberAt 2 d (576 + 16 * i + 8 + 2) → bookMode x ≡ modeIn number
+    → bookSlot (SV.Held (record { name = k; holder = holder; mode = x })) ≡ slotAt d i
+unfolding slotAt slotIn fieldsAt
+read-held d i k holder number x e h p q r =
+    let z : eqb holder 0 ≡ false = ne-eqb holder 0 h in rw (r, p, q, ← e, z)
+
+pub put-free : (d u : List ℕ) (i : ℕ) (s : Sl.Slot) → s ≡ SV.Free → u ≡ putFields lockWidths d (lockPlace i) (0 ∷ 0 ∷ 0 ∷ 0 ∷ []) → u ≡ putSlot d i (bookSlot s)
+unfolding putSlot slotFields
+put-free d u i s e p = rw e p
+
+pub put-held : (d u : List ℕ) (i : ℕ) (s : Sl.Slot) (l : L.Lock) (number : ℕ) → s ≡ SV.Held l → number ≡ modeNumber (bookMode (l .mode))
+    → u ≡ putFields lockWidths d (lockPlace i) (l .name .0 ∷ l .holder ∷ number ∷ 0 ∷ []) → u ≡ putSlot d i (bookSlot s)
+unfolding putSlot slotFields
+put-held d u i s l number e q p = rw (e, name-back, ← q) p
+
+-- ---- a waiting request read, and written
+module _ (d : List ℕ) (t p kind : ℕ) (e : p ≡ recordPlace t) (q : kind ≡ numberAt 2 d (p + 2)) where
+  pub ask-read : (lo hi : ℕ) → kind ≡ 4 → lo ≡ numberAt 8 d (p + 2 + 2 + 4) → hi ≡ numberAt 8 d (p + 2 + 2 + 4 + 8) → read lo hi ≡ askAt d t
+  unfolding askIn recordAt fieldsAt
+  ask-read lo hi k r s = rw (← e, ← q, k, r, s)
+
+  pub ask-insert : (lo rec : ℕ) → (kind ≡ 4 → ⊥) → kind ≡ 5 → lo ≡ numberAt 8 d (p + 2 + 2 + 4) → rec ≡ numberAt 4 d (p + 2 + 2) → insert lo rec ≡ askAt d t
+  unfolding askIn recordAt fieldsAt
+  ask-insert lo rec h k r s = rw (← e, ← q, k, r, s)
+
+  pub ask-delete : (lo : ℕ) → (kind ≡ 4 → ⊥) → (kind ≡ 5 → ⊥) → lo ≡ numberAt 8 d (p + 2 + 2 + 4) → delete lo ≡ askAt d t
+  unfolding askIn recordAt fieldsAt
+  ask-delete lo h k r = rw (← e, ← q, ne-eqb kind 4 h, ne-eqb kind 5 k, r)
+
+module _ (d u : List ℕ) (t : ℕ) (a : A.Ask) where
+  pub put-read : (lo hi : Key) → a ≡ AV.Read lo hi → u ≡ putAsk d t (4 ∷ 0 ∷ lo .0 ∷ hi .0 ∷ []) → u ≡ putAsk d t (askFields (bookAsk a))
+  unfolding askFields
+  put-read lo hi e p = rw e p
+
+  pub put-insert : (k : Key) (r : ℕ) → a ≡ AV.Insert k r → u ≡ putAsk d t (5 ∷ r ∷ k .0 ∷ 0 ∷ []) → u ≡ putAsk d t (askFields (bookAsk a))
+  unfolding askFields
+  put-insert k r e p = rw e p
+
+  pub put-delete : (k : Key) → a ≡ AV.Delete k → u ≡ putAsk d t (6 ∷ 0 ∷ k .0 ∷ 0 ∷ []) → u ≡ putAsk d t (askFields (bookAsk a))
+  unfolding askFields
+  put-delete k e p = rw e p

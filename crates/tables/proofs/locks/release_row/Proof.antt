@@ -1,0 +1,47 @@
+-- `tables::locks::release_row` meets its contract: the row is zero where its holder is t, and as it was where it is not.
+-- Assumes nothing.
+use borrow.Author.Needs.{needs}
+use Rattle.tables.proofs.Releases.{row-freed, row-kept}
+use Rattle.tables.proofs.locks.release_row.Statement.{statement}
+use Rattle.tables.proofs.locks.release_row.Tie as tie
+
+mul-p : tie.Need-mul-p
+mul-p c = search needs
+
+add-p : tie.Need-add-p
+add-p c = search needs
+
+add-read-u16 : tie.Need-add-read-u16
+add-read-u16 c = search needs
+
+read-u16-requires : tie.Need-read-u16-requires
+read-u16-requires c κs = search needs
+
+zero-bytes-requires : tie.Need-zero-bytes-requires
+zero-bytes-requires c κs = search needs
+
+same-length : tie.Need-same-length
+same-length c = search needs
+
+returns : tie.Need-returns
+returns c = search (needs, row-freed)
+
+same-length-2 : tie.Need-same-length-2
+same-length-2 c = search needs
+
+returns-2 : tie.Need-returns-2
+returns-2 c = search (needs, row-kept)
+
+pub release-row-spec : {M : Type 1} → statement M
+release-row-spec =
+    tie.close
+    (tie.spec
+    mul-p
+    add-p
+    add-read-u16
+    read-u16-requires
+    zero-bytes-requires
+    same-length
+    returns
+    same-length-2
+    returns-2)

@@ -1,0 +1,172 @@
+// The lock table: its slots read and written, a lock found, taken and released. (Document 01, "Locks".)
+ghost use mathlib.Core.Path.{_≡_};
+ghost use mathlib.Core.Bool.{not};
+ghost use mathlib.Core.List.{[], _∷_};
+ghost use Prim.Native.Nat.{_<_};
+ghost use Rattle.numbers.specs.Numbers.{putFields};
+ghost use Rattle.rules.specs.Entries.{isThere};
+ghost use Rattle.tables.specs.Layout.{deskSize, locksMost, lockWidths, lockPlace, nameIn, slotAt, putSlot, bookMode, bookSlot};
+ghost use Rattle.tables.specs.Moves.{isSlotOf, heldIn, freeIn, lockTaken, lockGiven, rowReleased, locksReleased};
+use crate::LOCKS;
+use crate::Lock;
+use crate::Mode;
+use crate::Slot;
+use entries::Key;
+
+// Where the slots start.
+const SLOTS: usize = 576;
+
+// How many bytes a slot has.
+const WIDTH: usize = 16;
+
+// What slot i holds.
+pub fn slot_at(d: &[u8], i: usize) -> Slot
+    requires { do ⌜ (← ⟦d.len()⟧) ≡ deskSize ⌝ }
+    requires { ⌜ i < locksMost ⌝ }
+    ensures { λ r. ⌜ bookSlot r ≡ slotAt (now (d .entry)) i ⌝ }
+{
+    let p = SLOTS + WIDTH * i;
+    let q = p + 8;
+    let holder = numbers::read_u16(d, q);
+    if holder == 0 {
+        return Slot::Free;
+    }
+    let name = Key(numbers::read_u64(d, p));
+    let mode = Mode::of(numbers::read_u16(d, q + 2));
+    Slot::Held(Lock {
+        name: name,
+        holder: holder,
+        mode: mode,
+    })
+}
+
+// Writes slot i by its numbers, and nothing else.
+fn put_row(d: &mut [u8], i: usize, name: u64, holder: u16, mode: u16)
+    requires { do ⌜ (← ⟦d.len()⟧) ≡ deskSize ⌝ }
+    requires { ⌜ i < locksMost ⌝ }
+    ensures { λ _. ⌜ now (d .exit) ≡ putFields lockWidths (now (d .entry)) (lockPlace i) (name ∷ holder ∷ mode ∷ 0 ∷ []) ⌝ }
+{
+    let p = SLOTS + WIDTH * i;
+    let q = p + 8;
+    let r = q + 2;
+    numbers::write_u64(d, p, name);
+    numbers::write_u16(d, q, holder);
+    numbers::write_u16(d, r, mode);
+    numbers::write_u32(d, r + 2, 0);
+}
+
+// Writes slot i, and nothing else; a free slot is zero.
+pub fn put_slot(d: &mut [u8], i: usize, s: Slot)
+    requires { do ⌜ (← ⟦d.len()⟧) ≡ deskSize ⌝ }
+    requires { ⌜ i < locksMost ⌝ }
+    ensures { λ _. ⌜ now (d .exit) ≡ putSlot (now (d .entry)) i (bookSlot s) ⌝ }
+{
+    match s {
+        Slot::Free => put_row(d, i, 0, 0, 0),
+        Slot::Held(l) => {
+            let name = l.name;
+            let mode = l.mode;
+            put_row(d, i, name.0, l.holder, mode.number());
+        }
+    }
+}
+
+// Whether slot i is t's lock on a name.
+fn is_lock_of(d: &[u8], i: usize, t: u16, name: Key) -> bool
+    requires { do ⌜ (← ⟦d.len()⟧) ≡ deskSize ⌝ }
+    requires { ⌜ i < locksMost ⌝ }
+    ensures { λ r. ⌜ r ≡ isSlotOf t (nameIn (name .0)) (slotAt (now (d .entry)) i) ⌝ }
+{
+    slot_at(d, i).is_of(t, name)
+}
+
+// The slot of t's lock on a name, or the number of slots where t has none.
+pub fn find_lock(d: &[u8], t: u16, name: Key) -> usize
+    requires { do ⌜ (← ⟦d.len()⟧) ≡ deskSize ⌝ }
+    ensures { λ r. ⌜ r ≡ heldIn (now (d .entry)) t (nameIn (name .0)) ⌝ }
+{
+    let mut i: usize = 0;
+    while i < LOCKS {
+        if is_lock_of(d, i, t, name) {
+            return i;
+        }
+        i += 1;
+    }
+    LOCKS
+}
+
+// Whether slot i is free.
+fn is_free_at(d: &[u8], i: usize) -> bool
+    requires { do ⌜ (← ⟦d.len()⟧) ≡ deskSize ⌝ }
+    requires { ⌜ i < locksMost ⌝ }
+    ensures { λ r. ⌜ r ≡ not (isThere (slotAt (now (d .entry)) i)) ⌝ }
+{
+    slot_at(d, i).is_free()
+}
+
+// The lowest free slot, or the number of slots where none is free.
+pub fn free_slot(d: &[u8]) -> usize
+    requires { do ⌜ (← ⟦d.len()⟧) ≡ deskSize ⌝ }
+    ensures { λ r. ⌜ r ≡ freeIn (now (d .entry)) ⌝ }
+{
+    let mut j: usize = 0;
+    while j < LOCKS {
+        if is_free_at(d, j) {
+            return j;
+        }
+        j += 1;
+    }
+    LOCKS
+}
+
+// Takes a lock for t: strengthens the one that t has on the name, or puts a new one into the lowest free slot.
+// False, and nothing changed, where a new one is needed and no slot is free.
+pub fn take_lock(d: &mut [u8], t: u16, name: Key, mode: Mode) -> bool
+    requires { do ⌜ (← ⟦d.len()⟧) ≡ deskSize ⌝ }
+    ensures taken { λ _. ⌜ now (d .exit) ≡ lockTaken (now (d .entry)) t (nameIn (name .0)) (bookMode mode) ⌝ }
+    ensures given { λ r. ⌜ r ≡ lockGiven (now (d .entry)) t (nameIn (name .0)) ⌝ }
+{
+    let i = find_lock(d, t, name);
+    if i < LOCKS {
+        put_slot(d, i, slot_at(d, i).strengthened(mode));
+        return true;
+    }
+    let j = free_slot(d);
+    if j < LOCKS {
+        put_slot(
+            d,
+            j,
+            Slot::Held(Lock {
+                name: name,
+                holder: t,
+                mode: mode,
+            }),
+        );
+        return true;
+    }
+    false
+}
+
+// Sets slot i to zero if t is its holder.
+fn release_row(d: &mut [u8], i: usize, t: u16)
+    requires { do ⌜ (← ⟦d.len()⟧) ≡ deskSize ⌝ }
+    requires { ⌜ i < locksMost ⌝ }
+    ensures { λ _. ⌜ now (d .exit) ≡ rowReleased t i (now (d .entry)) ⌝ }
+{
+    let p = SLOTS + WIDTH * i;
+    if numbers::read_u16(d, p + 8) == t {
+        numbers::zero_bytes(d, p, WIDTH);
+    }
+}
+
+// Releases all locks of t: their slots are zero, the others keep their bytes.
+pub fn release_locks(d: &mut [u8], t: u16)
+    requires { do ⌜ (← ⟦d.len()⟧) ≡ deskSize ⌝ }
+    ensures { λ _. ⌜ now (d .exit) ≡ locksReleased t (now (d .entry)) ⌝ }
+{
+    let mut i: usize = 0;
+    while i < LOCKS {
+        release_row(d, i, t);
+        i += 1;
+    }
+}
