@@ -1,6 +1,6 @@
 -- Document 01, "Records and pages": the bytes of one page. A leaf's entries are read as the rule book's. Assumes nothing.
-use Prim.Native.Nat.{ℕ, _+_, _*_, _/_, _%_}
-use mathlib.Core.Bool.{Bool, cond}
+use Prim.Native.Nat.{ℕ, _+_, _*_, _/_, _%_, _<_}
+use mathlib.Core.Bool.{cond}
 use mathlib.Core.List.{List, [], _∷_}
 use mathlib.Core.Option.{Option, none, some}
 use lib.Dec.{eqb}
@@ -68,6 +68,13 @@ unfoldable pub entryFields : Entry ℕ ℕ → List ℕ
 entryFields e =
     e .key ∷ orZero (e .now) ∷ orZero (e .before) ∷ e .owner ∷ (bit (e .now) + 2 * bit (e .before)) ∷ []
 
+-- its numbers fit their widths, as those of every value of type Entry do
+pub record EntryFits (e : Entry ℕ ℕ) : Type 0 where
+  pub key : e .key < 18446744073709551616
+  pub owner : e .owner < 65536
+  pub now : orZero (e .now) < 4294967296
+  pub before : orZero (e .before) < 4294967296
+
 unfoldable pub entryAt : List ℕ → ℕ → Entry ℕ ℕ
 entryAt p i = entryIn (fieldsAt entryWidths p (16 + 20 * i))
 
@@ -86,6 +93,10 @@ childIn vs = record { low = record { 0 = getD vs 0 0 }; page = getD vs 1 0 }
 
 unfoldable pub childFields : Child → List ℕ
 childFields c = c .low .0 ∷ c .page ∷ 0 ∷ 0 ∷ []
+
+pub record ChildFits (c : Child) : Type 0 where
+  pub low : c .low .0 < 18446744073709551616
+  pub page : c .page < 65536
 
 unfoldable pub childAt : List ℕ → ℕ → Child
 childAt p i = childIn (fieldsAt childWidths p (16 + 16 * i))

@@ -1,0 +1,12 @@
+pub mod Heads
+pub mod Splices
+pub mod Rows
+pub mod WithRows
+pub mod Moves
+pub mod Divisions
+pub mod Readings
+pub mod Entries
+pub mod Children
+pub mod Changes
+pub mod Settling
+pub mod Searches

@@ -1,0 +1,240 @@
+-- A leaf settled in one pass: the rows passed are settled and stand at the front, the others are as they were; in the end the rest is zero.
+-- The page in the loop is the page at first with what is left of the rows passed put at byte 16. Assumes nothing.
+use mathlib.Core.Path.{_≡_, refl, sym, ap, ap₂, _∙_, subst}
+use mathlib.Core.Bool.{Bool, true, false, cond}
+use mathlib.Core.List.{List, [], _∷_, _++_, map, append-nil, map-append}
+use Prim.Native.Nat.{ℕ, zero, suc, _+_, _-_, _*_, _≤_, _<_}
+use native.Mathlib.Nat.{zero-add, add-zero}
+use native.Mathlib.Omega.{arith}
+use lib.Dec.{eqb, lit≤}
+use lib.ListN.{length, replicate, length-append}
+use borrow.Author.Tests.{eq-eqb, ne-eqb, not-true, not-false}
+use Rattle.lists.specs.Lists.{all, join, tab}
+use Rattle.lists.proofs.Counts.{join-append}
+use Rattle.lists.proofs.Tables.{tab-append}
+use Rattle.numbers.specs.Numbers.{putNumber, widthOf, putPart, copied, moved, zeroed, Bytes}
+use Rattle.numbers.proofs.Parts.{touches-putPart, part-apart, putPart-part, putPart-none}
+use Rattle.numbers.proofs.Kept.{bytes-part}
+use Rattle.rules.specs.Kinds.{Entry}
+use Rattle.rules.specs.Entries.{ghost, present, left, settled, committed, rolledBack}
+use Rattle.entries.specs.declared.Entry as Code
+use Rattle.entries.specs.Meaning.{bookEntry}
+use Rattle.pages.specs.Layout.{countOf, entryWidths, entryFields, entryAt, putEntry, entriesOf}
+use Rattle.pages.specs.Rows.{rowAt, rowsOf, withRows, entryRow, endOf, rowLeft, leafSettled}
+use Rattle.pages.specs.Steps.{RowSettled}
+use Rattle.pages.proofs.Splices.{putPart-behind, put-row}
+use Rattle.pages.proofs.Rows.{Wide, bytesOf, wide-more, wide-tab, wide-join, length-bytes, length-rowsOf, wide-rowsOf}
+use Rattle.pages.proofs.WithRows.{Fit, Kept, kept-with, count-with}
+use Rattle.pages.proofs.Moves.{with-is}
+use Rattle.pages.proofs.Entries.{rowEntry, row-entry, entry-row, row-fits, end-fits, length-entryRow, entries-with, entries-rows}
+
+-- ---- what is left of one row
+module _ (c : Bool) (t : ℕ) (r : List ℕ) where
+  pub left-other : (rowEntry r .owner ≡ t → ⊥) → rowLeft c t r ≡ r ∷ []
+  unfolding rowLeft
+  left-other h = rw (ne-eqb (rowEntry r .owner) t h)
+
+  pub left-gone : rowEntry r .owner ≡ t → ghost (endOf c (rowEntry r)) ≡ true → rowLeft c t r ≡ []
+  unfolding rowLeft left
+  left-gone h g = rw (eq-eqb (rowEntry r .owner) t h, not-true (present (endOf c (rowEntry r))) g)
+
+  pub left-kept : rowEntry r .owner ≡ t → ghost (endOf c (rowEntry r)) ≡ false → rowLeft c t r ≡ entryRow (endOf c (rowEntry r)) ∷ []
+  unfolding rowLeft left
+  left-kept h g = rw (eq-eqb (rowEntry r .owner) t h, not-false (present (endOf c (rowEntry r))) g)
+
+  -- at most one row, of an entry's width
+  length-left : length (rowLeft c t r) ≤ 1
+  unfolding rowLeft left
+  length-left = at (eqb (rowEntry r .owner) t) (present (endOf c (rowEntry r)))
+    where
+      at : (b d : Bool)
+          → length (cond b (map entryRow (cond b (cond d (endOf c (rowEntry r) ∷ []) []) (rowEntry r ∷ []))) (r ∷ [])) ≤ 1
+      at false d = lit≤ tt
+      at true true = lit≤ tt
+      at true false = lit≤ tt
+
+  wide-left : length r ≡ 20 → Wide 20 (rowLeft c t r)
+  unfolding rowLeft left all
+  wide-left e = at (eqb (rowEntry r .owner) t) (present (endOf c (rowEntry r)))
+    where
+      at : (b d : Bool) → Wide 20 (cond b (map entryRow (cond b (cond d (endOf c (rowEntry r) ∷ []) []) (rowEntry r ∷ []))) (r ∷ []))
+      at false d = wide-more 20 r [] e refl
+      at true true = wide-more 20 (entryRow (endOf c (rowEntry r))) [] (length-entryRow (endOf c (rowEntry r))) refl
+      at true false = refl
+
+few-left : (c : Bool) (t : ℕ) (rs : List (List ℕ)) → length (join (rowLeft c t) rs) ≤ length rs
+unfolding join
+few-left c t [] = lit≤ tt
+few-left c t (r ∷ rs) =
+    omega (arith, length-append (rowLeft c t r) (join (rowLeft c t) rs), length-left c t r, few-left c t rs)
+
+-- ---- one row passed, by what the code finds there
+one-row : (r : List ℕ) → bytesOf (r ∷ []) ≡ r
+unfolding join
+one-row r = append-nil r
+
+module _ (c : Bool) (t i j : ℕ) (p p₁ : List ℕ) where
+  settled-as : (rs : List (List ℕ)) (b : List ℕ) (m : ℕ) → rowLeft c t (rowAt 20 p i) ≡ rs → bytesOf rs ≡ b → length rs ≡ m → m ≤ 1
+      → p₁ ≡ putPart (16 + 20 * j) b p → RowSettled c t i j p p₁ (j + m)
+  settled-as rs b m e f l h q =
+      record {
+        bytes = q ∙ ap (λ x. putPart (16 + 20 * j) x p) (sym (ap bytesOf e ∙ f));
+        place = ap (λ x. j + x) (sym (ap length e ∙ l));
+        most = omega arith;
+      }
+
+  pub passed-other : (o : ℕ) → o ≡ entryAt p i .owner → (o ≡ t → ⊥) → p₁ ≡ moved 20 (16 + 20 * i) (16 + 20 * j) p → RowSettled c t i j p p₁ (j + 1)
+  unfolding copied rowAt
+  passed-other o a h q =
+      let n : rowEntry (rowAt 20 p i) .owner ≡ t → ⊥ = λ e. h (a ∙ ap (λ x. x .owner) (sym (row-entry p i)) ∙ e) in
+      settled-as (rowAt 20 p i ∷ []) (rowAt 20 p i) 1 (left-other c t (rowAt 20 p i) n) (one-row (rowAt 20 p i)) refl (lit≤ tt) q
+
+  module _ (e s : Code.Entry) (g : Bool) (o : entryAt p i .owner ≡ t) (a : bookEntry e ≡ entryAt p i) (b : bookEntry s ≡ endOf c (bookEntry e))
+      (d : g ≡ ghost (bookEntry s)) where
+    says : bookEntry s ≡ endOf c (rowEntry (rowAt 20 p i))
+    says = b ∙ ap (endOf c) (a ∙ sym (row-entry p i))
+
+    own : rowEntry (rowAt 20 p i) .owner ≡ t
+    own = ap (λ x. x .owner) (row-entry p i) ∙ o
+
+    is : (v : Bool) → g ≡ v → ghost (endOf c (rowEntry (rowAt 20 p i))) ≡ v
+    is v h = sym (ap ghost says) ∙ sym d ∙ h
+
+    pub passed-gone : g ≡ true → p₁ ≡ p → RowSettled c t i j p p₁ j
+    unfolding join
+    passed-gone h q =
+        subst (RowSettled c t i j p p₁) (add-zero j)
+        (settled-as [] [] 0 (left-gone c t (rowAt 20 p i) own (is true h)) refl refl (lit≤ tt) (q ∙ putPart-none (16 + 20 * j) p))
+
+    pub passed-kept : g ≡ false → p₁ ≡ putEntry p j (bookEntry s) → length p ≡ 512 → i < 24 → j ≤ i → RowSettled c t i j p p₁ (j + 1)
+    unfolding putEntry widthOf entryRow
+    passed-kept h q l m k =
+        settled-as (entryRow (endOf c (rowEntry (rowAt 20 p i))) ∷ []) (entryRow (bookEntry s)) 1
+        (left-kept c t (rowAt 20 p i) own (is false h)) (one-row (entryRow (endOf c (rowEntry (rowAt 20 p i)))) ∙ ap entryRow (sym says)) refl (lit≤ tt)
+        (q ∙ put-row entryWidths p (16 + 20 * j) (entryFields (bookEntry s)) 20 refl (omega arith))
+
+-- a row that stays where it is
+pub stays-there : (p : List ℕ) (i j : ℕ) → i ≡ j → i < 24 → length p ≡ 512 → p ≡ moved 20 (16 + 20 * i) (16 + 20 * j) p
+unfolding copied
+stays-there p i j e h l = rw (← e) (sym (putPart-part (16 + 20 * i) 20 p (omega arith)))
+
+-- an entry as it is then
+pub ends-yes : (c : Bool) (e r : Code.Entry) → c ≡ true → bookEntry r ≡ committed (bookEntry e) → bookEntry r ≡ endOf c (bookEntry e)
+ends-yes c e r h q = rw h q
+
+pub ends-no : (c : Bool) (e r : Code.Entry) → c ≡ false → bookEntry r ≡ rolledBack (bookEntry e) → bookEntry r ≡ endOf c (bookEntry e)
+ends-no c e r h q = rw h q
+
+-- ---- the pass
+-- what is left of the first i rows
+abbrev pub leftOf : Bool → ℕ → List ℕ → ℕ → List (List ℕ)
+leftOf c t p i = join (rowLeft c t) (tab i 0 (rowAt 20 p))
+
+-- they are settled, and the next one goes to place j
+pub record SettledTo (c : Bool) (t : ℕ) (p₀ : List ℕ) (i : ℕ) (p : List ℕ) (j : ℕ) : Type 0 where
+  pub bytes : p ≡ putPart 16 (bytesOf (leftOf c t p₀ i)) p₀
+  pub place : j ≡ length (leftOf c t p₀ i)
+
+left-next : (c : Bool) (t : ℕ) (p : List ℕ) (i : ℕ) → leftOf c t p (i + 1) ≡ leftOf c t p i ++ rowLeft c t (rowAt 20 p i)
+unfolding join tab
+left-next c t p i =
+    ap (join (rowLeft c t)) (tab-append i 1 0 (rowAt 20 p) ∙ ap (λ k. tab i 0 (rowAt 20 p) ++ (rowAt 20 p k ∷ [])) (zero-add i))
+    ∙ join-append (rowLeft c t) (tab i 0 (rowAt 20 p)) (rowAt 20 p i ∷ [])
+    ∙ ap (λ x. leftOf c t p i ++ x) (append-nil (rowLeft c t (rowAt 20 p i)))
+
+pub settled-none : (c : Bool) (t : ℕ) (p : List ℕ) → SettledTo c t p 0 p 0
+unfolding join tab
+settled-none c t p = record { bytes = putPart-none 16 p; place = refl }
+
+-- a row behind what has been put is as it was
+same-row : (b p : List ℕ) (i : ℕ) → length b ≤ 20 * i → 16 + 20 * i + 20 ≤ length p → rowAt 20 (putPart 16 b p) i ≡ rowAt 20 p i
+unfolding rowAt
+same-row b p i h l = part-apart (16 + 20 * i) 20 (touches-putPart 16 b p (omega arith)) (omega arith) l
+
+module _ (c : Bool) (t : ℕ) (p₀ p : List ℕ) (i j n : ℕ) (s : SettledTo c t p₀ i p j) (l : length p₀ ≡ 512) (e : n ≡ countOf p₀) (h : countOf p₀ ≤ 24) where
+  bytes-left : i ≤ n → length (bytesOf (leftOf c t p₀ i)) ≡ 20 * j
+  bytes-left k =
+      length-bytes 20 (leftOf c t p₀ i) (wide-join 20 (rowLeft c t) (wide-left c t) (tab i 0 (rowAt 20 p₀)) (wide-tab 20 p₀ i 0 (omega arith)))
+      ∙ ap (λ x. 20 * x) (sym (s .place))
+
+  pub settled-turn : (p₁ : List ℕ) (j₁ : ℕ) → RowSettled c t i j p p₁ j₁ → i < n → j ≤ i → SettledTo c t p₀ (i + 1) p₁ j₁
+  settled-turn p₁ j₁ d k m =
+      let b = bytes-left (omega arith) in
+      let f : rowAt 20 p i ≡ rowAt 20 p₀ i = ap (λ x. rowAt 20 x i) (s .bytes) ∙ same-row (bytesOf (leftOf c t p₀ i)) p₀ i (omega arith) (omega arith) in
+      let g = rowLeft c t (rowAt 20 p₀ i) in
+      record {
+        bytes =
+            d .bytes
+            ∙ ap₂ (λ x y. putPart (16 + 20 * j) (bytesOf (rowLeft c t x)) y) f (s .bytes)
+            ∙ putPart-behind 16 (20 * j) (bytesOf (leftOf c t p₀ i)) (bytesOf g) p₀ b (omega arith)
+            ∙ ap (λ x. putPart 16 x p₀) (sym (join-append (λ r. r) (leftOf c t p₀ i) g) ∙ ap bytesOf (sym (left-next c t p₀ i)));
+        place =
+            d .place
+            ∙ ap₂ (λ x y. x + length (rowLeft c t y)) (s .place) f
+            ∙ sym (length-append (leftOf c t p₀ i) g)
+            ∙ ap length (sym (left-next c t p₀ i));
+      }
+
+  pub settled-all : (p₁ : List ℕ) → p₁ ≡ putNumber 2 (zeroed (20 * (n - j)) (16 + 20 * j) p) 4 j → i ≤ n → n ≤ i → p₁ ≡ leafSettled c t p₀
+  unfolding leafSettled rowsOf zeroed
+  settled-all p₁ a k m =
+      let q : i ≡ countOf p₀ = omega arith in
+      let b = bytes-left k in
+      a
+      ∙ ap (λ x. putNumber 2 x 4 j)
+      (ap (putPart (16 + 20 * j) (replicate (20 * (n - j)) 0)) (s .bytes)
+      ∙ putPart-behind 16 (20 * j) (bytesOf (leftOf c t p₀ i)) (replicate (20 * (n - j)) 0) p₀ b (omega arith))
+      ∙ with-is 20 p₀ (leftOf c t p₀ i) j (bytesOf (leftOf c t p₀ i) ++ replicate (20 * (n - j)) 0) (sym (s .place))
+      (ap (λ x. bytesOf (leftOf c t p₀ i) ++ replicate (20 * (x - j)) 0) (sym e))
+      ∙ ap (λ x. withRows 20 p₀ (leftOf c t p₀ x)) q
+
+-- ---- the entries of a leaf that has been settled
+fit-settled : (c : Bool) (t : ℕ) (p : List ℕ) → length p ≡ 512 → countOf p ≤ 24 → Fit 20 p (join (rowLeft c t) (rowsOf 20 p))
+fit-settled c t p l h =
+    let own : 16 + 20 * countOf p ≤ length p = omega arith in
+    let m = length-rowsOf 20 p in
+    let n = few-left c t (rowsOf 20 p) in
+    record { wide = wide-join 20 (rowLeft c t) (wide-left c t) (rowsOf 20 p) (wide-rowsOf 20 p own); own = own; room = omega arith; few = omega arith }
+
+-- what is left of a row says what is left of its entry; that the row's bytes are bytes is needed where the entry is written anew
+said-left : (c : Bool) (t : ℕ) (r : List ℕ) → Bytes r → map rowEntry (rowLeft c t r) ≡ left (endOf c) t (rowEntry r)
+unfolding rowLeft left
+said-left c t r b = at (eqb (rowEntry r .owner) t) (present (endOf c (rowEntry r)))
+  where
+    at : (x y : Bool)
+        → map rowEntry (cond x (map entryRow (cond x (cond y (endOf c (rowEntry r) ∷ []) []) (rowEntry r ∷ []))) (r ∷ []))
+        ≡ cond x (cond y (endOf c (rowEntry r) ∷ []) []) (rowEntry r ∷ [])
+    at false y = refl
+    at true false = refl
+    at true true = ap (λ e. e ∷ []) (entry-row (endOf c (rowEntry r)) (end-fits c (rowEntry r) (row-fits r b)))
+
+said-tab : (c : Bool) (t : ℕ) (p : List ℕ) → Bytes p → (n i : ℕ)
+    → map rowEntry (join (rowLeft c t) (tab n i (rowAt 20 p))) ≡ join (left (endOf c) t) (map rowEntry (tab n i (rowAt 20 p)))
+unfolding join tab rowAt
+said-tab c t p b zero i = refl
+said-tab c t p b (suc n) i =
+    map-append rowEntry (rowLeft c t (rowAt 20 p i)) (join (rowLeft c t) (tab n (i + 1) (rowAt 20 p)))
+    ∙ ap₂ (λ x y. x ++ y) (said-left c t (rowAt 20 p i) (bytes-part (16 + 20 * i) 20 p b)) (said-tab c t p b n (i + 1))
+
+pub entries-settled : (c : Bool) (t : ℕ) (p : List ℕ) → Bytes p → length p ≡ 512 → countOf p ≤ 24
+    → entriesOf (leafSettled c t p) ≡ settled (endOf c) t (entriesOf p)
+unfolding leafSettled settled rowsOf
+entries-settled c t p b l h =
+    entries-with p (join (rowLeft c t) (rowsOf 20 p)) (fit-settled c t p l h)
+    ∙ said-tab c t p b (countOf p) 0
+    ∙ ap (join (left (endOf c) t)) (entries-rows p)
+
+pub kept-settled : (c : Bool) (t : ℕ) (p : List ℕ) → length p ≡ 512 → countOf p ≤ 24 → Kept 20 p (countOf (leafSettled c t p)) (leafSettled c t p)
+unfolding leafSettled
+kept-settled c t p l h =
+    let f = fit-settled c t p l h in
+    kept-with 20 p (join (rowLeft c t) (rowsOf 20 p)) (countOf (leafSettled c t p)) (leafSettled c t p) f
+    (sym (count-with 20 p (join (rowLeft c t) (rowsOf 20 p)) f)) refl
+
+pub fewer-settled : (c : Bool) (t : ℕ) (p : List ℕ) → length p ≡ 512 → countOf p ≤ 24 → countOf (leafSettled c t p) ≤ countOf p
+unfolding leafSettled
+fewer-settled c t p l h =
+    let m = length-rowsOf 20 p in
+    let n = few-left c t (rowsOf 20 p) in
+    let k = count-with 20 p (join (rowLeft c t) (rowsOf 20 p)) (fit-settled c t p l h) in
+    omega arith

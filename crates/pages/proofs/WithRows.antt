@@ -1,0 +1,297 @@
+-- Laws of a page that is given other rows (`withRows`): what is read of it then, that it may be done at once instead of in two steps, and
+-- that unused bytes stay zero. By what stands at each byte of it, which says all of it. Assumes nothing.
+use mathlib.Core.Path.{_≡_, refl, sym, ap, ap₂, _∙_, subst}
+use mathlib.Core.Bool.{true}
+use mathlib.Core.List.{List, _++_}
+use Prim.Native.Nat.{ℕ, zero, suc, _+_, _-_, _*_, _/_, _%_, _≤_, _<_}
+use native.Mathlib.Nat.{mul-le-mul-left, mul-sub, zero-add, div-one}
+use native.Mathlib.Decide.{decLt}
+use native.Mathlib.Omega.{arith}
+use lib.Dec.{lit<, lit≤}
+use lib.ListN.{length, getD, replicate, length-append, length-replicate, getD-replicate, List·getD-append}
+use lib.Seq.{ext-getD, take-all, getD-append-add}
+use Rattle.lists.specs.Lists.{insertAt, removeAt}
+use Rattle.lists.proofs.Places.{length-insertAt, length-removeAt}
+use Rattle.numbers.specs.Numbers.{numberAt, part, putPart, zeroAt, Apart, Bytes}
+use Rattle.numbers.proofs.Agree.{Agree}
+use Rattle.numbers.proofs.Numbers.{numberAt-ext, length-putNumber, getD-putNumber-in, getD-putNumber-out, number-below}
+use Rattle.numbers.proofs.Parts.{length-putPart, getD-part, getD-putPart-in, getD-putPart-out, part-ext}
+use Rattle.numbers.proofs.Moves.{zeroAt-true, zeroAt-is}
+use Rattle.numbers.proofs.Kept.{bytes-putNumber, bytes-putPart}
+use Rattle.pages.specs.Layout.{kindOf, countOf, levelOf}
+use Rattle.pages.specs.Rows.{rowsOf, withRows}
+use Rattle.pages.proofs.Rows.{Wide, bytesOf, length-bytes, rows-told, length-rowsOf, wide-rowsOf, bytes-rowsOf, wide-insert, wide-remove}
+
+-- the page has room for its own rows and for these
+pub record Fit (z : ℕ) (p : List ℕ) (rs : List (List ℕ)) : Type 0 where
+  pub wide : Wide z rs
+  pub own : 16 + z * countOf p ≤ length p
+  pub room : 16 + z * length rs ≤ length p
+  pub few : length rs < 65536
+
+-- what stands at each byte of u, where u is page p with rows rs
+pub record Holds (z : ℕ) (p : List ℕ) (rs : List (List ℕ)) (u : List ℕ) : Type 0 where
+  pub len : length u ≡ length p
+  pub low : getD u 4 0 ≡ length rs % 256
+  pub high : getD u 5 0 ≡ length rs / 256 % 256
+  pub head : (k : ℕ) → k < 16 → Apart k 1 4 2 → getD u k 0 ≡ getD p k 0
+  pub rows : (k : ℕ) → k < z * length rs → getD u (16 + k) 0 ≡ getD (bytesOf rs) k 0
+  pub freed : (k : ℕ) → 16 + z * length rs ≤ k → k < 16 + z * countOf p → getD u k 0 ≡ 0
+  pub behind : (k : ℕ) → 16 + z * length rs ≤ k → 16 + z * countOf p ≤ k → getD u k 0 ≡ getD p k 0
+
+-- which says all of it
+pub holds-same : (z : ℕ) (p : List ℕ) (rs : List (List ℕ)) (u v : List ℕ) → Holds z p rs u → Holds z p rs v → u ≡ v
+holds-same z p rs u v f g = ext-getD 0 u v (f .len ∙ sym (g .len)) (λ k l. inHead k (decLt k 16) (decLt k 4) (decLt k 5) (decLt k 6))
+  where
+    inRows : (k : ℕ) → 16 ≤ k → Dec (k < 16 + z * length rs) → Dec (k < 16 + z * countOf p) → getD u k 0 ≡ getD v k 0
+    inRows k h (yes a) b =
+        let e : k ≡ 16 + (k - 16) = omega arith in
+        let i : k - 16 < z * length rs = omega arith in
+        rw e (f .rows (k - 16) i ∙ sym (g .rows (k - 16) i))
+    inRows k h (no a) (yes b) = f .freed k (omega arith) b ∙ sym (g .freed k (omega arith) b)
+    inRows k h (no a) (no b) = f .behind k (omega arith) (omega arith) ∙ sym (g .behind k (omega arith) (omega arith))
+
+    inHead : (k : ℕ) → Dec (k < 16) → Dec (k < 4) → Dec (k < 5) → Dec (k < 6) → getD u k 0 ≡ getD v k 0
+    inHead k (no h) a b c = inRows k (omega arith) (decLt k (16 + z * length rs)) (decLt k (16 + z * countOf p))
+    inHead k (yes h) (yes a) b c = f .head k h (omega arith) ∙ sym (g .head k h (omega arith))
+    inHead k (yes h) (no a) (yes b) c = let e : k ≡ 4 = omega arith in rw e (f .low ∙ sym (g .low))
+    inHead k (yes h) (no a) (no b) (yes c) = let e : k ≡ 5 = omega arith in rw e (f .high ∙ sym (g .high))
+    inHead k (yes h) (no a) (no b) (no c) = f .head k h (omega arith) ∙ sym (g .head k h (omega arith))
+
+part-all : (n : ℕ) (s : List ℕ) → length s ≡ n → part 0 n s ≡ s
+unfolding part
+part-all n s e = take-all n s (omega arith)
+
+pub zero-at : (n i : ℕ) → _≡_ {A = ℕ} (getD (replicate n 0) i 0) 0
+zero-at zero i = refl
+zero-at (suc n) zero = refl
+zero-at (suc n) (suc i) = zero-at n i
+
+bytes-zeros : (s : List ℕ) (n : ℕ) → Bytes s → Bytes (s ++ replicate n 0)
+bytes-zeros s n h = record { below = λ i. at i (decLt i (length s)) }
+  where
+    at : (i : ℕ) → Dec (i < length s) → getD (s ++ replicate n 0) i 0 < 256
+    at i (yes a) = omega (arith, List·getD-append s (replicate n 0) 0 i a, h .below i)
+    at i (no a) =
+        let q : i ≡ length s + (i - length s) = omega arith in
+        omega (arith, ap (λ x. getD (s ++ replicate n 0) x 0) q, getD-append-add s (replicate n 0) (i - length s) 0, zero-at n (i - length s))
+
+-- the bytes that are written from 16 on
+abbrev pub strip : ℕ → List ℕ → List (List ℕ) → List ℕ
+strip z p rs = bytesOf rs ++ replicate (z * (countOf p - length rs)) 0
+
+module _ (z : ℕ) (p : List ℕ) (rs : List (List ℕ)) (f : Fit z p rs) where
+  length-strip : length (strip z p rs) ≡ z * length rs + (z * countOf p - z * length rs)
+  length-strip =
+      length-append (bytesOf rs) (replicate (z * (countOf p - length rs)) 0)
+      ∙ ap₂ (λ x y. x + y) (length-bytes z rs (f .wide)) (length-replicate (z * (countOf p - length rs)) 0 ∙ mul-sub z (countOf p) (length rs))
+
+  pub span : 16 + length (strip z p rs) ≤ length p
+  span = omega (arith, length-strip, f .own, f .room)
+
+  pub holds-with : Holds z p rs (withRows z p rs)
+  unfolding withRows
+  holds-with =
+      let e = length-strip in
+      let s = span in
+      let b = length-bytes z rs (f .wide) in
+      record {
+        len = length-putNumber 2 u 4 (length rs) ∙ length-putPart 16 (strip z p rs) p s;
+        low = getD-putNumber-in 2 u 4 (length rs) 0 (lit< tt) (omega (arith, l)) ∙ ap (λ x. x % 256) (div-one (length rs));
+        high = getD-putNumber-in 2 u 4 (length rs) 1 (lit< tt) (omega (arith, l));
+        head = λ k h a. getD-putNumber-out 2 u 4 (length rs) k a ∙ getD-putPart-out 16 (strip z p rs) p k s (omega arith);
+        rows = λ k h.
+            getD-putNumber-out 2 u 4 (length rs) (16 + k) (omega arith)
+            ∙ getD-putPart-in 16 (strip z p rs) p k (omega arith) (omega arith)
+            ∙ List·getD-append (bytesOf rs) zeros 0 k (omega arith);
+        freed = λ k h m.
+            let q : k ≡ 16 + (length (bytesOf rs) + (k - (16 + z * length rs))) = omega arith in
+            getD-putNumber-out 2 u 4 (length rs) k (omega arith)
+            ∙ ap (λ x. getD u x 0) q
+            ∙ getD-putPart-in 16 (strip z p rs) p (length (bytesOf rs) + (k - (16 + z * length rs))) (omega arith) (omega arith)
+            ∙ getD-append-add (bytesOf rs) zeros (k - (16 + z * length rs)) 0
+            ∙ getD-replicate (z * (countOf p - length rs)) (k - (16 + z * length rs)) 0 0 (omega (arith, mul-sub z (countOf p) (length rs)));
+        behind = λ k h m.
+            getD-putNumber-out 2 u 4 (length rs) k (omega arith) ∙ getD-putPart-out 16 (strip z p rs) p k s (omega arith);
+      }
+    where
+      zeros : List ℕ
+      zeros = replicate (z * (countOf p - length rs)) 0
+
+      u : List ℕ
+      u = putPart 16 (strip z p rs) p
+
+      l : length u ≡ length p
+      l = length-putPart 16 (strip z p rs) p span
+
+  -- ---- what is read of it
+  pub length-with : length (withRows z p rs) ≡ length p
+  length-with = holds-with .len
+
+  pub count-with : countOf (withRows z p rs) ≡ length rs
+  unfolding numberAt
+  count-with = let h = holds-with in omega (arith, h .low, h .high, f .few)
+
+  -- the head but for the count
+  pub head-with : (w at : ℕ) → at + w ≤ 16 → Apart at w 4 2 → numberAt w (withRows z p rs) at ≡ numberAt w p at
+  head-with w at h a = numberAt-ext w (record { byte = λ k l. holds-with .head (at + k) (omega arith) (omega arith) })
+
+  pub kind-with : kindOf (withRows z p rs) ≡ kindOf p
+  kind-with = head-with 2 2 (lit≤ tt) (lit< tt)
+
+  pub level-with : levelOf (withRows z p rs) ≡ levelOf p
+  level-with = head-with 2 6 (lit≤ tt) (lit< tt)
+
+  pub rows-with : rowsOf z (withRows z p rs) ≡ rs
+  rows-with =
+      let l = length-with in
+      let c = count-with in
+      let b = length-bytes z rs (f .wide) in
+      let own : 16 + z * countOf (withRows z p rs) ≤ length (withRows z p rs) = rw (c, l) (f .room) in
+      let g : Agree (z * length rs) (withRows z p rs) 16 (bytesOf rs) 0 =
+      record { byte = λ k h. holds-with .rows k h ∙ ap (λ x. getD (bytesOf rs) x 0) (sym (zero-add k)) } in
+      rows-told z (rowsOf z (withRows z p rs)) rs (wide-rowsOf z (withRows z p rs) own) (f .wide) (length-rowsOf z (withRows z p rs) ∙ c)
+      (bytes-rowsOf z (withRows z p rs)
+      ∙ ap (λ n. part 16 (z * n) (withRows z p rs)) c
+      ∙ part-ext (z * length rs) (omega (arith, f .room)) (omega arith) g
+      ∙ part-all (z * length rs) (bytesOf rs) (omega arith))
+
+  -- "Unused bytes are zero": where they are zero before, they are so afterwards
+  pub zero-with : (b : ℕ) → b ≤ length p → zeroAt (b - (16 + z * countOf p)) (16 + z * countOf p) p ≡ true
+      → zeroAt (b - (16 + z * length rs)) (16 + z * length rs) (withRows z p rs) ≡ true
+  zero-with b h e =
+      let l = length-with in
+      let own : 16 + z * countOf p ≤ length p = f .own in
+      let room : 16 + z * length rs ≤ length p = f .room in
+      zeroAt-is (b - (16 + z * length rs)) (16 + z * length rs) (withRows z p rs) (omega arith)
+      (record { byte = λ k m. at (16 + z * length rs + k) (omega arith) (omega arith) (decLt (16 + z * length rs + k) (16 + z * countOf p)) })
+    where
+      at : (k : ℕ) → 16 + z * length rs ≤ k → k < b → Dec (k < 16 + z * countOf p) → getD (withRows z p rs) k 0 ≡ 0
+      at k m j (yes a) = holds-with .freed k m a
+      at k m j (no a) =
+          let q : k ≡ 16 + z * countOf p + (k - (16 + z * countOf p)) = omega arith in
+          let i : k - (16 + z * countOf p) < b - (16 + z * countOf p) = omega arith in
+          holds-with .behind k m (omega arith)
+          ∙ ap (λ x. getD p x 0) q
+          ∙ zeroAt-true (b - (16 + z * countOf p)) (16 + z * countOf p) p e (omega (arith, f .own)) .byte (k - (16 + z * countOf p)) i
+
+  -- ---- bytes stay bytes
+  pub bytes-with : Bytes p → Bytes (bytesOf rs) → Bytes (withRows z p rs)
+  unfolding withRows
+  bytes-with g h =
+      bytes-putNumber 2 (putPart 16 (strip z p rs) p) 4 (length rs) (bytes-putPart 16 (strip z p rs) p span (bytes-zeros (bytesOf rs) (z * (countOf p - length rs)) h) g)
+
+-- ---- all that is kept of a page that is given n rows
+pub record Kept (z : ℕ) (p : List ℕ) (n : ℕ) (p′ : List ℕ) : Type 0 where
+  pub len : length p′ ≡ length p
+  pub count : countOf p′ ≡ n
+  pub kind : kindOf p′ ≡ kindOf p
+  pub level : levelOf p′ ≡ levelOf p
+  pub head : (w at : ℕ) → at + w ≤ 16 → Apart at w 4 2 → numberAt w p′ at ≡ numberAt w p at
+  pub zero : (b : ℕ) → b ≤ length p → zeroAt (b - (16 + z * countOf p)) (16 + z * countOf p) p ≡ true
+      → zeroAt (b - (16 + z * n)) (16 + z * n) p′ ≡ true
+
+pub kept-with : (z : ℕ) (p : List ℕ) (rs : List (List ℕ)) (n : ℕ) (p′ : List ℕ) → Fit z p rs → length rs ≡ n → p′ ≡ withRows z p rs → Kept z p n p′
+kept-with z p rs n p′ f e q =
+    subst (Kept z p n) (sym q)
+    (subst (λ m. Kept z p m (withRows z p rs)) e
+    (record {
+      len = length-with z p rs f;
+      count = count-with z p rs f;
+      kind = kind-with z p rs f;
+      level = level-with z p rs f;
+      head = head-with z p rs f;
+      zero = zero-with z p rs f;
+    }))
+
+-- ---- rows that fit
+fit-own : (z : ℕ) (p : List ℕ) → 16 + z * countOf p ≤ length p → countOf p < 65536 → Fit z p (rowsOf z p)
+fit-own z p h l =
+    let e = length-rowsOf z p in
+    record { wide = wide-rowsOf z p h; own = h; room = rw e h; few = omega arith }
+
+module _ (z : ℕ) (p : List ℕ) (i : ℕ) where
+  pub length-insert : (r : List ℕ) → length (insertAt i r (rowsOf z p)) ≡ countOf p + 1
+  length-insert r = length-insertAt i r (rowsOf z p) ∙ ap (λ m. m + 1) (length-rowsOf z p)
+
+  pub length-remove : i < countOf p → length (removeAt i (rowsOf z p)) ≡ countOf p - 1
+  length-remove h = length-removeAt i (rowsOf z p) (rw (length-rowsOf z p) h) ∙ ap (λ m. m - 1) (length-rowsOf z p)
+
+  pub fit-insert : (r : List ℕ) → length r ≡ z → 16 + z * (countOf p + 1) ≤ length p → countOf p + 1 < 65536 → Fit z p (insertAt i r (rowsOf z p))
+  fit-insert r e h l =
+      let m : length (insertAt i r (rowsOf z p)) ≡ countOf p + 1 = length-insert r in
+      let own : 16 + z * countOf p ≤ length p = omega arith in
+      record { wide = wide-insert z i r (rowsOf z p) e (wide-rowsOf z p own); own = own; room = rw m h; few = omega arith }
+
+  pub fit-remove : i < countOf p → 16 + z * countOf p ≤ length p → countOf p < 65536 → Fit z p (removeAt i (rowsOf z p))
+  fit-remove k h l =
+      let m : length (removeAt i (rowsOf z p)) ≡ countOf p - 1 = length-remove k in
+      let n : countOf p - 1 ≤ countOf p = omega arith in
+      record { wide = wide-remove z i (rowsOf z p) (wide-rowsOf z p h); own = h; room = rw m (omega (arith, mul-le-mul-left z n)); few = omega arith }
+
+pub fit-with : (z : ℕ) (p : List ℕ) (rs qs : List (List ℕ)) → Fit z p rs → Fit z p qs → Fit z (withRows z p rs) qs
+fit-with z p rs qs f g =
+    let l = length-with z p rs f in
+    record { wide = g .wide; own = rw (count-with z p rs f, l) (f .room); room = rw l (g .room); few = g .few }
+
+-- ---- other rows instead of those: what was given between counts no more, where its rows lie within the page's own or the later ones
+pub with-with : (z : ℕ) (p : List ℕ) (rs qs : List (List ℕ)) → Fit z p rs → Fit z p qs → length rs ≤ length qs + (countOf p - length qs)
+    → withRows z (withRows z p rs) qs ≡ withRows z p qs
+with-with z p rs qs f g h =
+    holds-same z p qs (withRows z u qs) (withRows z p qs)
+    (record {
+      len = b .len ∙ a .len;
+      low = b .low;
+      high = b .high;
+      head = λ k i j. b .head k i j ∙ a .head k i j;
+      rows = b .rows;
+      freed = λ k i j. within k i j (decLt k (16 + z * length rs));
+      behind = λ k i j. let m = past k i j (decLt (length qs) (countOf p)) in b .behind k i (rw c m) ∙ a .behind k m j;
+    })
+    (holds-with z p qs g)
+  where
+    u : List ℕ
+    u = withRows z p rs
+
+    a : Holds z p rs u
+    a = holds-with z p rs f
+
+    b : Holds z u qs (withRows z u qs)
+    b = holds-with z u qs (fit-with z p rs qs f g)
+
+    c : countOf u ≡ length rs
+    c = count-with z p rs f
+
+    within : (k : ℕ) → 16 + z * length qs ≤ k → k < 16 + z * countOf p → Dec (k < 16 + z * length rs) → getD (withRows z u qs) k 0 ≡ 0
+    within k i j (yes m) = b .freed k i (rw c m)
+    within k i j (no m) = b .behind k i (rw c (omega arith)) ∙ a .freed k (omega arith) j
+
+    past : (k : ℕ) → 16 + z * length qs ≤ k → 16 + z * countOf p ≤ k → Dec (length qs < countOf p) → 16 + z * length rs ≤ k
+    past k i j (yes m) = let l : length rs ≤ countOf p = omega arith in omega (arith, mul-le-mul-left z l)
+    past k i j (no m) = let l : length rs ≤ length qs = omega arith in omega (arith, mul-le-mul-left z l)
+
+count-low : (p : List ℕ) → Bytes p → getD p 4 0 ≡ countOf p % 256
+unfolding numberAt
+count-low p g = omega (arith, g .below 4)
+
+count-high : (p : List ℕ) → Bytes p → getD p 5 0 ≡ countOf p / 256 % 256
+unfolding numberAt
+count-high p g = omega (arith, g .below 4, g .below 5)
+
+-- a page with its own rows is itself; that its count's two bytes are bytes is needed here
+pub with-own : (z : ℕ) (p : List ℕ) → Bytes p → 16 + z * countOf p ≤ length p → withRows z p (rowsOf z p) ≡ p
+with-own z p g h =
+    let e = length-rowsOf z p in
+    let f = fit-own z p h (number-below 2 p 4 g) in
+    holds-same z p (rowsOf z p) (withRows z p (rowsOf z p)) p (holds-with z p (rowsOf z p) f)
+    (record {
+      len = refl;
+      low = count-low p g ∙ ap (λ n. n % 256) (sym e);
+      high = count-high p g ∙ ap (λ n. n / 256 % 256) (sym e);
+      head = λ k i j. refl;
+      rows = λ k i.
+          let m : k < z * countOf p = rw e at i in
+          sym (ap (λ s. getD s k 0) (bytes-rowsOf z p) ∙ getD-part 16 (z * countOf p) p k m);
+      freed = λ k i j. let m : 16 + z * countOf p ≤ k = rw e at i in absurd (omega arith);
+      behind = λ k i j. refl;
+    })

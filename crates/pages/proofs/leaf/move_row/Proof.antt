@@ -1,0 +1,43 @@
+-- `pages::leaf::move_row` meets its contract: a row moved to its own place stays as it is.
+-- Assumes nothing.
+use borrow.Author.Needs.{needs}
+use Rattle.pages.proofs.Settling.{stays-there}
+use Rattle.pages.proofs.leaf.move_row.Statement.{statement}
+use Rattle.pages.proofs.leaf.move_row.Tie as tie
+
+returns : tie.Need-returns
+returns c = search (needs, stays-there)
+
+mul-move-down : tie.Need-mul-move-down
+mul-move-down c = search needs
+
+add-move-down : tie.Need-add-move-down
+add-move-down c = search needs
+
+mul-move-down-2 : tie.Need-mul-move-down-2
+mul-move-down-2 c = search needs
+
+add-move-down-2 : tie.Need-add-move-down-2
+add-move-down-2 c = search needs
+
+move-down-requires : tie.Need-move-down-requires
+move-down-requires c κs = search needs
+
+same-length : tie.Need-same-length
+same-length c = search needs
+
+returns-2 : tie.Need-returns-2
+returns-2 c = search needs
+
+pub move-row-spec : {M : Type 1} → statement M
+move-row-spec =
+    tie.close
+    (tie.spec
+    returns
+    mul-move-down
+    add-move-down
+    mul-move-down-2
+    add-move-down-2
+    move-down-requires
+    same-length
+    returns-2)

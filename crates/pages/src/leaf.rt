@@ -1,0 +1,260 @@
+// A leaf: up to 24 entries, by their keys.
+ghost use mathlib.Core.Path.{_≡_};
+ghost use Prim.Native.Nat.{_+_, _*_, _/_, _≤_, _<_};
+ghost use lib.ListN.{length};
+ghost use Rattle.lists.specs.Lists.{insertAt};
+ghost use Rattle.numbers.specs.Numbers.{moved};
+ghost use Rattle.entries.specs.Meaning.{bookEntry, bookValue};
+ghost use Rattle.entries.specs.Records.{orZero};
+ghost use Rattle.pages.specs.Layout.{countOf, ifBit, bit, EntryFits, entryAt, putEntry};
+ghost use Rattle.pages.specs.Rows.{rowsOf, entryRow, entryPut, entryTaken, endOf, leafSettled, Divided, asTheyAre};
+ghost use Rattle.pages.specs.Steps.{RowSettled, PackedAs};
+ghost use Rattle.pages.specs.Places.{EntryPlace};
+use super::head;
+use entries::Entry;
+use entries::Key;
+use entries::Value;
+
+// The entry at a place.
+pub fn entry_at(p: &[u8], i: usize) -> Entry
+    requires { ⌜ length (now p) ≡ 512 ⌝ }
+    requires { ⌜ i < 24 ⌝ }
+    ensures { λ r. ⌜ bookEntry r ≡ entryAt (now (p .entry)) i ⌝ }
+{
+    let key_at = 16 + 20 * i;
+    let now_at = key_at + 8;
+    let before_at = now_at + 4;
+    let owner_at = before_at + 4;
+    let key = numbers::read_u64(p, key_at);
+    let now = numbers::read_u32(p, now_at);
+    let before = numbers::read_u32(p, before_at);
+    let owner = numbers::read_u16(p, owner_at);
+    let there = numbers::read_u16(p, owner_at + 2);
+    Entry {
+        key: Key(key),
+        owner: owner,
+        now: value_if(there, now),
+        before: value_if(there / 2, before),
+    }
+}
+
+// The key of the entry at a place.
+pub fn key_at(p: &[u8], i: usize) -> Key
+    requires { ⌜ length (now p) ≡ 512 ⌝ }
+    requires { ⌜ i < 24 ⌝ }
+    ensures { λ r. ⌜ r .0 ≡ entryAt (now (p .entry)) i .key ⌝ }
+{
+    Key(numbers::read_u64(p, 16 + 20 * i))
+}
+
+// The place of the first entry at or above a key, or how many entries there are.
+pub fn first_at_or_above(p: &[u8], key: Key) -> usize
+    requires { ⌜ length (now p) ≡ 512 ⌝ }
+    requires { ⌜ countOf (now p) ≤ 24 ⌝ }
+    ensures { λ r. ⌜ EntryPlace (now (p .entry)) (key .0) r ⌝ }
+{
+    let n = head::count_of(p);
+    let mut i: usize = 0;
+    while i < n {
+        if key.at_most(key_at(p, i)) {
+            return i;
+        }
+        i += 1;
+    }
+    i
+}
+
+// Writes an entry at a place.
+pub fn put_entry(p: &mut [u8], i: usize, e: Entry)
+    requires { ⌜ length (now p) ≡ 512 ⌝ }
+    requires { ⌜ i < 24 ⌝ }
+    ensures { λ _. ⌜ now (p .exit) ≡ putEntry (now (p .entry)) i (bookEntry e) ⌝ }
+    ensures { λ _. ⌜ EntryFits (bookEntry e) ⌝ }
+{
+    let key_at = 16 + 20 * i;
+    let now_at = key_at + 8;
+    let before_at = now_at + 4;
+    let owner_at = before_at + 4;
+    let key = e.key;
+    let row = pack(e);
+    numbers::write_u64(p, key_at, key.0);
+    numbers::write_u32(p, now_at, row.now);
+    numbers::write_u32(p, before_at, row.before);
+    numbers::write_u16(p, owner_at, e.owner);
+    numbers::write_u16(p, owner_at + 2, row.there);
+}
+
+// Puts an entry in at a place. Those from there on move up by one.
+pub fn insert_entry(p: &mut [u8], i: usize, e: Entry)
+    requires { ⌜ length (now p) ≡ 512 ⌝ }
+    requires { ⌜ countOf (now p) ≤ 23 ⌝ }
+    requires { ⌜ i ≤ countOf (now p) ⌝ }
+    ensures { λ _. ⌜ now (p .exit) ≡ entryPut (now (p .entry)) i (bookEntry e) ⌝ }
+    ensures { λ _. ⌜ EntryFits (bookEntry e) ⌝ }
+{
+    let n = head::count_of(p);
+    let at = 16 + 20 * i;
+    numbers::move_up(p, at, at + 20, 20 * (n - i));
+    put_entry(p, i, e);
+    head::put_count(p, n + 1);
+}
+
+// Takes the entry at a place out. Those behind it move down by one, and the last one's bytes are zero.
+pub fn take_entry(p: &mut [u8], i: usize)
+    requires { ⌜ length (now p) ≡ 512 ⌝ }
+    requires { ⌜ countOf (now p) ≤ 24 ⌝ }
+    requires { ⌜ i < countOf (now p) ⌝ }
+    ensures { λ _. ⌜ now (p .exit) ≡ entryTaken (now (p .entry)) i ⌝ }
+{
+    let last = head::count_of(p) - 1;
+    let at = 16 + 20 * i;
+    numbers::move_down(p, at + 20, at, 20 * (last - i));
+    super::cut_rows(p, 20 * last, 20, last);
+}
+
+// Puts an entry in at a place of a full leaf. The lowest 13 stay, the others go to a leaf that has none yet.
+pub fn split_leaf(left: &mut [u8], right: &mut [u8], i: usize, e: Entry)
+    requires { ⌜ length (now left) ≡ 512 ⌝ }
+    requires { ⌜ length (now right) ≡ 512 ⌝ }
+    requires { ⌜ countOf (now left) ≡ 24 ⌝ }
+    requires { ⌜ countOf (now right) ≡ 0 ⌝ }
+    requires { ⌜ i ≤ 24 ⌝ }
+    ensures { λ _. ⌜ Divided 20 13 asTheyAre (insertAt i (entryRow (bookEntry e)) (rowsOf 20 (now (left .entry)))) (now (left .entry)) (now (right .entry)) (now (left .exit)) (now (right .exit)) ⌝ }
+    ensures { λ _. ⌜ EntryFits (bookEntry e) ⌝ }
+{
+    if i < 13 {
+        super::part_rows(left, right, 240, 240, 12, 12);
+        insert_entry(left, i, e);
+        return;
+    }
+    super::part_rows(left, right, 260, 220, 13, 11);
+    insert_entry(right, i - 13, e);
+}
+
+// What a transaction that has ended leaves in a leaf: its own entries as they are then, without those left absent, and the others as
+// they are. The rows that are freed become zero.
+pub fn settle_leaf(p: &mut [u8], owner: u16, commits: bool)
+    requires { ⌜ length (now p) ≡ 512 ⌝ }
+    requires { ⌜ countOf (now p) ≤ 24 ⌝ }
+    ensures { λ _. ⌜ now (p .exit) ≡ leafSettled commits owner (now (p .entry)) ⌝ }
+{
+    let n = head::count_of(p);
+    let mut i: usize = 0;
+    let mut j: usize = 0;
+    while i < n {
+        j = settle_row(p, i, j, owner, commits);
+        i += 1;
+    }
+    super::cut_rows(p, 20 * j, 20 * (n - j), j);
+}
+
+// Puts what is left of the entry at i to place j, and gives the place behind it.
+fn settle_row(p: &mut [u8], i: usize, j: usize, owner: u16, commits: bool) -> usize
+    requires { ⌜ length (now p) ≡ 512 ⌝ }
+    requires { ⌜ i < 24 ⌝ }
+    requires { ⌜ j ≤ i ⌝ }
+    ensures { λ r. ⌜ RowSettled commits owner i j (now (p .entry)) (now (p .exit)) r ⌝ }
+{
+    if owner_at(p, i) == owner {
+        return settle_own(p, i, j, owner, commits);
+    }
+    move_row(p, i, j);
+    j + 1
+}
+
+// The same, where the entry is the owner's.
+fn settle_own(p: &mut [u8], i: usize, j: usize, owner: u16, commits: bool) -> usize
+    requires { ⌜ length (now p) ≡ 512 ⌝ }
+    requires { ⌜ i < 24 ⌝ }
+    requires { ⌜ j ≤ i ⌝ }
+    requires { ⌜ entryAt (now p) i .owner ≡ owner ⌝ }
+    ensures { λ r. ⌜ RowSettled commits owner i j (now (p .entry)) (now (p .exit)) r ⌝ }
+{
+    let e = settled(entry_at(p, i), commits);
+    if e.is_ghost() {
+        return j;
+    }
+    put_entry(p, j, e);
+    j + 1
+}
+
+// An entry as it is when its owner has ended.
+fn settled(e: Entry, commits: bool) -> Entry
+    ensures { λ r. ⌜ bookEntry r ≡ endOf commits (bookEntry e) ⌝ }
+{
+    if commits {
+        return e.committed();
+    }
+    e.rolled_back()
+}
+
+// The owner of the entry at a place.
+fn owner_at(p: &[u8], i: usize) -> u16
+    requires { ⌜ length (now p) ≡ 512 ⌝ }
+    requires { ⌜ i < 24 ⌝ }
+    ensures { λ r. ⌜ r ≡ entryAt (now (p .entry)) i .owner ⌝ }
+{
+    numbers::read_u16(p, 16 + 20 * i + 8 + 4 + 4)
+}
+
+// Moves the bytes of the row at i down to place j.
+fn move_row(p: &mut [u8], i: usize, j: usize)
+    requires { ⌜ length (now p) ≡ 512 ⌝ }
+    requires { ⌜ i < 24 ⌝ }
+    requires { ⌜ j ≤ i ⌝ }
+    ensures { λ _. ⌜ now (p .exit) ≡ moved 20 (16 + 20 * i) (16 + 20 * j) (now (p .entry)) ⌝ }
+{
+    if i == j {
+        return;
+    }
+    numbers::move_down(p, 16 + 20 * i, 16 + 20 * j, 20);
+}
+
+// A record that is there if its bit, the lowest, is set.
+fn value_if(there: u16, rec: u32) -> Value
+    ensures { λ r. ⌜ bookValue r ≡ ifBit there rec ⌝ }
+{
+    if there % 2 == 1 {
+        return Value::Present(rec);
+    }
+    Value::Absent
+}
+
+// The records and the presence of an entry as its row has them.
+struct Packed {
+    now: u32,
+    before: u32,
+    there: u16,
+}
+
+fn pack(e: Entry) -> Packed
+    ensures { λ r. ⌜ PackedAs (bookEntry e) (r .now) (r .before) (r .there) ⌝ }
+{
+    let now = e.now;
+    let before = e.before;
+    Packed {
+        now: record_in(now),
+        before: record_in(before),
+        there: bit_of(now) + 2 * bit_of(before),
+    }
+}
+
+// The record, or 0 where it is absent.
+fn record_in(v: Value) -> u32
+    ensures { λ r. ⌜ r ≡ orZero (bookValue v) ⌝ }
+{
+    match v {
+        Value::Present(rec) => rec,
+        Value::Absent => 0,
+    }
+}
+
+// 1 where the record is present, 0 where it is absent.
+fn bit_of(v: Value) -> u16
+    ensures { λ r. ⌜ (r ≡ bit (bookValue v)) × (r < 2) ⌝ }
+{
+    match v {
+        Value::Present(_) => 1,
+        Value::Absent => 0,
+    }
+}
