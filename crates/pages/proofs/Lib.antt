@@ -10,3 +10,4 @@ pub mod Children
 pub mod Changes
 pub mod Settling
 pub mod Searches
+pub mod Written

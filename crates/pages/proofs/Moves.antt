@@ -2,20 +2,21 @@
 -- with other rows. All that is written comes to one part put at byte 16. Assumes nothing.
 use mathlib.Core.Path.{_≡_, sym, ap, ap₂, _∙_}
 use mathlib.Core.List.{List, [], _∷_, _++_, append-assoc, append-nil}
-use Prim.Native.Nat.{ℕ, suc, _+_, _-_, _*_, _≤_, _<_}
-use native.Mathlib.Nat.{mul-le-mul-left, mul-sub, mul-zero, mul-one, zero-add}
+use Prim.Native.Nat.{ℕ, suc, _+_, _-_, _*_, _/_, _%_, _≤_, _<_}
+use native.Mathlib.Nat.{mul-le-mul-left, mul-sub, mul-zero, mul-one, zero-add, div-one}
+use native.Mathlib.Numerals.{add-one}
 use native.Mathlib.Omega.{arith}
 use native.Mathlib.Decide.{decLt}
 use lib.Dec.{lit<}
-use lib.ListN.{length, getD, take, drop, replicate, length-replicate, length-drop, List·getD-append}
-use lib.Seq.{length-take-le, getD-append-add}
+use lib.ListN.{length, getD, set, length-set, take, drop, replicate, length-replicate, length-drop, List·getD-append}
+use lib.Seq.{ext-getD, set-split, length-take-le, getD-append-add}
 use Rattle.lists.specs.Lists.{join, insertAt, removeAt}
 use Rattle.lists.proofs.Counts.{join-append}
 use Rattle.lists.proofs.Places.{insertAt-is, removeAt-is, length-insertAt, length-removeAt}
 use Rattle.numbers.specs.Numbers.{putNumber, widthOf, putFields, part, putPart, copied, moved, zeroed}
 use Rattle.numbers.proofs.Numbers.{length-putNumber, getD-putNumber-in, getD-putNumber-out}
 use Rattle.numbers.proofs.Fields.{length-putFields}
-use Rattle.numbers.proofs.Parts.{length-part, putPart-part}
+use Rattle.numbers.proofs.Parts.{length-part, length-putPart, getD-putPart-out, putPart-part}
 use Rattle.numbers.proofs.Moves.{length-copied}
 use Rattle.pages.specs.Layout.{countOf}
 use Rattle.pages.specs.Rows.{rowsOf, withRows, fromZero}
@@ -141,6 +142,53 @@ row-out z p i h l =
 
     len : length (removeAt i (rowsOf z p)) ≡ n - 1
     len = length-removeAt i (rowsOf z p) (rw (length-rowsOf z p) h) ∙ ap (λ m. m - 1) (length-rowsOf z p)
+
+-- ---- a row written over; the count's bytes are those of a number
+count-same : (u : List ℕ) (n : ℕ) → 6 ≤ length u → getD u 4 0 ≡ n % 256 → getD u 5 0 ≡ n / 256 % 256 → putNumber 2 u 4 n ≡ u
+count-same u n l a b =
+    ext-getD 0 (putNumber 2 u 4 n) u (length-putNumber 2 u 4 n) (λ k h. at k (decLt k 4) (decLt k 5) (decLt k 6))
+  where
+    at : (k : ℕ) → Dec (k < 4) → Dec (k < 5) → Dec (k < 6) → getD (putNumber 2 u 4 n) k 0 ≡ getD u k 0
+    at k (yes h) c d = getD-putNumber-out 2 u 4 n k (omega arith)
+    at k (no h) (yes c) d =
+        let e : k ≡ 4 = omega arith in rw e (getD-putNumber-in 2 u 4 n 0 (lit< tt) (omega arith) ∙ ap (λ x. x % 256) (div-one n) ∙ sym a)
+    at k (no h) (no c) (yes d) = let e : k ≡ 5 = omega arith in rw e (getD-putNumber-in 2 u 4 n 1 (lit< tt) (omega arith) ∙ sym b)
+    at k (no h) (no c) (no d) = getD-putNumber-out 2 u 4 n k (omega arith)
+
+set-bytes : (z : ℕ) (p : List ℕ) (i : ℕ) (r : List ℕ) → i < countOf p
+    → bytesOf (set (rowsOf z p) i r) ≡ part 16 (z * i) p ++ (r ++ part (16 + z * (i + 1)) (z * (countOf p - (i + 1))) p)
+unfolding join
+set-bytes z p i r h =
+    ap bytesOf (set-split (rowsOf z p) i r (rw (length-rowsOf z p) h) ∙ ap (λ k. take i (rowsOf z p) ++ r ∷ drop k (rowsOf z p)) (sym (add-one i)))
+    ∙ join-append (λ r. r) (take i (rowsOf z p)) (r ∷ drop (i + 1) (rowsOf z p))
+    ∙ ap₂ (λ x y. x ++ (r ++ y)) (bytes-take z p i (omega arith)) (bytes-drop z p (i + 1))
+
+pub row-over : (z : ℕ) (p : List ℕ) (i : ℕ) (r : List ℕ) → i < countOf p → 16 + z * countOf p ≤ length p → length r ≡ z
+    → getD p 4 0 ≡ countOf p % 256 → getD p 5 0 ≡ countOf p / 256 % 256 → putPart (16 + z * i) r p ≡ withRows z p (set (rowsOf z p) i r)
+row-over z p i r h l e a b =
+    sym (count-same (putPart at r p) n (omega (arith, length-putPart at r p (omega (arith, m, e)), m))
+    (getD-putPart-out at r p 4 (omega (arith, m, e)) (omega arith) ∙ a) (getD-putPart-out at r p 5 (omega (arith, m, e)) (omega arith) ∙ b))
+    ∙ ap (λ u. putNumber 2 u 4 n)
+    (ap (putPart at r) (sym (putPart-part (at + z) rest p m))
+    ∙ putPart-before at z r (part (at + z) rest p) p e (omega (arith, m))
+    ∙ from-16 (z * i) (r ++ part (at + z) rest p) p (omega (arith, m)))
+    ∙ with-is z p (set (rowsOf z p) i r) n (part 16 (z * i) p ++ (r ++ part (at + z) rest p)) (length-set (rowsOf z p) i r ∙ length-rowsOf z p)
+    (nothing-freed z n n (bytesOf (set (rowsOf z p) i r)) (omega arith) ∙ set-bytes z p i r h ∙ ap (λ x. part 16 (z * i) p ++ (r ++ part x rest p)) q)
+  where
+    n : ℕ
+    n = countOf p
+
+    at : ℕ
+    at = 16 + z * i
+
+    rest : ℕ
+    rest = z * (n - (i + 1))
+
+    m : at + z + rest ≤ length p
+    m = let k : i + 1 + (n - (i + 1)) ≡ n = omega arith in omega (arith, ap (λ x. z * x) k)
+
+    q : 16 + z * (i + 1) ≡ at + z
+    q = omega arith
 
 -- ---- the first rows stay, and the others go to a page that has none
 module _ (z : ℕ) (p : List ℕ) (stay go : ℕ) (e : countOf p ≡ stay + go) (h : 16 + z * countOf p ≤ length p) where

@@ -1,6 +1,7 @@
 -- A leaf settled in one pass: the rows passed are settled and stand at the front, the others are as they were; in the end the rest is zero.
 -- The page in the loop is the page at first with what is left of the rows passed put at byte 16. Assumes nothing.
 use mathlib.Core.Path.{_≡_, refl, sym, ap, ap₂, _∙_, subst}
+use mathlib.Core.Logic.{inl, inr}
 use mathlib.Core.Bool.{Bool, true, false, cond}
 use mathlib.Core.List.{List, [], _∷_, _++_, map, append-nil, map-append}
 use Prim.Native.Nat.{ℕ, zero, suc, _+_, _-_, _*_, _≤_, _<_}
@@ -9,7 +10,7 @@ use native.Mathlib.Omega.{arith}
 use lib.Dec.{eqb, lit≤}
 use lib.ListN.{length, replicate, length-append}
 use borrow.Author.Tests.{eq-eqb, ne-eqb, not-true, not-false}
-use Rattle.lists.specs.Lists.{all, join, tab}
+use Rattle.lists.specs.Lists.{In, all, join, tab}
 use Rattle.lists.proofs.Counts.{join-append}
 use Rattle.lists.proofs.Tables.{tab-append}
 use Rattle.numbers.specs.Numbers.{putNumber, widthOf, putPart, copied, moved, zeroed, Bytes}
@@ -19,7 +20,7 @@ use Rattle.rules.specs.Kinds.{Entry}
 use Rattle.rules.specs.Entries.{ghost, present, left, settled, committed, rolledBack}
 use Rattle.entries.specs.declared.Entry as Code
 use Rattle.entries.specs.Meaning.{bookEntry}
-use Rattle.pages.specs.Layout.{countOf, entryWidths, entryFields, entryAt, putEntry, entriesOf}
+use Rattle.pages.specs.Layout.{EntryFits, countOf, entryWidths, entryFields, entryAt, putEntry, entriesOf}
 use Rattle.pages.specs.Rows.{rowAt, rowsOf, withRows, entryRow, endOf, rowLeft, leafSettled}
 use Rattle.pages.specs.Steps.{RowSettled}
 use Rattle.pages.proofs.Splices.{putPart-behind, put-row}
@@ -62,7 +63,7 @@ module _ (c : Bool) (t : ℕ) (r : List ℕ) where
       at true true = wide-more 20 (entryRow (endOf c (rowEntry r))) [] (length-entryRow (endOf c (rowEntry r))) refl
       at true false = refl
 
-few-left : (c : Bool) (t : ℕ) (rs : List (List ℕ)) → length (join (rowLeft c t) rs) ≤ length rs
+pub few-left : (c : Bool) (t : ℕ) (rs : List (List ℕ)) → length (join (rowLeft c t) rs) ≤ length rs
 unfolding join
 few-left c t [] = lit≤ tt
 few-left c t (r ∷ rs) =
@@ -207,6 +208,24 @@ said-left c t r b = at (eqb (rowEntry r .owner) t) (present (endOf c (rowEntry r
     at false y = refl
     at true false = refl
     at true true = ap (λ e. e ∷ []) (entry-row (endOf c (rowEntry r)) (end-fits c (rowEntry r) (row-fits r b)))
+
+-- and what is left of an entry's row is the rows of what is left of it
+left-entry : (c : Bool) (t : ℕ) (e : Entry ℕ ℕ) → EntryFits e → rowLeft c t (entryRow e) ≡ map entryRow (left (endOf c) t e)
+unfolding rowLeft left
+left-entry c t e f = rw (entry-row e f) (at (eqb (e .owner) t))
+  where
+    at : (b : Bool) → cond b (map entryRow (cond b (cond (present (endOf c e)) (endOf c e ∷ []) []) (e ∷ []))) (entryRow e ∷ [])
+        ≡ map entryRow (cond b (cond (present (endOf c e)) (endOf c e ∷ []) []) (e ∷ []))
+    at true = refl
+    at false = refl
+
+pub rows-settled : (c : Bool) (t : ℕ) (es : List (Entry ℕ ℕ)) → ((e : Entry ℕ ℕ) → In e es → EntryFits e)
+    → join (rowLeft c t) (map entryRow es) ≡ map entryRow (settled (endOf c) t es)
+unfolding join settled
+rows-settled c t [] f = refl
+rows-settled c t (e ∷ es) f =
+    ap₂ (λ x y. x ++ y) (left-entry c t e (f e (inl refl))) (rows-settled c t es (λ x i. f x (inr i)))
+    ∙ sym (map-append entryRow (left (endOf c) t e) (join (left (endOf c) t) es))
 
 said-tab : (c : Bool) (t : ℕ) (p : List ℕ) → Bytes p → (n i : ℕ)
     → map rowEntry (join (rowLeft c t) (tab n i (rowAt 20 p))) ≡ join (left (endOf c) t) (map rowEntry (tab n i (rowAt 20 p)))

@@ -45,7 +45,7 @@ module _ (at k : ℕ) (t u s : List ℕ) (e : length t ≡ k) where
       ∙ ap₂ (λ x y. x ++ drop y s) (append-assoc (take at s) t u) m
 
 -- ---- a record that is written: the same bytes wherever it is written, so a part put
-number-alike : (w : ℕ) (s : List ℕ) (a : ℕ) (t : List ℕ) (b v : ℕ) → a + w ≤ length s → b + w ≤ length t
+pub number-alike : (w : ℕ) (s : List ℕ) (a : ℕ) (t : List ℕ) (b v : ℕ) → a + w ≤ length s → b + w ≤ length t
     → Agree w (putNumber w s a v) a (putNumber w t b v) b
 number-alike w s a t b v h l =
     record { byte = λ k m. getD-putNumber-in w s a v k m h ∙ sym (getD-putNumber-in w t b v k m l) }

@@ -234,10 +234,11 @@ fit-with z p rs qs f g =
     let l = length-with z p rs f in
     record { wide = g .wide; own = rw (count-with z p rs f, l) (f .room); room = rw l (g .room); few = g .few }
 
--- ---- other rows instead of those: what was given between counts no more, where its rows lie within the page's own or the later ones
-pub with-with : (z : ℕ) (p : List ℕ) (rs qs : List (List ℕ)) → Fit z p rs → Fit z p qs → length rs ≤ length qs + (countOf p - length qs)
+-- ---- other rows instead of those: what was given between counts no more, where what only its rows have written over was zero
+with-over : (z : ℕ) (p : List ℕ) (rs qs : List (List ℕ)) → Fit z p rs → Fit z p qs
+    → ((k : ℕ) → 16 + z * length qs ≤ k → 16 + z * countOf p ≤ k → k < 16 + z * length rs → getD p k 0 ≡ 0)
     → withRows z (withRows z p rs) qs ≡ withRows z p qs
-with-with z p rs qs f g h =
+with-over z p rs qs f g h =
     holds-same z p qs (withRows z u qs) (withRows z p qs)
     (record {
       len = b .len ∙ a .len;
@@ -246,7 +247,7 @@ with-with z p rs qs f g h =
       head = λ k i j. b .head k i j ∙ a .head k i j;
       rows = b .rows;
       freed = λ k i j. within k i j (decLt k (16 + z * length rs));
-      behind = λ k i j. let m = past k i j (decLt (length qs) (countOf p)) in b .behind k i (rw c m) ∙ a .behind k m j;
+      behind = λ k i j. past k i j (decLt k (16 + z * length rs));
     })
     (holds-with z p qs g)
   where
@@ -266,9 +267,28 @@ with-with z p rs qs f g h =
     within k i j (yes m) = b .freed k i (rw c m)
     within k i j (no m) = b .behind k i (rw c (omega arith)) ∙ a .freed k (omega arith) j
 
-    past : (k : ℕ) → 16 + z * length qs ≤ k → 16 + z * countOf p ≤ k → Dec (length qs < countOf p) → 16 + z * length rs ≤ k
-    past k i j (yes m) = let l : length rs ≤ countOf p = omega arith in omega (arith, mul-le-mul-left z l)
-    past k i j (no m) = let l : length rs ≤ length qs = omega arith in omega (arith, mul-le-mul-left z l)
+    past : (k : ℕ) → 16 + z * length qs ≤ k → 16 + z * countOf p ≤ k → Dec (k < 16 + z * length rs) → getD (withRows z u qs) k 0 ≡ getD p k 0
+    past k i j (yes m) = b .freed k i (rw c m) ∙ sym (h k i j m)
+    past k i j (no m) = b .behind k i (rw c (omega arith)) ∙ a .behind k (omega arith) j
+
+-- so where its rows lie within the page's own or the later ones
+pub with-with : (z : ℕ) (p : List ℕ) (rs qs : List (List ℕ)) → Fit z p rs → Fit z p qs → length rs ≤ length qs + (countOf p - length qs)
+    → withRows z (withRows z p rs) qs ≡ withRows z p qs
+with-with z p rs qs f g h = with-over z p rs qs f g (λ k i j m. absurd (never k i j m (decLt (length qs) (countOf p))))
+  where
+    never : (k : ℕ) → 16 + z * length qs ≤ k → 16 + z * countOf p ≤ k → k < 16 + z * length rs → Dec (length qs < countOf p) → ⊥
+    never k i j m (yes d) = let l : length rs ≤ countOf p = omega arith in omega (arith, mul-le-mul-left z l)
+    never k i j m (no d) = let l : length rs ≤ length qs = omega arith in omega (arith, mul-le-mul-left z l)
+
+-- and where the page's unused bytes are zero
+pub with-blank : (z : ℕ) (p : List ℕ) (rs qs : List (List ℕ)) → Fit z p rs → Fit z p qs
+    → zeroAt (length p - (16 + z * countOf p)) (16 + z * countOf p) p ≡ true → withRows z (withRows z p rs) qs ≡ withRows z p qs
+with-blank z p rs qs f g e =
+    with-over z p rs qs f g
+    (λ k i j m.
+    let q : k ≡ 16 + z * countOf p + (k - (16 + z * countOf p)) = omega arith in
+    ap (λ x. getD p x 0) q
+    ∙ zeroAt-true (length p - (16 + z * countOf p)) (16 + z * countOf p) p e (omega (arith, f .own)) .byte (k - (16 + z * countOf p)) (omega (arith, f .room)))
 
 count-low : (p : List ℕ) → Bytes p → getD p 4 0 ≡ countOf p % 256
 unfolding numberAt
