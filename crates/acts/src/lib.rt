@@ -1,0 +1,2 @@
+// Acting on a whole picture: the run of a request that nobody blocks, and the end of a transaction.
+// (Document 01, "Working the queue" and "What the desk says".)
