@@ -1,0 +1,14 @@
+pub mod Written
+pub mod Says
+pub mod Values
+pub mod Desks
+pub mod Reading
+pub mod Kept
+pub mod Marks
+pub mod Locks
+pub mod Queues
+pub mod Moves
+pub mod Ends
+pub mod Fresh
+pub mod Good
+pub mod Itself
