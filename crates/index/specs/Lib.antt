@@ -1,3 +1,5 @@
 pub mod Pictures
 pub mod Searches
 pub mod Changes
+pub mod Descents
+pub mod Growing

@@ -1,6 +1,18 @@
 // The index in lent pages: a B-tree in 64 pages of 512 bytes. (Document 01, "Records and pages".)
+mod descent;
+mod fresh;
+mod insert;
+mod room;
+mod search;
+mod settling;
+
 use entries::Entry;
 use entries::Key;
+pub use fresh::fresh_pages;
+pub use insert::add;
+pub use room::room_for;
+pub use search::find;
+pub use settling::settle;
 
 // What a search looks for: the first entry at or above lo that is above hi or isn't the asker's own ghost.
 pub struct Sought {
@@ -12,4 +24,29 @@ pub struct Sought {
 pub enum Found {
     Here(Entry),
     Nothing,
+}
+
+// Page 0: the root's page, its level, and how many pages are used.
+pub struct Top {
+    pub root: usize,
+    pub level: usize,
+    pub used: usize,
+}
+
+// A place among an inner page's children, and how many there are.
+pub struct Step {
+    pub slot: usize,
+    pub count: usize,
+}
+
+// The child that a key belongs to: its place and its page.
+pub struct Way {
+    pub slot: usize,
+    pub page: usize,
+}
+
+// What becomes of a tree that an entry was put into: how many pages are used then, and the new tree beside it if it was divided.
+pub enum Grown {
+    Same(usize),
+    Split(usize, pages::Child),
 }

@@ -1,0 +1,250 @@
+-- An insert of a missing key, from the root: the tree grown, with a new root if it was divided, and page 0 written, is the index with the
+-- entry, whole again. Page 0 and a new root are pages apart from the tree's. Assumes nothing.
+use Rattle.pages.specs.Layout.{ChildFits}
+use Prim.Native.Nat.{ℕ, zero, suc, _+_, _-_, _≤_, _<_, compare}
+use mathlib.Core.Path.{_≡_, refl, sym, ap, ap₂, subst, _∙_}
+use mathlib.Core.Logic.{_≢_, _⊎_, inl, inr}
+use mathlib.Core.Bool.{Bool, true, false, cond, not}
+use mathlib.Core.List.{List, [], _∷_, map}
+use mathlib.Core.Option.{Option, none, some}
+use native.Mathlib.Omega.{arith}
+use lib.Dec.{leb, eqb, ltb, lit<, lit≤}
+use lib.ListN.{length, replicate}
+use borrow.Author.Tests.{leb-true, not-true, not-false, le-leb, lt-leb, eq-eqb}
+use Rattle.lists.specs.Lists.{In}
+use Rattle.rules.specs.Document.{endMark}
+use Rattle.rules.proofs.Orders.{numbers-ordered}
+use Rattle.entries.specs.declared.Entry as E
+use Rattle.entries.specs.Meaning.{bookEntry}
+use Rattle.pages.specs.declared.Child as P
+use Rattle.pages.specs.Layout.{rootOf, usedOf, heightOf, putRoot, childrenOf}
+use Rattle.trees.specs.Trees.{Child, Tree, Index, WholeIndex, documentSizes, summed, above, times, flat}
+use Rattle.trees.specs.Growth as G
+use Rattle.trees.specs.Growth.{missing, grown, rooted, withItem, fits, needed}
+use Rattle.trees.proofs.Pages.{grown-times}
+use Rattle.trees.proofs.Need.{Run, grown-needs}
+use Rattle.trees.proofs.Wholes.{with-whole, document-fair}
+use Rattle.index.specs.declared.Top.{Top}
+use Rattle.index.specs.declared.Grown.{Grown}
+use Rattle.index.specs.declared.Grown.the-variants.{Same, Split}
+use Rattle.index.specs.Pictures.{Item, keyOf, pageAt, putPage, treeOf, indexOf, entriesIn, headPage, innerPage, Laid, WholePages}
+use Rattle.index.specs.Changes.{withEntry, entryFits, Becomes, Added}
+use Rattle.index.specs.Descents.{Subtree, TopOf, runOf}
+use Rattle.index.specs.Growing.{SmallEntry, GrowIn, Grew, usedIn, grownOf, rootPage, RootIn}
+use Rattle.index.proofs.Buffers.{length-putPage, page-same, page-kept}
+use Rattle.index.proofs.Inners as Inner
+use Rattle.index.proofs.Frame as F
+use Rattle.index.proofs.Frame.{Times, own-page, frame, laid-frame}
+use Rattle.index.proofs.Subtrees.{used-page, subtree-root, one-at-most}
+use Rattle.pages.proofs.Children as C
+use Rattle.index.proofs.Divided.{child-small}
+use Rattle.index.proofs.Widens.{unused}
+use Rattle.index.proofs.Heads.{length-head, head-again, root-head, used-head, height-head, level-small}
+
+-- ---- what stands in the buffer, from page 0 on
+pub becomes : (s : List ℕ) (root used n : ℕ) (x : Index ℕ Item) → length s ≡ 32768 → pageAt s 0 ≡ headPage root used (n + 1) → root < 65536 → used ≤ 64 → n < 65535
+    → Laid n s root → ((q : ℕ) → used ≤ q → q < 64 → pageAt s q ≡ replicate 512 0)
+    → record { level = n; used = used; tree = treeOf n s root } ≡ x → WholeIndex compare keyOf 0 (some endMark) documentSizes x → Becomes s x
+unfolding indexOf
+becomes s root used n x size head a b c laid spare is whole =
+    let i : rootOf (pageAt s 0) ≡ root = ap rootOf head ∙ root-head root used (n + 1) a (omega arith) (omega arith) in
+    let j : usedOf (pageAt s 0) ≡ used = ap usedOf head ∙ used-head root used (n + 1) a (omega arith) (omega arith) in
+    let k : heightOf (pageAt s 0) ≡ n + 1 = ap heightOf head ∙ height-head root used (n + 1) a (omega arith) (omega arith) in
+    let l : heightOf (pageAt s 0) - 1 ≡ n = omega arith in
+    let y : indexOf s ≡ x =
+    ap (λ m. record { level = m; used = usedOf (pageAt s 0); tree = treeOf m s (rootOf (pageAt s 0)) }) l
+    ∙ ap (λ m. record { level = n; used = m; tree = treeOf n s (rootOf (pageAt s 0)) }) j
+    ∙ ap (λ m. record { level = n; used = used; tree = treeOf n s m }) i ∙ is in
+    record {
+      whole = record {
+        size = size;
+        head = head ∙ sym (ap (λ m. headPage m (usedOf (pageAt s 0)) (heightOf (pageAt s 0))) i ∙ ap (λ m. headPage root m (heightOf (pageAt s 0))) j ∙ ap (headPage root used) k);
+        tall = omega arith;
+        laid = subst (λ m. Laid m s (rootOf (pageAt s 0))) (sym l) (subst (Laid n s) (sym i) laid);
+        spare = λ q g h. spare q (omega arith) h;
+        index = subst (WholeIndex compare keyOf 0 (some endMark) documentSizes) (sym y) whole;
+      };
+      index = y;
+    }
+
+-- where the pages are short, nothing has changed
+pub not-added : (s : List ℕ) (e : Item) (r : Bool) → WholePages s → r ≡ entryFits (e .key) (indexOf s) → not r ≡ true → Added s s e false
+not-added s e r w f h =
+    record { fit = sym (not-true r h) ∙ f; becomes = record { whole = w; index = refl } }
+
+module _ (s : List ℕ) (w : WholePages s) (t : Top) (o : TopOf s t) (e : Item) (r : Bool) (fit : r ≡ entryFits (e .key) (indexOf s)) (yes : not r ≡ false) where
+  abbrev p₀ : List ℕ
+  p₀ = pageAt s 0
+
+  abbrev n : ℕ
+  n = t .level
+
+  sub : Subtree s (t .level) (t .root) (t .used)
+  sub =
+      subst (λ m. Subtree s m (t .root) (t .used)) (sym (o .level)) (subst (λ m. Subtree s (heightOf p₀ - 1) m (t .used)) (sym (o .root))
+      (subst (λ m. Subtree s (heightOf p₀ - 1) (rootOf p₀) m) (sym (o .used)) (subtree-root s w)))
+
+  x-is : indexOf s ≡ record { level = t .level; used = t .used; tree = treeOf (t .level) s (t .root) }
+  unfolding indexOf
+  x-is =
+      ap (λ m. record { level = m; used = usedOf p₀; tree = treeOf m s (rootOf p₀) }) (sym (o .level))
+      ∙ ap (λ m. record { level = t .level; used = m; tree = treeOf (t .level) s (rootOf p₀) }) (sym (o .used))
+      ∙ ap (λ m. record { level = t .level; used = t .used; tree = treeOf (t .level) s m }) (sym (o .root))
+
+  fits-now : t .used + cond (eqb (runOf n (e .key) s (t .root)) (suc n)) (suc (runOf n (e .key) s (t .root))) (runOf n (e .key) s (t .root)) ≤ 64
+  unfolding entryFits fits needed
+  fits-now =
+      leb-true (t .used + cond (eqb (runOf n (e .key) s (t .root)) (suc n)) (suc (runOf n (e .key) s (t .root))) (runOf n (e .key) s (t .root))) 64
+      (ap (entryFits (e .key)) (sym x-is) ∙ sym fit ∙ not-false r yes)
+
+  run-fits : t .used + runOf n (e .key) s (t .root) ≤ 64
+  run-fits = go (eqb (runOf n (e .key) s (t .root)) (suc n)) fits-now
+    where
+      go : (b : Bool) → t .used + cond b (suc (runOf n (e .key) s (t .root))) (runOf n (e .key) s (t .root)) ≤ 64 → t .used + runOf n (e .key) s (t .root) ≤ 64
+      go true h = omega arith
+      go false h = h
+
+  pub grow-top : SmallEntry e → GrowIn s (t .level) (t .root) (t .used) e
+  grow-top m =
+      record {
+        sub = sub;
+        used = used-page (t .used) (t .root) (omega (arith, sub .alone (t .root), own-page n s (t .root)));
+        most = sub .few;
+        room = run-fits;
+        small = m;
+      }
+
+  once : (q : ℕ) → Times n q s (t .root) + above (t .used) q ≡ above 1 q
+  once q = subst (λ (x : Index ℕ Item). times ℕ Item (x .level) q (x .tree) + above (x .used) q ≡ above 1 q) x-is (w .index .pages .once q)
+
+  used-some : 0 < t .used
+  used-some = omega (arith, used-page (t .used) (t .root) (omega (arith, sub .alone (t .root), own-page n s (t .root))))
+
+  module _ (s₁ : List ℕ) (g : Grown) (d : Grew n s s₁ (t .root) (t .used) e g) where
+    top-kept : pageAt s₁ 0 ≡ pageAt s 0
+    top-kept = d .kept 0 used-some (omega (arith, once 0))
+
+    wholeness : missing compare keyOf (e .key) (entriesIn s) ≡ true → e .key < endMark → WholeIndex compare keyOf 0 (some endMark) documentSizes (withEntry e (indexOf s))
+    unfolding withEntry entriesIn fits entryFits
+    wholeness m h =
+        with-whole numbers-ordered keyOf 0 (some endMark) documentSizes document-fair e (indexOf s) (w .index) (le-leb 0 (e .key) (omega arith))
+        (ap not (lt-leb endMark (e .key) h)) m (sym fit ∙ not-false r yes)
+
+    head-now : (root used height : ℕ) → putRoot (pageAt s₁ 0) root used height ≡ headPage root used height
+    head-now root used height =
+        ap (λ p. putRoot p root used height) (top-kept ∙ w .head) ∙ head-again (rootOf p₀) (usedOf p₀) (heightOf p₀) root used height
+
+    added : (s₂ : List ℕ) → Becomes s₂ (withEntry e (indexOf s)) → Added s s₂ e true
+    added s₂ b = record { fit = sym (not-false r yes) ∙ fit; becomes = b }
+
+    -- how often a page stands in what has grown
+    total : (q : ℕ) → Times n q s₁ (t .root) + summed (λ c. times ℕ Item n q (c .tree)) (G.beside (grownOf n e (t .used) s (t .root) .beside)) + above (grownOf n e (t .used) s (t .root) .used) q ≡ above 1 q
+    unfolding summed
+    total q =
+        let k = grown-times compare keyOf 0 documentSizes n q e 0 (t .used) (treeOf n s (t .root)) in
+        let i = ap (λ y. times ℕ Item n q y) (d .tree) in
+        omega (arith, once q)
+
+    module _ (m : missing compare keyOf (e .key) (entriesIn s) ≡ true) (h : e .key < endMark) where
+      pub add-same : (v : ℕ) (s₂ : List ℕ) → g ≡ Same v → s₂ ≡ putPage s₁ 0 (putRoot (pageAt s₁ 0) (t .root) v (n + 1)) → Added s s₂ e true
+      unfolding withEntry withItem rooted
+      add-same v s₂ z f =
+          let d′ : Grew n s s₁ (t .root) (t .used) e (Same v) = subst (λ x. Grew n s s₁ (t .root) (t .used) e x) z d in
+          let H = headPage (t .root) v (n + 1) in
+          let i = length-head (t .root) v (n + 1) in
+          let y : s₂ ≡ putPage s₁ 0 H = f ∙ ap (putPage s₁ 0) (head-now (t .root) v (n + 1)) in
+          let low = level-small s n (t .root) (t .used) sub in
+          let same : F.Same n s₁ (putPage s₁ 0 H) (t .root) =
+          λ q k. page-kept s₁ (d .size) 0 (lit< tt) H i q (λ j. omega (arith, subst (λ x. 0 < Times n x s₁ (t .root)) j k, total 0)) in
+          let x : record { level = n; used = v; tree = treeOf n (putPage s₁ 0 H) (t .root) } ≡ withEntry e (indexOf s) =
+          ap (λ k. record { level = n; used = v; tree = k }) (frame n s₁ (putPage s₁ 0 H) (t .root) same ∙ d .tree)
+          ∙ ap (λ k. record { level = n; used = k; tree = grownOf n e (t .used) s (t .root) .tree }) (d′ .told .0)
+          ∙ ap (λ k. rooted compare keyOf 0 documentSizes n (grownOf n e (t .used) s (t .root)) k) (sym (d′ .told .1))
+          ∙ ap (withItem compare keyOf 0 documentSizes e) (sym x-is) in
+          added s₂ (subst (λ k. Becomes k (withEntry e (indexOf s))) (sym y)
+          (becomes (putPage s₁ 0 H) (t .root) v n (withEntry e (indexOf s)) (length-putPage s₁ (d .size) 0 (lit< tt) H i) (page-same s₁ (d .size) 0 (lit< tt) H i)
+          (omega (arith, sub .which)) (d′ .most) (omega arith) (laid-frame n s₁ (putPage s₁ 0 H) (t .root) same (d .laid))
+          (λ q j k. page-kept s₁ (d .size) 0 (lit< tt) H i q (λ l. omega (arith, d′ .more, used-some))
+          ∙ d′ .spare q j k ∙ w .spare q (omega (arith, d′ .more, o .used)) k)
+          x (wholeness m h)))
+
+      module _ (v : ℕ) (c : P.Child) (z : g ≡ Split v c) where
+        d′ : Grew n s s₁ (t .root) (t .used) e (Split v c)
+        d′ = subst (λ x. Grew n s s₁ (t .root) (t .used) e x) z d
+
+        next : v < 64
+        next =
+            let need = grown-needs compare keyOf 0 documentSizes n (sub .least) e (t .used) (treeOf n s (t .root)) (sub .counts) in
+            let run : runOf n (e .key) s (t .root) ≡ suc n = subst (λ y. Run n (runOf n (e .key) s (t .root)) y) (d′ .told .1) (need .run) in
+            let k = ap (λ b. cond b (suc (runOf n (e .key) s (t .root))) (runOf n (e .key) s (t .root))) (eq-eqb (runOf n (e .key) s (t .root)) (suc n) run) in
+            omega (arith, need .more, d′ .told .0, fits-now)
+
+        total′ : (q : ℕ) → Times n q s₁ (t .root) + Times n q s₁ (c .page) + above v q ≡ above 1 q
+        unfolding summed
+        total′ q =
+            let k = ap (λ y. summed (λ c. times ℕ Item n q (c .tree)) (G.beside y)) (d′ .told .1) in
+            let j = ap (λ y. above y q) (d′ .told .0) in
+            omega (arith, total q)
+
+        pub root-in : RootIn s₁ (t .level) (t .root) v c
+        root-in =
+            record {
+              size = d .size;
+              next = next;
+              some = omega (arith, d′ .more, used-some);
+              low = level-small s n (t .root) (t .used) sub;
+              old = sub .which;
+              blank = d′ .spare v (omega arith) next ∙ w .spare v (omega (arith, d′ .more, o .used)) next;
+            }
+
+        pub add-split : (s₂ : List ℕ) → s₂ ≡ putPage (putPage s₁ v (rootPage (t .level) (t .root) c)) 0 (putRoot (pageAt s₁ 0) v (v + 1) (t .level + 2)) → Added s s₂ e true
+        unfolding withEntry withItem rooted treeOf
+        add-split s₂ f =
+            let two : List P.Child = record { low = record { 0 = 0 }; page = t .root } ∷ c ∷ [] in
+            let e₁ : n + 1 ≡ suc n = omega arith in
+            let e₂ : n + 2 ≡ suc n + 1 = omega arith in
+            let R = innerPage (suc n) two in
+            let H = headPage v (v + 1) (suc n + 1) in
+            let i = Inner.inner-length (suc n) two (lit≤ tt) in
+            let j = length-head v (v + 1) (suc n + 1) in
+            let sa = putPage s₁ v R in
+            let za = length-putPage s₁ (d .size) v next R i in
+            let sb = putPage sa 0 H in
+            let y : s₂ ≡ sb = f ∙ ap (λ k. putPage (putPage s₁ v (innerPage k two)) 0 (putRoot (pageAt s₁ 0) v (v + 1) (n + 2))) e₁
+            ∙ ap (λ k. putPage sa 0 k) (head-now v (v + 1) (n + 2) ∙ ap (headPage v (v + 1)) e₂) in
+            let low = level-small s n (t .root) (t .used) sub in
+            let pos : 0 < v = omega (arith, d′ .more, used-some) in
+            let kept : (q : ℕ) → q ≢ 0 → q ≢ v → pageAt sb q ≡ pageAt s₁ q =
+            λ q a b. page-kept sa za 0 (lit< tt) H j q a ∙ page-kept s₁ (d .size) v next R i q b in
+            let uv = unused v v (omega arith) in
+            let ul = unused 1 v pos in
+            let old : F.Same n s₁ sb (t .root) =
+            λ q k. kept q (λ l. omega (arith, subst (λ x. 0 < Times n x s₁ (t .root)) l k, total′ 0)) (λ l. omega (arith, subst (λ x. 0 < Times n x s₁ (t .root)) l k, total′ v)) in
+            let new : F.Same n s₁ sb (c .page) =
+            λ q k. kept q (λ l. omega (arith, subst (λ x. 0 < Times n x s₁ (c .page)) l k, total′ 0)) (λ l. omega (arith, subst (λ x. 0 < Times n x s₁ (c .page)) l k, total′ v)) in
+            let small : Inner.Smalls two = smalls in
+            let pv : pageAt sb v ≡ R = page-kept sa za 0 (lit< tt) H j v (λ l. omega arith) ∙ page-same s₁ (d .size) v next R i in
+            let kids : childrenOf (pageAt sb v) ≡ two = ap childrenOf pv ∙ Inner.inner-children (suc n) two (lit≤ tt) small in
+            let x : record { level = suc n; used = v + 1; tree = treeOf (suc n) sb v } ≡ withEntry e (indexOf s) =
+            ap (λ k. record { level = suc n; used = v + 1; tree = record { number = v; holds = map (F.kid n sb) k } }) kids
+            ∙ ap₂ (λ k l. record { level = suc n; used = v + 1; tree = record { number = v; holds = record { low = 0; tree = k } ∷ record { low = c .low .0; tree = l } ∷ [] } })
+            (frame n s₁ sb (t .root) old ∙ d .tree) (frame n s₁ sb (c .page) new)
+            ∙ ap (λ k. record { level = suc n; used = k + 1; tree = record { number = k; holds = record { low = 0; tree = grownOf n e (t .used) s (t .root) .tree } ∷ record { low = c .low .0; tree = treeOf n s₁ (c .page) } ∷ [] } }) (d′ .told .0)
+            ∙ ap (λ k. rooted compare keyOf 0 documentSizes n (grownOf n e (t .used) s (t .root)) k) (sym (d′ .told .1))
+            ∙ ap (withItem compare keyOf 0 documentSizes e) (sym x-is) in
+            added s₂ (subst (λ k. Becomes k (withEntry e (indexOf s))) (sym y)
+            (becomes sb v (v + 1) (suc n) (withEntry e (indexOf s)) (length-putPage sa za 0 (lit< tt) H j) (page-same sa za 0 (lit< tt) H j)
+            (omega (arith, next)) (omega (arith, next)) (omega arith)
+            (pv ∙ ap (innerPage (suc n)) (sym kids), λ y l. laid-two y (subst (In y) kids l) sb old new)
+            (λ q k l. kept q (λ b. omega arith) (λ b. omega arith) ∙ d′ .spare q (omega arith) l ∙ w .spare q (omega (arith, d′ .more, o .used)) l)
+            x (wholeness m h)))
+          where
+            smalls : Inner.Smalls (record { low = record { 0 = 0 }; page = t .root } ∷ c ∷ [])
+            smalls y (inl i) = subst ChildFits i (record { low = lit< tt; page = omega (arith, sub .which) })
+            smalls y (inr (inl i)) = subst ChildFits i (child-small c (d′ .told .3))
+            smalls y (inr (inr i)) = absurd i
+
+            laid-two : (y : P.Child) → In y (record { low = record { 0 = 0 }; page = t .root } ∷ c ∷ []) → (sb : List ℕ) → F.Same n s₁ sb (t .root) → F.Same n s₁ sb (c .page) → Laid n sb (y .page)
+            laid-two y (inl i) sb a b = subst (λ k. Laid n sb (k .page)) i (laid-frame n s₁ sb (t .root) a (d .laid))
+            laid-two y (inr (inl i)) sb a b = subst (λ k. Laid n sb (k .page)) i (laid-frame n s₁ sb (c .page) b (d′ .told .2))
+            laid-two y (inr (inr i)) sb a b = absurd i

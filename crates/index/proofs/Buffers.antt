@@ -1,0 +1,58 @@
+-- A page of the buffer, and the buffer with another page there: what is read of it then, and how the part that is lent to the page code is
+-- that page. Pages lie 512 bytes apart. Assumes nothing.
+use Prim.Native.Nat.{ℕ, _+_, _*_, _-_, _≤_, _<_}
+use mathlib.Core.Path.{_≡_, refl, sym, _∙_}
+use mathlib.Core.Logic.{_≢_}
+use mathlib.Core.List.{List, [], _∷_}
+use native.Mathlib.Decide.{decLt}
+use native.Mathlib.Omega.{arith}
+use lib.ListN.{length, take, drop, length-take, length-drop}
+use borrow.Rule.Slice.PartMut.{putMid}
+use Rattle.numbers.specs.Numbers.{part, putPart}
+use Rattle.numbers.proofs.Parts.{length-part, length-putPart, part-same, part-other, lent, back}
+use Rattle.index.specs.Pictures.{pageAt, putPage}
+
+module _ (s : List ℕ) (size : length s ≡ 32768) (q : ℕ) (h : q < 64) where
+  pub length-page : length (pageAt s q) ≡ 512
+  unfolding pageAt
+  length-page = length-part (512 * q) 512 s (omega arith)
+
+  module _ (g : List ℕ) (l : length g ≡ 512) where
+    pub length-putPage : length (putPage s q g) ≡ 32768
+    unfolding putPage
+    length-putPage = length-putPart (512 * q) g s (omega arith) ∙ size
+
+    pub page-same : pageAt (putPage s q g) q ≡ g
+    unfolding pageAt putPage
+    page-same = part-same (512 * q) 512 g s l (omega arith)
+
+    pub page-other : (r : ℕ) → r < 64 → r ≢ q → pageAt (putPage s q g) r ≡ pageAt s r
+    unfolding pageAt putPage
+    page-other r k d = part-other (512 * r) 512 (512 * q) g s (omega arith) (omega arith) (omega arith)
+
+-- there is no page from 64 on
+none-of : (t : List ℕ) → length t ≡ 0 → t ≡ []
+none-of [] e = refl
+none-of (x ∷ t) e = absurd (omega arith)
+
+pub page-none : (s : List ℕ) → length s ≡ 32768 → (r : ℕ) → 64 ≤ r → pageAt s r ≡ []
+unfolding pageAt part
+page-none s size r h = none-of (take 512 (drop (512 * r) s)) (simp (length-take, length-drop) (omega arith))
+
+pub page-kept : (s : List ℕ) → length s ≡ 32768 → (q : ℕ) → q < 64 → (g : List ℕ) → length g ≡ 512 → (r : ℕ) → r ≢ q
+    → pageAt (putPage s q g) r ≡ pageAt s r
+page-kept s size q h g l r d = go (decLt r 64)
+  where
+    go : Dec (r < 64) → pageAt (putPage s q g) r ≡ pageAt s r
+    go (yes k) = page-other s size q h g l r k d
+    go (no k) = page-none (putPage s q g) (length-putPage s size q h g l) r (omega arith) ∙ sym (page-none s size r (omega arith))
+
+-- the part that starts at the page's offset
+pub page-lent : (s : List ℕ) (q : ℕ) → take (512 * q + 512 - 512 * q) (drop (512 * q) s) ≡ pageAt s q
+unfolding pageAt
+page-lent s q = lent (512 * q) 512 s
+
+pub page-back : (s : List ℕ) (q : ℕ) (t u : List ℕ) → length t ≡ length (take (512 * q + 512 - 512 * q) (drop (512 * q) s)) → t ≡ u
+    → putMid (512 * q) (512 * q + 512 - 512 * q) s t ≡ putPage s q u
+unfolding putPage
+page-back s q t u l e = back (512 * q) 512 t u s l e

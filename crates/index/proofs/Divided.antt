@@ -1,0 +1,247 @@
+-- A leaf and an inner page with one more, as the code divides them: the new page is built apart and copied in.
+-- The parts that are lent are the pages, and what is copied whole is the page. Assumes nothing.
+use Rattle.pages.specs.Layout.{EntryFits, ChildFits}
+use Prim.Native.Nat.{ℕ, zero, suc, _+_, _*_, _-_, _≤_, _<_}
+use mathlib.Core.Path.{_≡_, refl, sym, ap, ap₂, subst, _∙_}
+use mathlib.Core.Logic.{_⊎_, inl, inr, ⊎-elim}
+use mathlib.Core.Bool.{Bool, true, false, cond}
+use mathlib.Core.List.{List, [], _∷_, map}
+use native.Mathlib.Omega.{arith}
+use native.Mathlib.Nat.{zero-add}
+use lib.Dec.{lit<, lit≤}
+use lib.ListN.{length, take, drop, replicate, length-drop, length-replicate}
+use lib.Seq.{take-all, length-take-le}
+use borrow.Rule.Slice.PartMut.{putMid}
+use Rattle.lists.specs.Lists.{In, tab, insertAt}
+use Rattle.lists.proofs.Elements.{insertAt-in}
+use Rattle.lists.proofs.Places.{length-insertAt, map-insertAt}
+use Rattle.lists.proofs.Rows.{map-drop}
+use Rattle.numbers.specs.Numbers.{part, putPart, copied}
+use Rattle.numbers.proofs.Parts.{length-putPart, part-same}
+use Rattle.entries.specs.declared.Key.{Key}
+use Rattle.pages.specs.declared.Child as P
+use Rattle.pages.specs.Layout.{countOf, putHead, entryAt, entriesOf, childrenOf}
+use Rattle.pages.specs.Rows.{rowsOf, entryRow, childRow, entryPut, childPut, Divided, asTheyAre, fromZero, firstLow}
+use Rattle.pages.proofs.Entries as E
+use Rattle.pages.proofs.Children as C
+use Rattle.index.specs.declared.Grown.{Grown}
+use Rattle.index.specs.declared.Grown.the-variants.{Same, Split}
+use Rattle.index.specs.Pictures.{Item, pageAt, putPage, blankPage, leafPage, innerPage}
+use Rattle.index.specs.Growing.{SmallEntry, SmallChild, LeafFull, LeafSplit, lowKey, InnerRoom, InnerFull, Widened, zeroFirst, lowFirst}
+use Rattle.index.proofs.Buffers.{page-lent, page-back, length-page, length-putPage, page-same, page-other}
+use Rattle.index.proofs.Leaves as Leaf
+use Rattle.index.proofs.Inners as Inner
+use Rattle.index.proofs.Written.{length-blank, count-blank}
+use Rattle.index.proofs.Subtrees.{length-entries, length-children}
+
+pub entry-small : (e : Item) → SmallEntry e → EntryFits e
+entry-small e s = record { key = s .key; owner = s .owner; now = s .now; before = s .before }
+
+pub child-small : (c : P.Child) → SmallChild c → ChildFits c
+child-small c s = record { low = s .low; page = s .page }
+
+pub small-child : (c : P.Child) → ChildFits c → SmallChild c
+small-child c s = record { low = s .low; page = s .page }
+
+-- the blank page as the code builds it
+pub built : (kind level : ℕ) → putHead (replicate 512 0) kind 0 level ≡ blankPage kind level
+unfolding blankPage
+built kind level = refl
+
+all-of-it : (r : List ℕ) → length r ≡ 512 → part 0 512 r ≡ r
+unfolding part
+all-of-it r e = take-all 512 r (omega arith)
+
+pub in-drop : {A : Type 0} (n : ℕ) (xs : List A) (x : A) → In x (drop n xs) → In x xs
+in-drop zero xs x i = i
+in-drop (suc n) [] x i = i
+in-drop (suc n) (y ∷ ys) x i = inr (in-drop n ys x i)
+
+-- a page copied whole
+whole-copy : (p q : List ℕ) → length p ≡ 512 → length q ≡ 512 → copied 512 p 0 0 q ≡ p
+unfolding copied
+whole-copy p q a b =
+    ap (λ r. putPart 0 r q) (all-of-it p a) ∙ sym (all-of-it (putPart 0 p q) (length-putPart 0 p q (omega arith) ∙ b)) ∙ part-same 0 512 p q a (omega arith)
+
+-- the buffer when the part of a page is given back
+abbrev pub lentBack : ℕ → List ℕ → List ℕ → List ℕ
+lentBack pg s l = putMid (512 * pg) (512 * pg + 512 - 512 * pg) s l
+
+-- ---- the new page in its place, and the old one
+module _ (s : List ℕ) (size : length s ≡ 32768) (pg u : ℕ) (h : pg < 64) (n : u < 64) where
+  -- the first page is given back, then the new one is copied in
+  pub both-back : (s₁ l l′ r c : List ℕ) → length l ≡ length (take (512 * pg + 512 - 512 * pg) (drop (512 * pg) s)) → l ≡ l′ → length l′ ≡ 512
+      → s₁ ≡ putMid (512 * pg) (512 * pg + 512 - 512 * pg) s l → length r ≡ 512
+      → c ≡ copied 512 r 0 0 (take (512 * u + 512 - 512 * u) (drop (512 * u) s₁))
+      → length c ≡ length (take (512 * u + 512 - 512 * u) (drop (512 * u) s₁))
+      → putMid (512 * u) (512 * u + 512 - 512 * u) s₁ c ≡ putPage (putPage s pg l′) u r
+  both-back s₁ l l′ r c a b d e f g i =
+      let x : s₁ ≡ putPage s pg l′ = e ∙ page-back s pg l l′ a b in
+      let z : length s₁ ≡ 32768 = ap length x ∙ length-putPage s size pg h l′ d in
+      let y : c ≡ r = g ∙ ap (copied 512 r 0 0) (page-lent s₁ u) ∙ whole-copy r (pageAt s₁ u) f (length-page s₁ z u n) in
+      page-back s₁ u c r i y ∙ ap (λ v. putPage v u r) x
+
+-- ---- a leaf
+pub leaf-requires : (s : List ℕ) (pg u i : ℕ) (e : Item) → LeafFull s pg u i e → countOf (take (512 * pg + 512 - 512 * pg) (drop (512 * pg) s)) ≡ 24
+leaf-requires s pg u i e f = ap countOf (page-lent s pg) ∙ f .count
+
+pub blank-count : (kind level : ℕ) (p : List ℕ) → p ≡ putHead (replicate 512 0) kind 0 level → countOf p ≡ 0
+blank-count kind level p e = ap countOf (e ∙ built kind level) ∙ count-blank kind level
+
+pub blank-length : (kind level : ℕ) (p : List ℕ) → p ≡ putHead (replicate 512 0) kind 0 level → length p ≡ 512
+blank-length kind level p e = ap length (e ∙ built kind level) ∙ length-blank kind level
+
+first-key : (es : List Item) → 0 < length es → length es ≤ 24 → Leaf.Smalls es → entryAt (leafPage es) 0 .key ≡ lowKey es
+unfolding entriesOf tab
+first-key [] h k s = absurd (omega arith)
+first-key (e ∷ es) h k s =
+    let c = Leaf.leaf-count (e ∷ es) k in
+    let x = Leaf.leaf-entries (e ∷ es) k s in
+    ap (λ ys. lowKey ys) (sym (ap (λ n. tab n 0 (entryAt (leafPage (e ∷ es)))) c) ∙ x)
+
+module _ (s : List ℕ) (pg u i : ℕ) (e : Item) (f : LeafFull s pg u i e) where
+  abbrev es : List Item
+  es = insertAt i e (entriesOf (pageAt s pg))
+
+  smalls : Leaf.Smalls es
+  smalls x j =
+      ⊎-elim (λ p. subst EntryFits p (entry-small e (f .small))) (Leaf.laid-small (pageAt s pg) (f .laid) (omega (arith, f .full)) x)
+      (insertAt-in i e (entriesOf (pageAt s pg)) x j)
+
+  divided : (r₀ l r : List ℕ) → r₀ ≡ putHead (replicate 512 0) 2 0 0
+      → Divided 20 13 asTheyAre (insertAt i (entryRow e) (rowsOf 20 (take (512 * pg + 512 - 512 * pg) (drop (512 * pg) s)))) (take (512 * pg + 512 - 512 * pg) (drop (512 * pg) s)) r₀ l r
+      → Divided 20 13 asTheyAre (insertAt i (entryRow e) (rowsOf 20 (leafPage (entriesOf (pageAt s pg))))) (leafPage (entriesOf (pageAt s pg))) (blankPage 2 0) l r
+  divided r₀ l r b d =
+      subst (λ p. Divided 20 13 asTheyAre (insertAt i (entryRow e) (rowsOf 20 p)) p (blankPage 2 0) l r) (page-lent s pg ∙ f .laid)
+      (subst (λ q. Divided 20 13 asTheyAre (insertAt i (entryRow e) (rowsOf 20 (take (512 * pg + 512 - 512 * pg) (drop (512 * pg) s)))) (take (512 * pg + 512 - 512 * pg) (drop (512 * pg) s)) q l r) (b ∙ built 2 0) d)
+
+  pub leaf-split : (r₀ l r c : List ℕ) (k : Key) → r₀ ≡ putHead (replicate 512 0) 2 0 0
+      → Divided 20 13 asTheyAre (insertAt i (entryRow e) (rowsOf 20 (take (512 * pg + 512 - 512 * pg) (drop (512 * pg) s)))) (take (512 * pg + 512 - 512 * pg) (drop (512 * pg) s)) r₀ l r
+      → length l ≡ length (take (512 * pg + 512 - 512 * pg) (drop (512 * pg) s))
+      → k .0 ≡ entryAt r 0 .key
+      → c ≡ copied 512 r 0 0 (take (512 * u + 512 - 512 * u) (drop (512 * u) (lentBack pg s l)))
+      → length c ≡ length (take (512 * u + 512 - 512 * u) (drop (512 * u) (lentBack pg s l)))
+      → LeafSplit s (putMid (512 * u) (512 * u + 512 - 512 * u) (lentBack pg s l) c) pg u i e (Split (u + 1) (record { low = k; page = u }))
+  leaf-split r₀ l r c k b d a key g j =
+      let old = entriesOf (pageAt s pg) in
+      let z = divided r₀ l r b d in
+      let n = length-insertAt i e old in
+      let x : l ≡ leafPage (take 13 es) = Leaf.leaf-stays old (omega (arith, f .full)) i e l r z (omega (arith, f .full)) in
+      let y : r ≡ leafPage (drop 13 es) = Leaf.leaf-goes old (omega (arith, f .full)) i e l r z in
+      let t : length (take 13 es) ≡ 13 = length-take-le 13 es (omega (arith, f .full)) in
+      let w : length (drop 13 es) ≡ 12 = length-drop 13 es ∙ ap (λ v. v - 13) (n ∙ ap (λ v. v + 1) (f .full)) in
+      let p : length (leafPage (take 13 es)) ≡ 512 = Leaf.leaf-length (take 13 es) (omega arith) in
+      let q : length (leafPage (drop 13 es)) ≡ 512 = Leaf.leaf-length (drop 13 es) (omega arith) in
+      record {
+        bytes = both-back s (f .size) pg u (f .which) (f .next) (lentBack pg s l) l (leafPage (take 13 es)) r c a x p refl (ap length y ∙ q) g j
+            ∙ ap (putPage (putPage s pg (leafPage (take 13 es))) u) y;
+        told = ap (λ v. Split (u + 1) (record { low = record { 0 = v }; page = u }))
+            (key ∙ ap (λ v. entryAt v 0 .key) y ∙ first-key (drop 13 es) (omega arith) (omega arith) (λ v o. smalls v (in-drop 13 es v o)));
+      }
+
+-- ---- an inner page
+pub inner-requires : (s : List ℕ) (n pg u i : ℕ) (c : P.Child) → InnerFull s n pg u i c
+    → countOf (take (512 * pg + 512 - 512 * pg) (drop (512 * pg) s)) ≡ 30
+inner-requires s n pg u i c f = ap countOf (page-lent s pg) ∙ f .count
+
+inner-smalls : (s : List ℕ) (n pg i : ℕ) (c : P.Child) → pageAt s pg ≡ innerPage n (childrenOf (pageAt s pg)) → countOf (pageAt s pg) ≤ 30 → SmallChild c
+    → Inner.Smalls (insertAt i c (childrenOf (pageAt s pg)))
+inner-smalls s n pg i c l f m x j =
+    ⊎-elim (λ p. subst ChildFits p (child-small c m)) (Inner.laid-small n (pageAt s pg) l (omega (arith, length-children (pageAt s pg))) x)
+    (insertAt-in i c (childrenOf (pageAt s pg)) x j)
+
+module _ (s : List ℕ) (n pg u i : ℕ) (c : P.Child) (f : InnerFull s n pg u i c) where
+  abbrev ds : List P.Child
+  ds = insertAt i c (childrenOf (pageAt s pg))
+
+  divided-inner : (r₀ l r : List ℕ) → r₀ ≡ putHead (replicate 512 0) 3 0 n
+      → Divided 16 16 fromZero (insertAt i (childRow c) (rowsOf 16 (take (512 * pg + 512 - 512 * pg) (drop (512 * pg) s)))) (take (512 * pg + 512 - 512 * pg) (drop (512 * pg) s)) r₀ l r
+      → Divided 16 16 fromZero (insertAt i (childRow c) (rowsOf 16 (innerPage n (childrenOf (pageAt s pg))))) (innerPage n (childrenOf (pageAt s pg))) (blankPage 3 n) l r
+  divided-inner r₀ l r b d =
+      subst (λ p. Divided 16 16 fromZero (insertAt i (childRow c) (rowsOf 16 p)) p (blankPage 3 n) l r) (page-lent s pg ∙ f .laid)
+      (subst (λ q. Divided 16 16 fromZero (insertAt i (childRow c) (rowsOf 16 (take (512 * pg + 512 - 512 * pg) (drop (512 * pg) s)))) (take (512 * pg + 512 - 512 * pg) (drop (512 * pg) s)) q l r) (b ∙ built 3 n) d)
+
+  zero-length : (xs : List P.Child) → length (zeroFirst xs) ≡ length xs
+  zero-length [] = refl
+  zero-length (x ∷ xs) = refl
+
+  same-zero : (xs : List P.Child) → C.fromLowest xs ≡ zeroFirst xs
+  same-zero [] = refl
+  same-zero (x ∷ xs) = refl
+
+  same-low : (xs : List P.Child) → Inner.lowFirst xs ≡ lowFirst xs
+  same-low [] = refl
+  same-low (x ∷ xs) = refl
+
+  pub inner-split : (r₀ l r k′ : List ℕ) (k : Key) → r₀ ≡ putHead (replicate 512 0) 3 0 n
+      → Divided 16 16 fromZero (insertAt i (childRow c) (rowsOf 16 (take (512 * pg + 512 - 512 * pg) (drop (512 * pg) s)))) (take (512 * pg + 512 - 512 * pg) (drop (512 * pg) s)) r₀ l r
+      → k .0 ≡ firstLow (drop 16 (insertAt i (childRow c) (rowsOf 16 (take (512 * pg + 512 - 512 * pg) (drop (512 * pg) s)))))
+      → length l ≡ length (take (512 * pg + 512 - 512 * pg) (drop (512 * pg) s))
+      → k′ ≡ copied 512 r 0 0 (take (512 * u + 512 - 512 * u) (drop (512 * u) (lentBack pg s l)))
+      → length k′ ≡ length (take (512 * u + 512 - 512 * u) (drop (512 * u) (lentBack pg s l)))
+      → Widened s (putMid (512 * u) (512 * u + 512 - 512 * u) (lentBack pg s l) k′) n pg u i c (Split (u + 1) (record { low = k; page = u }))
+  inner-split r₀ l r k′ k b d key a g j =
+      let old = childrenOf (pageAt s pg) in
+      let o : length old ≡ 30 = length-children (pageAt s pg) ∙ f .count in
+      let z = divided-inner r₀ l r b d in
+      let small : Inner.Smalls (drop 16 ds) = λ v o. inner-smalls s n pg i c (f .laid) (omega (arith, f .count)) (f .small) v (in-drop 16 ds v o) in
+      let e = length-insertAt i c old in
+      let x : l ≡ innerPage n (take 16 ds) = Inner.inner-stays n old (omega arith) i c l r z (omega arith) in
+      let y : r ≡ innerPage n (zeroFirst (drop 16 ds)) = Inner.inner-goes n old (omega arith) i c l r z small ∙ ap (innerPage n) (same-zero (drop 16 ds)) in
+      let t : length (take 16 ds) ≡ 16 = length-take-le 16 ds (omega arith) in
+      let w : length (drop 16 ds) ≡ 15 = length-drop 16 ds ∙ ap (λ v. v - 16) (e ∙ ap (λ v. v + 1) o) in
+      let p : length (innerPage n (take 16 ds)) ≡ 512 = Inner.inner-length n (take 16 ds) (omega arith) in
+      let q : length (innerPage n (zeroFirst (drop 16 ds))) ≡ 512 = Inner.inner-length n (zeroFirst (drop 16 ds)) (omega (arith, zero-length (drop 16 ds))) in
+      record {
+        how = (
+          refl,
+          both-back s (f .size) pg u (f .which) (f .next) (lentBack pg s l) l (innerPage n (take 16 ds)) r k′ a x p refl (ap length y ∙ q) g j
+              ∙ ap (putPage (putPage s pg (innerPage n (take 16 ds))) u) y,
+          ap (λ v. record { low = record { 0 = v }; page = u })
+              (key ∙ ap (λ v. firstLow (drop 16 (insertAt i (childRow c) (rowsOf 16 v)))) (page-lent s pg ∙ f .laid)
+              ∙ ap (λ v. firstLow (drop 16 v)) (ap (insertAt i (childRow c)) (Inner.inner-rows n old (omega arith)) ∙ sym (map-insertAt childRow i c old))
+              ∙ ap firstLow (sym (map-drop childRow 16 ds))
+              ∙ Inner.first-rows (drop 16 ds) small ∙ same-low (drop 16 ds)),
+          o,
+        );
+      }
+
+-- ---- with room
+module _ (s : List ℕ) (n pg u i : ℕ) (c : P.Child) (f : InnerRoom s n pg u i c) where
+  pub room-count : (m : ℕ) → m ≡ countOf (take (512 * pg + 512 - 512 * pg) (drop (512 * pg) s)) → m < 30
+      → countOf (take (512 * pg + 512 - 512 * pg) (drop (512 * pg) s)) ≤ 29
+  room-count m e h = omega arith
+
+  pub room-place : i ≤ countOf (take (512 * pg + 512 - 512 * pg) (drop (512 * pg) s))
+  room-place = subst (λ p. i ≤ countOf p) (sym (page-lent s pg)) (f .place)
+
+  pub inner-put-in : (m : ℕ) (p : List ℕ) → m ≡ countOf (take (512 * pg + 512 - 512 * pg) (drop (512 * pg) s)) → m < 30
+      → length p ≡ length (take (512 * pg + 512 - 512 * pg) (drop (512 * pg) s))
+      → p ≡ childPut (take (512 * pg + 512 - 512 * pg) (drop (512 * pg) s)) i c
+      → Widened s (putMid (512 * pg) (512 * pg + 512 - 512 * pg) s p) n pg u i c (Same u)
+  inner-put-in m p e h l b =
+      let old = childrenOf (pageAt s pg) in
+      let k : countOf (pageAt s pg) ≡ m = sym (e ∙ ap countOf (page-lent s pg)) in
+      let o : length old ≤ 29 = omega (arith, length-children (pageAt s pg)) in
+      record {
+        how = (
+          refl,
+          page-back s pg p (innerPage n (insertAt i c old)) l
+              (b ∙ ap (λ v. childPut v i c) (page-lent s pg ∙ f .laid) ∙ Inner.inner-put n old (omega arith) i c o),
+          o,
+        );
+      }
+
+  pub inner-full : (m : ℕ) → m ≡ countOf (take (512 * pg + 512 - 512 * pg) (drop (512 * pg) s)) → 30 ≤ m → InnerFull s n pg u i c
+  inner-full m e h =
+      let k : countOf (pageAt s pg) ≡ m = sym (e ∙ ap countOf (page-lent s pg)) in
+      record {
+        size = f .size;
+        which = f .which;
+        next = f .next (omega arith);
+        other = f .other;
+        count = omega (arith, f .few);
+        place = omega (arith, f .place, f .few);
+        laid = f .laid;
+        small = f .small;
+      }

@@ -1,0 +1,186 @@
+-- A tree of pages grows as the tree does. The code's step at a leaf and at an inner page is the tree's step, its new pages are laid, and no
+-- other page is touched: how often a page stands in a tree says that it is another. Assumes nothing.
+use Rattle.pages.specs.Layout.{EntryFits}
+use Prim.Native.Nat.{ℕ, zero, suc, _+_, _*_, _-_, _≤_, _<_, compare}
+use mathlib.Core.Path.{_≡_, refl, sym, ap, ap₂, subst, _∙_}
+use mathlib.Core.Logic.{_≢_, _⊎_, inl, inr, ⊎-elim}
+use mathlib.Core.Bool.{Bool, true, false, cond}
+use mathlib.Core.List.{List, [], _∷_, _++_, map}
+use mathlib.Core.Option.{Option, none, some}
+use native.Mathlib.Omega.{arith}
+use lib.Dec.{leb, lit<}
+use lib.ListN.{length, take, drop, length-drop}
+use lib.Seq.{length-take-le}
+use borrow.Author.Tests.{le-leb, lt-leb, leb-true}
+use borrow.Rule.Slice.PartMut.{putMid}
+use Rattle.lists.specs.Lists as L
+use Rattle.lists.specs.Lists.{In, insertAt, insertBefore}
+use Rattle.lists.proofs.Elements.{insertAt-in}
+use Rattle.lists.proofs.Places.{length-insertAt}
+use Rattle.pages.specs.declared.Child as P
+use Rattle.pages.specs.Layout.{countOf, entriesOf, childrenOf}
+use Rattle.pages.specs.Places.{keysAscend, EntryPlace}
+use Rattle.pages.specs.Rows.{entryPut}
+use Rattle.pages.proofs.Entries as E
+use Rattle.trees.specs.Trees.{Child, Tree, Page, documentSizes, above, times}
+use Rattle.trees.specs.Growth as G
+use Rattle.trees.specs.Growth.{halves, grown, fullRun}
+use Rattle.index.specs.declared.Grown.{Grown}
+use Rattle.index.specs.declared.Grown.the-variants.{Same, Split}
+use Rattle.index.specs.Pictures.{Item, keyOf, pageAt, putPage, treeOf, leafPage, innerPage, Laid}
+use Rattle.index.specs.Descents.{Subtree, runOf}
+use Rattle.index.specs.Growing.{SmallEntry, SmallChild, GrowIn, Grew, Told, usedIn, grownOf, LeafFull, LeafSplit, lowKey}
+use Rattle.index.proofs.Buffers.{page-lent, page-back, length-page, length-putPage, page-same, page-other}
+use Rattle.index.proofs.Leaves as Leaf
+use Rattle.index.proofs.Frame.{Times, own-page}
+use Rattle.index.proofs.Subtrees.{leaf-few, keys-ascend, length-entries}
+use Rattle.index.proofs.Divided.{entry-small, in-drop}
+
+-- ---- put in before the first that is not under it
+before-at : {A : Type 0} (p : A → Bool) (a : A) (xs : List A) → insertBefore p a xs ≡ insertAt (L.place p xs) a xs
+unfolding insertBefore insertAt L.place
+before-at p a [] = refl
+before-at p a (x ∷ xs) = go (p x) (before-at p a xs)
+  where
+    go : (b : Bool) → insertBefore p a xs ≡ insertAt (L.place p xs) a xs
+        → cond b (a ∷ x ∷ xs) (x ∷ insertBefore p a xs) ≡ insertAt (cond b 0 (suc (L.place p xs))) a (x ∷ xs)
+    go true e = refl
+    go false e = ap (λ ys. x ∷ ys) e
+
+pub in-take : {A : Type 0} (n : ℕ) (xs : List A) (x : A) → In x (take n xs) → In x xs
+in-take zero xs x i = absurd i
+in-take (suc n) [] x i = i
+in-take (suc n) (y ∷ ys) x (inl e) = inl e
+in-take (suc n) (y ∷ ys) x (inr i) = inr (in-take n ys x i)
+
+-- ---- a leaf
+-- what is read of a page that is written as a leaf
+put-leaf : (s : List ℕ) (pg : ℕ) (es : List Item) → pageAt s pg ≡ leafPage es → length es ≤ 24 → Leaf.Smalls es
+    → (treeOf 0 s pg ≡ record { number = pg; holds = es }) × Laid 0 s pg
+unfolding treeOf
+put-leaf s pg es e h m =
+    let x : entriesOf (pageAt s pg) ≡ es = ap entriesOf e ∙ Leaf.leaf-entries es h m in
+    (ap (λ ys. record { number = pg; holds = ys }) x, e ∙ ap leafPage (sym x))
+
+module _ (s : List ℕ) (pg u : ℕ) (e : Item) (g : GrowIn s 0 pg u e) (i : ℕ)
+    (place : EntryPlace (take (512 * pg + 512 - 512 * pg) (drop (512 * pg) s)) (e .key) i) where
+  abbrev old : List Item
+  old = entriesOf (pageAt s pg)
+
+  abbrev new : List Item
+  new = insertAt i e old
+
+  new-is : insertBefore (λ x. leb (e .key) (x .key)) e old ≡ new
+  new-is =
+      before-at (λ x. leb (e .key) (x .key)) e old
+      ∙ ap (λ j. insertAt j e old) (sym (subst (λ p. EntryPlace p (e .key) i) (page-lent s pg) place .first (keys-ascend s pg u (g .sub))))
+
+  new-small : Leaf.Smalls new
+  new-small x j =
+      ⊎-elim (λ p. subst EntryFits p (entry-small e (g .small))) (Leaf.laid-small (pageAt s pg) (g .sub .laid) (leaf-few s pg u (g .sub)) x) (insertAt-in i e old x j)
+
+  -- as many as these
+  grown-is : (b : Bool) → leb (length new) 24 ≡ b → grownOf 0 e u s pg ≡ halves b 13 (G.lowKey keyOf 0) (λ xs. xs) u pg new
+  unfolding grown treeOf
+  grown-is b h =
+      ap (λ xs. halves (leb (length xs) 24) 13 (G.lowKey keyOf 0) (λ xs. xs) u pg xs) new-is
+      ∙ ap (λ c. halves c 13 (G.lowKey keyOf 0) (λ xs. xs) u pg new) h
+
+  other-page : (q : ℕ) → Times 0 q s pg ≡ 0 → q ≢ pg
+  other-page q h e = let o = own-page 0 s pg in let z = subst (λ x. Times 0 x s pg ≡ 0) e h in omega arith
+
+  pub leaf-more : (n : ℕ) (p : List ℕ) → n ≡ countOf (take (512 * pg + 512 - 512 * pg) (drop (512 * pg) s)) → n < 24
+      → length p ≡ length (take (512 * pg + 512 - 512 * pg) (drop (512 * pg) s))
+      → p ≡ entryPut (take (512 * pg + 512 - 512 * pg) (drop (512 * pg) s)) i e
+      → Grew 0 s (putMid (512 * pg) (512 * pg + 512 - 512 * pg) s p) pg u e (Same u)
+  leaf-more n p c h l b =
+      let t = g .sub in
+      let k : length old ≤ 23 = omega (arith, ap countOf (page-lent s pg), length-entries (pageAt s pg)) in
+      let m : length new ≤ 24 = omega (arith, length-insertAt i e old) in
+      let s′ = putPage s pg (leafPage new) in
+      let x : putMid (512 * pg) (512 * pg + 512 - 512 * pg) s p ≡ s′ =
+      page-back s pg p (leafPage new) l (b ∙ ap (λ v. entryPut v i e) (page-lent s pg ∙ t .laid) ∙ Leaf.leaf-put old (omega arith) i e k) in
+      let w = Leaf.leaf-length new m in
+      let z = put-leaf s′ pg new (page-same s (t .size) pg (t .which) (leafPage new) w) m new-small in
+      let f = grown-is true (le-leb (length new) 24 m) in
+      subst (λ v. Grew 0 s v pg u e (Same u)) (sym x)
+      (record {
+        size = length-putPage s (t .size) pg (t .which) (leafPage new) w;
+        tree = z .0 ∙ sym (ap (λ v. v .tree) f);
+        laid = z .1;
+        told = (sym (ap (λ v. v .used) f), ap (λ v. v .beside) f);
+        more = omega arith;
+        most = g .most;
+        kept = λ q o y. page-other s (t .size) pg (t .which) (leafPage new) w q (omega (arith, g .most)) (other-page q y);
+        spare = λ q o y. page-other s (t .size) pg (t .which) (leafPage new) w q y (λ v. omega (arith, g .used));
+      })
+
+  run-full : length old ≡ 24 → u < 64
+  unfolding fullRun treeOf
+  run-full h = omega (arith, g .room, ap (λ b. cond {A = ℕ} b 1 0) (le-leb 24 (length old) (omega arith)))
+
+  pub leaf-is-full : (n : ℕ) → n ≡ countOf (take (512 * pg + 512 - 512 * pg) (drop (512 * pg) s)) → 24 ≤ n → LeafFull s pg u i e
+  leaf-is-full n c h =
+      let t = g .sub in
+      let k : length old ≡ 24 = omega (arith, ap countOf (page-lent s pg), length-entries (pageAt s pg), leaf-few s pg u t) in
+      record {
+        size = t .size;
+        which = t .which;
+        next = run-full k;
+        other = g .used;
+        full = k;
+        count = omega (arith, length-entries (pageAt s pg));
+        place = omega (arith, place .within, ap countOf (page-lent s pg), length-entries (pageAt s pg));
+        laid = t .laid;
+        small = g .small;
+      }
+
+  pub leaf-divided : (s′ : List ℕ) (r : Grown) → LeafFull s pg u i e → LeafSplit s s′ pg u i e r → Grew 0 s s′ pg u e r
+  leaf-divided s′ r h d =
+      let t = g .sub in
+      let n : length new ≡ 25 = length-insertAt i e old ∙ ap (λ v. v + 1) (h .full) in
+      let a = leafPage (take 13 new) in
+      let b = leafPage (drop 13 new) in
+      let j : length (take 13 new) ≡ 13 = length-take-le 13 new (omega arith) in
+      let k : length (drop 13 new) ≡ 12 = length-drop 13 new ∙ ap (λ v. v - 13) n in
+      let x : length a ≡ 512 = Leaf.leaf-length (take 13 new) (omega arith) in
+      let y : length b ≡ 512 = Leaf.leaf-length (drop 13 new) (omega arith) in
+      let s₁ = putPage s pg a in
+      let z₁ = length-putPage s (t .size) pg (t .which) a x in
+      let s₂ = putPage s₁ u b in
+      let l = put-leaf s₂ pg (take 13 new) (page-other s₁ z₁ u (h .next) b y pg (t .which) (λ v. omega (arith, h .other)) ∙ page-same s (t .size) pg (t .which) a x)
+      (omega arith) (λ v o. new-small v (in-take 13 new v o)) in
+      let r′ = put-leaf s₂ u (drop 13 new) (page-same s₁ z₁ u (h .next) b y) (omega arith) (λ v o. new-small v (in-drop 13 new v o)) in
+      let f = grown-is false (lt-leb (length new) 24 (omega arith)) in
+      let c : P.Child = record { low = record { 0 = lowKey (drop 13 new) }; page = u } in
+      subst (λ v. Grew 0 s v pg u e r) (sym (d .bytes)) (subst (λ v. Grew 0 s s₂ pg u e v) (sym (d .told))
+      (record {
+        size = length-putPage s₁ z₁ u (h .next) b y;
+        tree = l .0 ∙ sym (ap (λ v. v .tree) f);
+        laid = l .1;
+        told = (
+          sym (ap (λ v. v .used) f),
+          ap (λ v. v .beside) f ∙ ap (λ v. some (record { low = v; tree = record { number = u; holds = drop 13 new } })) (same-low (drop 13 new))
+              ∙ ap (λ v. some (record { low = lowKey (drop 13 new); tree = v })) (sym (r′ .0)),
+          r′ .1,
+          record { low = low-small (drop 13 new) (λ v o. new-small v (in-drop 13 new v o)); page = omega (arith, h .next) },
+        );
+        more = omega arith;
+        most = omega (arith, h .next);
+        kept = λ q o v. page-other s₁ z₁ u (h .next) b y q (omega (arith, g .most)) (λ m. omega arith)
+            ∙ page-other s (t .size) pg (t .which) a x q (omega (arith, g .most)) (other-page q v);
+        spare = λ q o v. page-other s₁ z₁ u (h .next) b y q v (λ m. omega arith)
+            ∙ page-other s (t .size) pg (t .which) a x q v (λ m. omega (arith, h .other));
+      }))
+    where
+      same-low : (xs : List Item) → G.lowKey keyOf 0 xs ≡ lowKey xs
+      same-low [] = refl
+      same-low (x ∷ xs) = refl
+
+      low-small : (xs : List Item) → Leaf.Smalls xs → lowKey xs < 18446744073709551616
+      low-small [] m = lit< tt
+      low-small (x ∷ xs) m = m x (inl refl) .key
+
+pub grow-few : (s : List ℕ) (pg u : ℕ) (e : Item) → GrowIn s 0 pg u e → countOf (take (512 * pg + 512 - 512 * pg) (drop (512 * pg) s)) ≤ 24
+grow-few s pg u e g =
+    subst (λ p. countOf p ≤ 24) (sym (page-lent s pg)) (omega (arith, leaf-few s pg u (g .sub), length-entries (pageAt s pg)))

@@ -1,0 +1,222 @@
+-- `index::insert::grow` meets its contract: the step at each level is the tree's. The level falls with each call.
+-- Assumes nothing.
+use borrow.Author.Needs.{needs}
+use native.Mathlib.Omega.{arith}
+use Rattle.index.proofs.Subtrees.{inner-in}
+use Rattle.index.proofs.Widens.{grow-leaf, leaf-grew, grow-child, grow-same, grow-room, grow-more}
+use Prim.Native.Nat.{ℕ, _<_}
+use borrow.Fn.Kinds.{In}
+use borrow.Fn.PlainCycle.{Measures, is, falls, and}
+use Rattle.index.proofs.insert.grow.Reads as grow
+use Rattle.index.proofs.insert.grow.Kinds as grow-kinds
+use Rattle.index.proofs.insert.+grow.Lts-grow as grow-lts
+use Rattle.index.proofs.descent.way_to.Reads as way-to-reads
+use Rattle.index.proofs.insert.grow_inner.Reads as grow-inner-reads
+use Rattle.index.proofs.insert.grow_leaf.Reads as grow-leaf-reads
+use Rattle.index.proofs.insert.+grow.{statement}
+use Rattle.index.proofs.insert.+grow.Tie.{close}
+
+abbrev μ-grow : Measures 1 grow-kinds.ps ℕ
+μ-grow κs a = a .1 .0
+
+abbrev grow-at : ℕ → In 1 grow-kinds.ps
+grow-at t = and 1 grow-kinds.ps (is 1 grow-kinds.ps μ-grow t) grow.Pre
+
+abbrev grow-below : ℕ → In 1 grow-kinds.ps
+grow-below t = and 1 grow-kinds.ps (falls 1 grow-kinds.ps _<_ μ-grow t) grow.Pre
+
+grow-grow-leaf-requires : (t : ℕ) → grow-lts.Need-grow-leaf-requires (
+  grow-leaf-reads.Asked,
+  grow-leaf-reads.Learnt,
+  way-to-reads.Asked,
+  way-to-reads.Learnt,
+  grow-below t,
+  grow.Post,
+  grow-inner-reads.Asked,
+  grow-inner-reads.Learnt,
+) (grow-at t) grow.Post
+grow-grow-leaf-requires t c κs = search (needs, grow-leaf)
+
+grow-same-length : (t : ℕ) → grow-lts.Need-same-length (
+  grow-leaf-reads.Asked,
+  grow-leaf-reads.Learnt,
+  way-to-reads.Asked,
+  way-to-reads.Learnt,
+  grow-below t,
+  grow.Post,
+  grow-inner-reads.Asked,
+  grow-inner-reads.Learnt,
+) (grow-at t) grow.Post
+grow-same-length t c = search needs
+
+grow-returns : (t : ℕ) → grow-lts.Need-returns (
+  grow-leaf-reads.Asked,
+  grow-leaf-reads.Learnt,
+  way-to-reads.Asked,
+  way-to-reads.Learnt,
+  grow-below t,
+  grow.Post,
+  grow-inner-reads.Asked,
+  grow-inner-reads.Learnt,
+) (grow-at t) grow.Post
+grow-returns t c = search (needs, leaf-grew)
+
+grow-way-to-requires : (t : ℕ) → grow-lts.Need-way-to-requires (
+  grow-leaf-reads.Asked,
+  grow-leaf-reads.Learnt,
+  way-to-reads.Asked,
+  way-to-reads.Learnt,
+  grow-below t,
+  grow.Post,
+  grow-inner-reads.Asked,
+  grow-inner-reads.Learnt,
+) (grow-at t) grow.Post
+grow-way-to-requires t c κs = search (needs, inner-in)
+
+grow-sub-grow : (t : ℕ) → grow-lts.Need-sub-grow (
+  grow-leaf-reads.Asked,
+  grow-leaf-reads.Learnt,
+  way-to-reads.Asked,
+  way-to-reads.Learnt,
+  grow-below t,
+  grow.Post,
+  grow-inner-reads.Asked,
+  grow-inner-reads.Learnt,
+) (grow-at t) grow.Post
+grow-sub-grow t c = search needs
+
+grow-grow-requires : (t : ℕ) → grow-lts.Need-grow-requires (
+  grow-leaf-reads.Asked,
+  grow-leaf-reads.Learnt,
+  way-to-reads.Asked,
+  way-to-reads.Learnt,
+  grow-below t,
+  grow.Post,
+  grow-inner-reads.Asked,
+  grow-inner-reads.Learnt,
+) (grow-at t) grow.Post
+grow-grow-requires t c κs = (omega arith, search (needs, grow-child))
+
+grow-enum-known-g : (t : ℕ) → grow-lts.Need-enum-known-g (
+  grow-leaf-reads.Asked,
+  grow-leaf-reads.Learnt,
+  way-to-reads.Asked,
+  way-to-reads.Learnt,
+  grow-below t,
+  grow.Post,
+  grow-inner-reads.Asked,
+  grow-inner-reads.Learnt,
+) (grow-at t) grow.Post
+grow-enum-known-g t c = search needs
+
+grow-same-length-2 : (t : ℕ) → grow-lts.Need-same-length-2 (
+  grow-leaf-reads.Asked,
+  grow-leaf-reads.Learnt,
+  way-to-reads.Asked,
+  way-to-reads.Learnt,
+  grow-below t,
+  grow.Post,
+  grow-inner-reads.Asked,
+  grow-inner-reads.Learnt,
+) (grow-at t) grow.Post
+grow-same-length-2 t c = search needs
+
+grow-returns-2 : (t : ℕ) → grow-lts.Need-returns-2 (
+  grow-leaf-reads.Asked,
+  grow-leaf-reads.Learnt,
+  way-to-reads.Asked,
+  way-to-reads.Learnt,
+  grow-below t,
+  grow.Post,
+  grow-inner-reads.Asked,
+  grow-inner-reads.Learnt,
+) (grow-at t) grow.Post
+grow-returns-2 t c = search (needs, grow-same)
+
+grow-enum-known-g-2 : (t : ℕ) → grow-lts.Need-enum-known-g-2 (
+  grow-leaf-reads.Asked,
+  grow-leaf-reads.Learnt,
+  way-to-reads.Asked,
+  way-to-reads.Learnt,
+  grow-below t,
+  grow.Post,
+  grow-inner-reads.Asked,
+  grow-inner-reads.Learnt,
+) (grow-at t) grow.Post
+grow-enum-known-g-2 t c = search needs
+
+grow-add-grow-inner : (t : ℕ) → grow-lts.Need-add-grow-inner (
+  grow-leaf-reads.Asked,
+  grow-leaf-reads.Learnt,
+  way-to-reads.Asked,
+  way-to-reads.Learnt,
+  grow-below t,
+  grow.Post,
+  grow-inner-reads.Asked,
+  grow-inner-reads.Learnt,
+) (grow-at t) grow.Post
+grow-add-grow-inner t c = search needs
+
+grow-grow-inner-requires : (t : ℕ) → grow-lts.Need-grow-inner-requires (
+  grow-leaf-reads.Asked,
+  grow-leaf-reads.Learnt,
+  way-to-reads.Asked,
+  way-to-reads.Learnt,
+  grow-below t,
+  grow.Post,
+  grow-inner-reads.Asked,
+  grow-inner-reads.Learnt,
+) (grow-at t) grow.Post
+grow-grow-inner-requires t c κs = search (needs, grow-room)
+
+grow-same-length-3 : (t : ℕ) → grow-lts.Need-same-length-3 (
+  grow-leaf-reads.Asked,
+  grow-leaf-reads.Learnt,
+  way-to-reads.Asked,
+  way-to-reads.Learnt,
+  grow-below t,
+  grow.Post,
+  grow-inner-reads.Asked,
+  grow-inner-reads.Learnt,
+) (grow-at t) grow.Post
+grow-same-length-3 t c = search needs
+
+grow-returns-3 : (t : ℕ) → grow-lts.Need-returns-3 (
+  grow-leaf-reads.Asked,
+  grow-leaf-reads.Learnt,
+  way-to-reads.Asked,
+  way-to-reads.Learnt,
+  grow-below t,
+  grow.Post,
+  grow-inner-reads.Asked,
+  grow-inner-reads.Learnt,
+) (grow-at t) grow.Post
+grow-returns-3 t c = search (needs, grow-more)
+
+pub +grow-spec : {M : Type 1} → statement M
++grow-spec = close μ-grow λ t. grow-lts.spec (
+  grow-leaf-reads.Asked,
+  grow-leaf-reads.Learnt,
+  way-to-reads.Asked,
+  way-to-reads.Learnt,
+  grow-below t,
+  grow.Post,
+  grow-inner-reads.Asked,
+  grow-inner-reads.Learnt,
+)
+    (grow-at t)
+    grow.Post
+    (grow-grow-leaf-requires t)
+    (grow-same-length t)
+    (grow-returns t)
+    (grow-way-to-requires t)
+    (grow-sub-grow t)
+    (grow-grow-requires t)
+    (grow-enum-known-g t)
+    (grow-same-length-2 t)
+    (grow-returns-2 t)
+    (grow-enum-known-g-2 t)
+    (grow-add-grow-inner t)
+    (grow-grow-inner-requires t)
+    (grow-same-length-3 t)
+    (grow-returns-3 t)

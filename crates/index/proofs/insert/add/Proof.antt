@@ -1,0 +1,79 @@
+-- `index::insert::add` meets its contract: the tree grown from the root, with a new root if it was divided.
+-- Assumes nothing.
+use borrow.Author.Needs.{needs}
+use Rattle.index.proofs.Adds.{not-added, grow-top, add-same, root-in, add-split}
+use Rattle.index.proofs.insert.add.Statement.{statement}
+use Rattle.index.proofs.insert.add.Tie as tie
+use Rattle.index.proofs.insert.add.Reads as reads
+use Rattle.index.proofs.insert.add.Lts as lts
+use Rattle.index.proofs.descent.top.Reads as top-reads
+use Rattle.index.proofs.insert.add_root.Reads as add-root-reads
+use Rattle.index.proofs.insert.fits_page.Reads as fits-page-reads
+use Rattle.index.proofs.insert.grow.Reads as grow-reads
+use Rattle.index.proofs.insert.put_top.Reads as put-top-reads
+use Rattle.index.proofs.room.room_for.Reads as room-for-reads
+
+room-for-requires : tie.Need-room-for-requires
+room-for-requires c κs = search needs
+
+same-length : tie.Need-same-length
+same-length c = search needs
+
+returns : tie.Need-returns
+returns c = search (needs, not-added)
+
+fits-page-requires : tie.Need-fits-page-requires
+fits-page-requires c κs = search needs
+
+top-requires : tie.Need-top-requires
+top-requires c κs = search needs
+
+grow-requires : tie.Need-grow-requires
+grow-requires c κs = search (needs, grow-top)
+
+enum-known-g : tie.Need-enum-known-g
+enum-known-g c = search needs
+
+add-put-top : tie.Need-add-put-top
+add-put-top c = search needs
+
+put-top-requires : tie.Need-put-top-requires
+put-top-requires c κs = search needs
+
+same-length-2 : tie.Need-same-length-2
+same-length-2 c = search needs
+
+returns-2 : tie.Need-returns-2
+returns-2 c = search (needs, add-same)
+
+enum-known-g-2 : tie.Need-enum-known-g-2
+enum-known-g-2 c = search needs
+
+add-root-requires : tie.Need-add-root-requires
+add-root-requires c κs = search (needs, root-in)
+
+same-length-3 : tie.Need-same-length-3
+same-length-3 c = search needs
+
+returns-3 : tie.Need-returns-3
+returns-3 c = search (needs, add-split)
+
+pub add-spec : {M : Type 1} → statement M
+add-spec =
+    tie.close
+    (tie.spec
+    room-for-requires
+    same-length
+    returns
+    fits-page-requires
+    top-requires
+    grow-requires
+    enum-known-g
+    add-put-top
+    put-top-requires
+    same-length-2
+    returns-2
+    enum-known-g-2
+    add-root-requires
+    same-length-3
+    returns-3)

@@ -1,0 +1,27 @@
+-- `index::insert::first_child` meets its contract: a child is put into a page that has none.
+-- Assumes nothing.
+use borrow.Author.Needs.{needs}
+use native.Mathlib.Omega.{arith}
+use Rattle.index.proofs.Roots.{none-yet, first-is}
+use Rattle.index.proofs.insert.first_child.Statement.{statement}
+use Rattle.index.proofs.insert.first_child.Tie as tie
+use Rattle.index.proofs.insert.first_child.Reads as reads
+use Rattle.index.proofs.insert.first_child.Lts as lts
+use Rattle.index.proofs.insert.clear_inner.Reads as clear-inner-reads
+use Rattle.pages.proofs.inner.insert_child.Reads as insert-child-reads
+
+clear-inner-requires : tie.Need-clear-inner-requires
+clear-inner-requires c κs = search needs
+
+insert-child-requires : tie.Need-insert-child-requires
+insert-child-requires c κs = (search needs, (search (needs, none-yet), omega arith))
+
+same-length : tie.Need-same-length
+same-length c = search needs
+
+returns : tie.Need-returns
+returns c = search (needs, first-is)
+
+pub first-child-spec : {M : Type 1} → statement M
+first-child-spec =
+    tie.close (tie.spec clear-inner-requires insert-child-requires same-length returns)

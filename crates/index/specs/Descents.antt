@@ -1,0 +1,73 @@
+-- What is known on the way down the tree, between the functions that go it: of a tree inside the index, of an inner page, and where in it a
+-- key belongs. Not for readers of the promises. Assumes nothing.
+use Prim.Native.Nat.{ℕ, _+_, _-_, _≤_, _<_, compare}
+use mathlib.Core.Path.{_≡_}
+use mathlib.Core.Bool.{Bool, true, cond}
+use mathlib.Core.List.{List}
+use mathlib.Core.Option.{Option}
+use lib.Dec.{eqb}
+use lib.ListN.{length}
+use Rattle.pages.specs.Layout.{kindOf, countOf, rootOf, usedOf, heightOf, childAt}
+use Rattle.pages.specs.Places.{ChildPlace}
+use Rattle.pages.specs.Rows.{leafSettled}
+use Rattle.trees.specs.Trees.{documentSizes, above, times, counted, ranged}
+use Rattle.trees.specs.Growth.{fullRun}
+use Rattle.index.specs.declared.Top.{Top}
+use Rattle.index.specs.declared.Step.{Step}
+use Rattle.index.specs.declared.Way.{Way}
+use Rattle.index.specs.Pictures.{Item, keyOf, pageAt, treeOf, Laid}
+
+-- the tree of level n at page pg, in an index that uses u pages
+pub record Subtree (s : List ℕ) (n pg u : ℕ) : Type 0 where
+  pub size : length s ≡ 32768
+  pub which : pg < 64
+  pub few : u ≤ 64
+  pub laid : Laid n s pg
+  pub least : ℕ
+  pub enough : 2 ≤ least
+  pub counts : counted ℕ Item documentSizes least n (treeOf n s pg) ≡ true
+  pub low : ℕ
+  pub high : Option ℕ
+  pub keys : ranged compare keyOf 0 n low high (treeOf n s pg) ≡ true
+  pub alone : (q : ℕ) → times ℕ Item n q (treeOf n s pg) + above u q ≤ 1
+
+-- an inner page in the buffer
+pub record InnerIn (s : List ℕ) (pg : ℕ) : Type 0 where
+  pub size : length s ≡ 32768
+  pub which : pg < 64
+  pub some : 1 ≤ countOf (pageAt s pg)
+  pub few : countOf (pageAt s pg) ≤ 30
+
+-- the place of the child that k belongs to, and how many children there are
+pub record Starts (s : List ℕ) (pg k : ℕ) (r : Step) : Type 0 where
+  pub place : ChildPlace (pageAt s pg) k (r .slot)
+  pub count : r .count ≡ countOf (pageAt s pg)
+  pub few : r .count ≤ 30
+
+-- the child that k belongs to
+pub record Goes (s : List ℕ) (pg k : ℕ) (r : Way) : Type 0 where
+  pub starts : Starts s pg k (record { slot = r .slot; count = countOf (pageAt s pg) })
+  pub page : r .page ≡ childAt (pageAt s pg) (r .slot) .page
+  pub few : r .slot < 30
+
+-- the root, its level and how many pages are used
+pub record TopOf (s : List ℕ) (r : Top) : Type 0 where
+  pub root : r .root ≡ rootOf (pageAt s 0)
+  pub used : r .used ≡ usedOf (pageAt s 0)
+  pub level : r .level ≡ heightOf (pageAt s 0) - 1
+  pub low : r .level < 65535
+  pub few : r .used ≤ 64
+
+-- a page of the buffer that may be a leaf
+pub record LeafIn (s : List ℕ) (pg : ℕ) : Type 0 where
+  pub size : length s ≡ 32768
+  pub which : pg < 64
+  pub few : kindOf (pageAt s pg) ≡ 2 → countOf (pageAt s pg) ≤ 24
+
+-- a leaf settled; any other page stays
+unfoldable pub settledPage : Bool → ℕ → List ℕ → List ℕ
+settledPage commits t p = cond (eqb (kindOf p) 2) (leafSettled commits t p) p
+
+-- how many pages are full in an unbroken run from the leaf that k belongs to upward, in the tree of level n at page pg
+abbrev pub runOf : ℕ → ℕ → List ℕ → ℕ → ℕ
+runOf n k s pg = fullRun compare keyOf 0 documentSizes n k (treeOf n s pg)

@@ -1,0 +1,139 @@
+-- What the steps of an insert leave, between the functions that take them: a tree that has grown, a leaf and an inner page with one more.
+-- Not for readers of the promises. Assumes nothing.
+use Prim.Native.Nat.{ℕ, zero, suc, _+_, _≤_, _<_, compare}
+use mathlib.Core.Path.{_≡_}
+use mathlib.Core.Bool.{true}
+use mathlib.Core.List.{List, [], _∷_}
+use mathlib.Core.Option.{Option, none, some}
+use lib.ListN.{length, take, drop, replicate}
+use Rattle.lists.specs.Lists.{insertAt}
+use Rattle.entries.specs.Records.{orZero}
+use Rattle.pages.specs.declared.Child as P
+use Rattle.pages.specs.Layout.{countOf, entriesOf, childrenOf}
+use Rattle.pages.specs.Places.{EntryPlace}
+use Rattle.trees.specs.Trees.{Child, Tree, documentSizes, times}
+use Rattle.trees.specs.Growth as G
+use Rattle.index.specs.declared.Grown.{Grown}
+use Rattle.index.specs.declared.Grown.the-variants.{Same, Split}
+use Rattle.index.specs.Pictures.{Item, keyOf, pageAt, putPage, treeOf, leafPage, innerPage, Laid}
+use Rattle.index.specs.Descents.{Subtree, runOf}
+
+-- numbers that fit their widths in a page
+pub record SmallEntry (e : Item) : Type 0 where
+  pub key : e .key < 18446744073709551616
+  pub owner : e .owner < 65536
+  pub now : orZero (e .now) < 4294967296
+  pub before : orZero (e .before) < 4294967296
+
+pub record SmallChild (c : P.Child) : Type 0 where
+  pub low : c .low .0 < 18446744073709551616
+  pub page : c .page < 65536
+
+-- a tree that an entry is to be put into; the pages that it may need are there
+pub record GrowIn (s : List ℕ) (n pg u : ℕ) (e : Item) : Type 0 where
+  pub sub : Subtree s n pg u
+  pub used : pg < u
+  pub most : u ≤ 64
+  pub room : u + runOf n (e .key) s pg ≤ 64
+  pub small : SmallEntry e
+
+-- the tree with the entry
+abbrev pub grownOf : (n : ℕ) → Item → ℕ → List ℕ → ℕ → G.Grown ℕ (Tree ℕ Item n)
+grownOf n e u s pg = G.grown compare keyOf 0 documentSizes n e u (treeOf n s pg)
+
+-- what the code tells of it: how many pages are used then, and the new tree beside it
+abbrev pub Told : (n : ℕ) → List ℕ → G.Grown ℕ (Tree ℕ Item n) → Grown → Type 0
+Told n s g (Same v) = (v ≡ g .used) × (g .beside ≡ none)
+Told n s g (Split v c) =
+    (v ≡ g .used) × (g .beside ≡ some (record { low = c .low .0; tree = treeOf n s (c .page) })) × Laid n s (c .page) × SmallChild c
+
+abbrev pub usedIn : Grown → ℕ
+usedIn (Same v) = v
+usedIn (Split v c) = v
+
+pub record Grew (n : ℕ) (s s′ : List ℕ) (pg u : ℕ) (e : Item) (r : Grown) : Type 0 where
+  pub size : length s′ ≡ 32768
+  pub tree : treeOf n s′ pg ≡ grownOf n e u s pg .tree
+  pub laid : Laid n s′ pg
+  pub told : Told n s′ (grownOf n e u s pg) r
+  pub more : u ≤ usedIn r
+  pub most : usedIn r ≤ 64
+  pub kept : (q : ℕ) → q < u → times ℕ Item n q (treeOf n s pg) ≡ 0 → pageAt s′ q ≡ pageAt s q
+  pub spare : (q : ℕ) → usedIn r ≤ q → q < 64 → pageAt s′ q ≡ pageAt s q
+
+-- a leaf with one more entry, at place i of those that it had
+abbrev pub lowKey : List Item → ℕ
+lowKey [] = 0
+lowKey (e ∷ es) = e .key
+
+pub record LeafSplit (s s′ : List ℕ) (pg u i : ℕ) (e : Item) (r : Grown) : Type 0 where
+  pub bytes : s′ ≡ putPage (putPage s pg (leafPage (take 13 (insertAt i e (entriesOf (pageAt s pg)))))) u
+      (leafPage (drop 13 (insertAt i e (entriesOf (pageAt s pg)))))
+  pub told : r ≡ Split (u + 1) (record { low = record { 0 = lowKey (drop 13 (insertAt i e (entriesOf (pageAt s pg)))) }; page = u })
+
+-- a full leaf that is to be divided
+pub record LeafFull (s : List ℕ) (pg u i : ℕ) (e : Item) : Type 0 where
+  pub size : length s ≡ 32768
+  pub which : pg < 64
+  pub next : u < 64
+  pub other : pg < u
+  pub full : length (entriesOf (pageAt s pg)) ≡ 24
+  pub count : countOf (pageAt s pg) ≡ 24
+  pub place : i ≤ 24
+  pub laid : pageAt s pg ≡ leafPage (entriesOf (pageAt s pg))
+  pub small : SmallEntry e
+
+-- an inner page with one more child, at place i of those that it had
+abbrev pub zeroFirst : List P.Child → List P.Child
+zeroFirst [] = []
+zeroFirst (c ∷ cs) = record { low = record { 0 = 0 }; page = c .page } ∷ cs
+
+abbrev pub lowFirst : List P.Child → ℕ
+lowFirst [] = 0
+lowFirst (c ∷ cs) = c .low .0
+
+abbrev pub Wider : List ℕ → List ℕ → ℕ → ℕ → ℕ → List P.Child → List P.Child → Grown → Type 0
+Wider s s′ n pg u cs ds (Same v) = (v ≡ u) × (s′ ≡ putPage s pg (innerPage n ds)) × (length cs ≤ 29)
+Wider s s′ n pg u cs ds (Split v d) =
+    (v ≡ u + 1)
+    × (s′ ≡ putPage (putPage s pg (innerPage n (take 16 ds))) u (innerPage n (zeroFirst (drop 16 ds))))
+    × (d ≡ record { low = record { 0 = lowFirst (drop 16 ds) }; page = u })
+    × (length cs ≡ 30)
+
+pub record Widened (s s′ : List ℕ) (n pg u i : ℕ) (c : P.Child) (r : Grown) : Type 0 where
+  pub how : Wider s s′ n pg u (childrenOf (pageAt s pg)) (insertAt i c (childrenOf (pageAt s pg))) r
+
+-- an inner page that a child is to be put into
+pub record InnerRoom (s : List ℕ) (n pg u i : ℕ) (c : P.Child) : Type 0 where
+  pub size : length s ≡ 32768
+  pub which : pg < 64
+  pub most : u ≤ 64
+  pub other : pg < u
+  pub few : countOf (pageAt s pg) ≤ 30
+  pub place : i ≤ countOf (pageAt s pg)
+  pub next : 30 ≤ countOf (pageAt s pg) → u < 64
+  pub laid : pageAt s pg ≡ innerPage n (childrenOf (pageAt s pg))
+  pub small : SmallChild c
+
+-- and one that is full
+pub record InnerFull (s : List ℕ) (n pg u i : ℕ) (c : P.Child) : Type 0 where
+  pub size : length s ≡ 32768
+  pub which : pg < 64
+  pub next : u < 64
+  pub other : pg < u
+  pub count : countOf (pageAt s pg) ≡ 30
+  pub place : i ≤ 30
+  pub laid : pageAt s pg ≡ innerPage n (childrenOf (pageAt s pg))
+  pub small : SmallChild c
+
+-- the new root's page, from a page of zeros, and the buffer with it: "a new root last"
+abbrev pub rootPage : ℕ → ℕ → P.Child → List ℕ
+rootPage n root c = innerPage (n + 1) (record { low = record { 0 = 0 }; page = root } ∷ c ∷ [])
+
+pub record RootIn (s : List ℕ) (n root u : ℕ) (c : P.Child) : Type 0 where
+  pub size : length s ≡ 32768
+  pub next : u < 64
+  pub some : 0 < u
+  pub low : n < 64
+  pub old : root < 64
+  pub blank : pageAt s u ≡ replicate 512 0

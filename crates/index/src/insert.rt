@@ -1,0 +1,216 @@
+// An insert of a missing key: into the leaf, and the pages divided upward where they are full.
+ghost use mathlib.Core.Path.{_≡_};
+ghost use mathlib.Core.Bool.{true};
+ghost use mathlib.Core.List.{[], _∷_};
+ghost use Prim.Native.Nat.{_+_, _<_, compare};
+ghost use lib.ListN.{length, replicate};
+ghost use Rattle.rules.specs.Document.{endMark};
+ghost use Rattle.pages.specs.Layout.{putRoot};
+ghost use Rattle.trees.specs.Growth.{missing};
+ghost use Rattle.index.specs.Pictures.{keyOf, pageAt, putPage, innerPage, entriesIn, WholePages};
+ghost use Rattle.index.specs.Changes.{Added};
+ghost use Rattle.entries.specs.Meaning.{bookEntry, bookValue};
+ghost use Rattle.entries.specs.Records.{orZero};
+ghost use Rattle.index.specs.Growing.{SmallEntry, GrowIn, Grew, LeafFull, LeafSplit, InnerRoom, InnerFull, Widened, rootPage, RootIn};
+use super::Grown;
+use super::descent;
+use super::room;
+use entries::Entry;
+use entries::Key;
+use entries::Value;
+use pages::Child;
+use pages::head;
+use pages::inner;
+use pages::leaf;
+
+// Puts in an entry whose key is missing, if the pages have room for it. Where they have none, nothing changes.
+pub fn add(pages: &mut [u8], e: Entry) -> bool
+    requires { ⌜ WholePages (now pages) ⌝ }
+    requires { ⌜ e .key .0 < endMark ⌝ }
+    requires { ⌜ missing compare keyOf (e .key .0) (entriesIn (now pages)) ≡ true ⌝ }
+    ensures { λ r. ⌜ Added (now (pages .entry)) (now (pages .exit)) (bookEntry e) r ⌝ }
+{
+    let key = e.key;
+    if !room::room_for(pages, key) {
+        return false;
+    }
+    fits_page(e);
+    let t = descent::top(pages);
+    let g = grow(pages, t.level, t.root, t.used, e);
+    match g {
+        Grown::Same(u) => {
+            put_top(pages, t.root, u, t.level + 1);
+            return true;
+        }
+        Grown::Split(u, c) => {
+            add_root(pages, t.level, t.root, u, c);
+            return true;
+        }
+    }
+}
+
+// What an entry's type says, as a fact for the promises: its numbers fit their places in a page. There is nothing to do.
+fn fits_page(e: Entry)
+    ensures { λ _. ⌜ SmallEntry (bookEntry e) ⌝ }
+{
+    let now = e.now;
+    let before = e.before;
+    record_of(now);
+    record_of(before);
+}
+
+// The record, or 0 where it is absent.
+fn record_of(v: Value) -> u32
+    ensures { λ r. ⌜ (r ≡ orZero (bookValue v)) × (r < 4294967296) ⌝ }
+{
+    match v {
+        Value::Present(rec) => rec,
+        Value::Absent => 0,
+    }
+}
+
+// Writes page 0: the root, the pages used and the height.
+pub fn put_top(pages: &mut [u8], root: usize, used: usize, height: usize)
+    requires { ⌜ length (now pages) ≡ 32768 ⌝ }
+    ensures { λ _. ⌜ now (pages .exit) ≡ putPage (now (pages .entry)) 0 (putRoot (pageAt (now (pages .entry)) 0) root used height) ⌝ }
+{
+    head::put_root(&mut pages[0..512], root, used, height);
+}
+
+// Makes a new root over the old one and the new tree beside it, in the next unused page, and writes page 0.
+fn add_root(pages: &mut [u8], level: usize, root: usize, used: usize, c: Child)
+    requires { ⌜ RootIn (now pages) level root used c ⌝ }
+    ensures { λ _. ⌜ now (pages .exit) ≡ putPage (putPage (now (pages .entry)) used (rootPage level root c)) 0 (putRoot (pageAt (now (pages .entry)) 0) used (used + 1) (level + 2)) ⌝ }
+{
+    let b = 512 * used;
+    fill_root(&mut pages[b..b + 512], level + 1, root, c);
+    put_top(pages, used, used + 1, level + 2);
+}
+
+// Writes a new root's page over zeros.
+fn fill_root(p: &mut [u8], level: usize, root: usize, c: Child)
+    requires { ⌜ length (now p) ≡ 512 ⌝ }
+    requires { ⌜ now p ≡ replicate 512 0 ⌝ }
+    requires { ⌜ root < 64 ⌝ }
+    ensures { λ _. ⌜ now (p .exit) ≡ innerPage level (record { low = record { 0 = 0 }; page = root } ∷ c ∷ []) ⌝ }
+{
+    first_child(
+        p,
+        level,
+        Child {
+            low: Key::LOWEST,
+            page: root as u16,
+        },
+    );
+    inner::insert_child(p, 1, c);
+}
+
+// Writes an inner page with one child over zeros.
+fn first_child(p: &mut [u8], level: usize, c: Child)
+    requires { ⌜ length (now p) ≡ 512 ⌝ }
+    requires { ⌜ now p ≡ replicate 512 0 ⌝ }
+    ensures { λ _. ⌜ now (p .exit) ≡ innerPage level (c ∷ []) ⌝ }
+{
+    clear_inner(p, level);
+    inner::insert_child(p, 0, c);
+}
+
+// Writes the head of an inner page that has no child yet over zeros.
+fn clear_inner(p: &mut [u8], level: usize)
+    requires { ⌜ length (now p) ≡ 512 ⌝ }
+    requires { ⌜ now p ≡ replicate 512 0 ⌝ }
+    ensures { λ _. ⌜ now (p .exit) ≡ innerPage level [] ⌝ }
+{
+    head::put_head(p, 3, 0, level);
+}
+
+// Puts an entry into the tree of this level at this page. New pages take the next unused numbers, the leaf's first.
+fn grow(pages: &mut [u8], level: usize, pg: usize, used: usize, e: Entry) -> Grown
+    requires { ⌜ GrowIn (now pages) level pg used (bookEntry e) ⌝ }
+    ensures { λ r. ⌜ Grew level (now (pages .entry)) (now (pages .exit)) pg used (bookEntry e) r ⌝ }
+{
+    if level == 0 {
+        return grow_leaf(pages, pg, used, e);
+    }
+    let key = e.key;
+    let way = descent::way_to(pages, pg, key);
+    let g = grow(pages, level - 1, way.page, used, e);
+    match g {
+        Grown::Same(u) => {
+            return Grown::Same(u);
+        }
+        Grown::Split(u, c) => {
+            return grow_inner(pages, level, pg, u, way.slot + 1, c);
+        }
+    }
+}
+
+// Puts an entry into a leaf. A full one is divided.
+fn grow_leaf(pages: &mut [u8], pg: usize, used: usize, e: Entry) -> Grown
+    requires { ⌜ GrowIn (now pages) 0 pg used (bookEntry e) ⌝ }
+    ensures { λ r. ⌜ Grew 0 (now (pages .entry)) (now (pages .exit)) pg used (bookEntry e) r ⌝ }
+{
+    let a = 512 * pg;
+    let key = e.key;
+    let n = head::count_of(&pages[a..a + 512]);
+    let i = leaf::first_at_or_above(&pages[a..a + 512], key);
+    if n < 24 {
+        leaf::insert_entry(&mut pages[a..a + 512], i, e);
+        return Grown::Same(used);
+    }
+    split_leaf(pages, pg, used, i, e)
+}
+
+// Puts an entry in at a place of a full leaf. The new page is built apart, since two parts of the buffer cannot be lent at once.
+fn split_leaf(pages: &mut [u8], pg: usize, used: usize, i: usize, e: Entry) -> Grown
+    requires { ⌜ LeafFull (now pages) pg used i (bookEntry e) ⌝ }
+    ensures { λ r. ⌜ LeafSplit (now (pages .entry)) (now (pages .exit)) pg used i (bookEntry e) r ⌝ }
+{
+    let a = 512 * pg;
+    let b = 512 * used;
+    let mut right = [0u8; 512];
+    head::put_head(&mut right, 2, 0, 0);
+    leaf::split_leaf(&mut pages[a..a + 512], &mut right, i, e);
+    let low = leaf::key_at(&right, 0);
+    numbers::copy_bytes(&mut pages[b..b + 512], 0, &right, 0, 512);
+    Grown::Split(
+        used + 1,
+        Child {
+            low: low,
+            page: used as u16,
+        },
+    )
+}
+
+// Puts a child in at a place of an inner page. A full one is divided.
+fn grow_inner(pages: &mut [u8], level: usize, pg: usize, used: usize, i: usize, c: Child) -> Grown
+    requires { ⌜ InnerRoom (now pages) level pg used i c ⌝ }
+    ensures { λ r. ⌜ Widened (now (pages .entry)) (now (pages .exit)) level pg used i c r ⌝ }
+{
+    let a = 512 * pg;
+    if head::count_of(&pages[a..a + 512]) < 30 {
+        inner::insert_child(&mut pages[a..a + 512], i, c);
+        return Grown::Same(used);
+    }
+    split_inner(pages, level, pg, used, i, c)
+}
+
+// Puts a child in at a place of a full inner page. The new page is built apart.
+fn split_inner(pages: &mut [u8], level: usize, pg: usize, used: usize, i: usize, c: Child) -> Grown
+    requires { ⌜ InnerFull (now pages) level pg used i c ⌝ }
+    ensures { λ r. ⌜ Widened (now (pages .entry)) (now (pages .exit)) level pg used i c r ⌝ }
+{
+    let a = 512 * pg;
+    let b = 512 * used;
+    let mut right = [0u8; 512];
+    head::put_head(&mut right, 3, 0, level);
+    let low = inner::split_children(&mut pages[a..a + 512], &mut right, i, c);
+    numbers::copy_bytes(&mut pages[b..b + 512], 0, &right, 0, 512);
+    Grown::Split(
+        used + 1,
+        Child {
+            low: low,
+            page: used as u16,
+        },
+    )
+}

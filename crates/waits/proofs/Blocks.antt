@@ -1,0 +1,129 @@
+-- A request is blocked where a lock stands against it, or where it is behind another's: the two halves of the rule book's `blockers`.
+-- A list that is kept is empty where no element passes the test. Assumes nothing.
+use Prim.Native.Nat.{ℕ, _+_, _-_, _≤_, _<_, compare}
+use mathlib.Core.Path.{_≡_, refl, sym, ap, ap₂, _∙_}
+use mathlib.Core.Bool.{Bool, true, false, cond, not, _&&_, _||_}
+use mathlib.Core.List.{List, [], _∷_, _++_, map}
+use mathlib.Core.Option.{Option}
+use native.Mathlib.Nat.{sub-zero, zero-add}
+use borrow.Author.Tests.{lt-ltb, le-ltb}
+use lib.Dec.{eqb, ltb}
+use Rattle.lists.specs.Lists.{any, keep, isNil, tab}
+use Rattle.lists.proofs.Tables.{tab-append, any-next, any-done}
+use Rattle.rules.specs.Kinds.{Name, Mode, Lock, Paging}
+use Rattle.rules.specs.Locks as K
+use Rattle.trees.specs.Trees.{documentSizes}
+use Rattle.trees.specs.Shapes.{treePaging}
+use Rattle.tables.specs.declared.Slot.{Slot}
+use Rattle.tables.specs.Layout.{locksMost, inPlace, queuedAt, slotAt, slotsOf, nameIn, bookMode, bookSlot}
+use Rattle.tables.specs.Moves.{isSlotAgainst, heldIn}
+use Rattle.tables.proofs.Values.{same-name}
+use Rattle.tables.proofs.Holders.{holders-none}
+use Rattle.tables.proofs.Takes.{holds-is}
+use Rattle.index.specs.Pictures.{entriesIn}
+use Rattle.whole.specs.States.{book}
+use Rattle.waits.specs.declared.Want.{Want}
+use Rattle.waits.specs.Choices.{bookWant}
+use Rattle.waits.specs.Blocks.{ahead, blockersAt, isRival, isBehind}
+
+abbrev pub paging : Paging ℕ
+paging = treePaging compare 0 documentSizes
+
+-- ---- lists
+pub tab-last : {A : Type 0} (n : ℕ) (f : ℕ → A) → tab n 0 f ++ (f n ∷ []) ≡ tab (n + 1) 0 f
+unfolding tab
+tab-last n f = sym (tab-append n 1 0 f ∙ ap (λ k. tab n 0 f ++ (f k ∷ [])) (zero-add n))
+
+nil-append : {A : Type 0} (xs ys : List A) → isNil (xs ++ ys) ≡ (isNil xs && isNil ys)
+nil-append [] ys = refl
+nil-append (x ∷ xs) ys = refl
+
+nil-kept : {A B : Type 0} (f : A → B) (p : A → Bool) (xs : List A) → isNil (map f (keep p xs)) ≡ not (any p xs)
+unfolding keep any
+nil-kept f p [] = refl
+nil-kept f p (x ∷ xs) = go (p x) (nil-kept f p xs)
+  where
+    go : (b : Bool) → isNil (map f (keep p xs)) ≡ not (any p xs) → isNil (map f (cond b (x ∷ keep p xs) (keep p xs))) ≡ not (b || any p xs)
+    go true r = refl
+    go false r = r
+
+-- ---- a scan for an element that passes: whether one does is whether one of those left does
+module _ {A : Type 0} (p : A → Bool) (n : ℕ) (f : ℕ → A) (whole : Bool) (i : ℕ) where
+  module _ (b : Bool) (q : b ≡ p (f i)) (h : i < n) (e : whole ≡ any p (tab (n - i) i f)) where
+    pub scan-next : b ≡ false → whole ≡ any p (tab (n - (i + 1)) (i + 1) f)
+    scan-next z = e ∙ any-next p n i f h ∙ ap (λ x. x || any p (tab (n - (i + 1)) (i + 1) f)) (sym q ∙ z)
+
+    pub scan-found : b ≡ true → true ≡ whole
+    scan-found z = sym (e ∙ any-next p n i f h ∙ ap (λ x. x || any p (tab (n - (i + 1)) (i + 1) f)) (sym q ∙ z))
+
+  pub scan-none : n ≤ i → whole ≡ any p (tab (n - i) i f) → false ≡ whole
+  scan-none h e = sym (e ∙ any-done p n i f h)
+
+pub slots-start : (p : Option (Lock ℕ) → Bool) (d : List ℕ) → any p (slotsOf d) ≡ any p (tab (locksMost - 0) 0 (slotAt d))
+unfolding slotsOf
+slots-start p d = refl
+
+-- ---- one lock, and one request, against another
+pub against-at : (d : List ℕ) (i t : ℕ) (n : Name ℕ) (m : Mode) (s : Slot) (b : Bool) → bookSlot s ≡ slotAt d i → b ≡ isSlotAgainst t n m (bookSlot s)
+    → b ≡ isSlotAgainst t n m (slotAt d i)
+against-at d i t n m s b e h = h ∙ ap (isSlotAgainst t n m) e
+
+pub rival-at : (p d : List ℕ) (i t u : ℕ) (v w : Want) (b c : Bool) → u ≡ inPlace d i → bookWant v ≡ K.wanted book (entriesIn p) (queuedAt d i)
+    → b ≡ eqb (v .name .0) (w .name .0) → c ≡ K.conflict (bookMode (v .mode)) (bookMode (w .mode))
+    → (not (eqb u t) && (b && c)) ≡ isRival p t (bookWant w) (queuedAt d i)
+unfolding queuedAt
+rival-at p d i t u v w b c e h x y =
+    ap₂ (λ a z. not (eqb a t) && z) e
+    (ap₂ _&&_ (x ∙ sym (same-name paging (v .name .0) (w .name .0))) y ∙ ap (λ z. K.clash book z (bookWant w)) h)
+
+-- ---- behind another's: where t holds no lock on what it wants, a scan of those ahead
+module _ (p d : List ℕ) (q t : ℕ) (w : Want) (k : ℕ) (e : k ≡ heldIn d t (nameIn (w .name .0))) where
+  pub holds-by : K.holds book (slotsOf d) t (nameIn (w .name .0)) ≡ ltb k locksMost
+  holds-by = holds-is paging d t (nameIn (w .name .0)) ∙ ap (λ x. ltb x locksMost) (sym e)
+
+  pub behind-held : k < locksMost → false ≡ isBehind p d q t (bookWant w)
+  unfolding isBehind
+  behind-held h = sym (ap (λ b. not b && any (isRival p t (bookWant w)) (ahead d q)) (holds-by ∙ lt-ltb k locksMost h))
+
+  pub behind-start : locksMost ≤ k → isBehind p d q t (bookWant w) ≡ any (isRival p t (bookWant w)) (tab (q - 0) 0 (queuedAt d))
+  unfolding isBehind ahead
+  behind-start h =
+      rw sub-zero (ap (λ b. not b && any (isRival p t (bookWant w)) (tab q 0 (queuedAt d))) (holds-by ∙ le-ltb k locksMost h))
+
+-- ---- the request at a place, with what it wants
+module _ (p d : List ℕ) (q t : ℕ) (w : Want) (a : t ≡ inPlace d q) (e : bookWant w ≡ K.wanted book (entriesIn p) (queuedAt d q)) where
+  abbrev holding : List ℕ
+  holding = K.holders book (slotsOf d) t (bookWant w)
+
+  abbrev waiting : List ℕ
+  waiting = K.earlier book (entriesIn p) (ahead d q) t (bookWant w)
+
+  pub blockers-are : blockersAt p d q ≡ holding ++ cond (K.holds book (slotsOf d) t (bookWant w .name)) [] waiting
+  unfolding blockersAt K.blockers queuedAt
+  blockers-are =
+      ap₂ (λ u v. K.holders book (slotsOf d) u v ++ cond (K.holds book (slotsOf d) u (v .name)) [] (K.earlier book (entriesIn p) (ahead d q) u v))
+      (sym a) (sym e)
+
+  abbrev isHeld : Bool
+  isHeld = any (isSlotAgainst t (bookWant w .name) (bookWant w .mode)) (slotsOf d)
+
+  blocked-by : isNil (blockersAt p d q) ≡ (not isHeld && not (isBehind p d q t (bookWant w)))
+  unfolding isBehind K.earlier
+  blocked-by =
+      ap isNil blockers-are
+      ∙ nil-append holding (cond (K.holds book (slotsOf d) t (bookWant w .name)) [] waiting)
+      ∙ ap₂ _&&_ (holders-none paging t (bookWant w) (slotsOf d)) (go (K.holds book (slotsOf d) t (bookWant w .name)))
+    where
+      go : (b : Bool) → isNil (cond b [] waiting) ≡ not (not b && any (isRival p t (bookWant w)) (ahead d q))
+      go true = refl
+      go false = nil-kept (λ x. x .asker) (isRival p t (bookWant w)) (ahead d q)
+
+  pub blocked-held : isHeld ≡ true → isNil (blockersAt p d q) ≡ false
+  blocked-held h = blocked-by ∙ ap (λ b. not b && not (isBehind p d q t (bookWant w))) h
+
+  module _ (h : isHeld ≡ false) where
+    pub blocked-behind : isBehind p d q t (bookWant w) ≡ true → isNil (blockersAt p d q) ≡ false
+    blocked-behind l = blocked-by ∙ ap₂ (λ b c. not b && not c) h l
+
+    pub blocked-not : isBehind p d q t (bookWant w) ≡ false → isNil (blockersAt p d q) ≡ true
+    blocked-not l = blocked-by ∙ ap₂ (λ b c. not b && not c) h l

@@ -1,0 +1,128 @@
+-- What a request wants: the search for its target is the rule book's, and so are the name and the mode that the code makes of it.
+-- A search for nobody skips no ghost, one for a transaction only its own; a key of the index is never the end mark.
+use Prim.Native.Nat.{ℕ, _≤_, _<_}
+use mathlib.Core.Path.{_≡_, refl, sym, ap, ap₂, _∙_}
+use mathlib.Core.Bool.{Bool, true, false, cond, not, _&&_, _||_}
+use mathlib.Core.List.{List, [], _∷_}
+use mathlib.Core.Option.{Option, none, some}
+use native.Mathlib.Omega.{arith}
+use borrow.Author.Tests.{ne-eqb, ltb-true}
+use lib.Dec.{leb, eqb, ltb}
+use Rattle.lists.specs.Lists.{In, all, first, pairs}
+use Rattle.lists.proofs.Tests.{and-right}
+use Rattle.lists.proofs.Elements.{all-in, first-in}
+use Rattle.rules.specs.Kinds.{Entry, S, X, on, end, Ask, read, insert, delete}
+use Rattle.rules.specs.Entries.{ghost}
+use Rattle.rules.specs.Locks.{target, named, itself, modeIf, mode, wanted}
+use Rattle.rules.specs.Good.{ascending, below}
+use Rattle.rules.specs.Document.{endMark}
+use Rattle.entries.specs.declared.Key.{Key}
+use Rattle.entries.specs.declared.Entry as E
+use Rattle.entries.specs.declared.Ask as A
+use Rattle.entries.specs.declared.Ask.the-variants as AV
+use Rattle.entries.specs.Meaning.{bookAsk}
+use Rattle.tables.specs.declared.Mode as M
+use Rattle.tables.specs.Layout.{nameIn, nameNumber, bookMode, askAt, inPlace, queuedAt}
+use Rattle.index.specs.declared.Found.{Found}
+use Rattle.index.specs.declared.Found.the-variants.{Here}
+use Rattle.index.specs.Searches.{seeks, bookFound}
+use Rattle.whole.specs.States.{book}
+use Rattle.waits.specs.declared.Want.{Want}
+use Rattle.waits.specs.Choices.{bookWant}
+
+-- ---- the searches
+first-same : {A : Type 0} (p q : A → Bool) → ((x : A) → p x ≡ q x) → (xs : List A) → first p xs ≡ first q xs
+unfolding first
+first-same p q h [] = refl
+first-same p q h (x ∷ xs) = ap₂ (λ b o. cond b (some x) o) (h x) (first-same p q h xs)
+
+-- nobody has no ghosts
+plainly : (a b c d : Bool) → (a && (b || not ((not true && c) && d))) ≡ a
+plainly true true c d = refl
+plainly true false c d = refl
+plainly false b c d = refl
+
+pub plain-found : (es : List (Entry ℕ ℕ)) (key : Key) (r : Found) → bookFound r ≡ first (seeks (record { lo = key; hi = key; asker = 0 })) es
+    → bookFound r ≡ first (λ e. leb (key .0) (e .key)) es
+plain-found es key r e =
+    e ∙ first-same (seeks (record { lo = key; hi = key; asker = 0 })) (λ x. leb (key .0) (x .key))
+    (λ x. plainly (leb (key .0) (x .key)) (not (leb (x .key) (key .0))) (eqb (x .owner) 0) (ghost x)) es
+
+module _ (es : List (Entry ℕ ℕ)) (t : ℕ) (ask : A.Ask) (r : Found) where
+  pub read-target : (lo hi : Key) → ask ≡ AV.Read lo hi → 1 ≤ t → bookFound r ≡ first (seeks (record { lo = lo; hi = hi; asker = t })) es
+      → bookFound r ≡ target book es t (bookAsk ask)
+  unfolding target
+  read-target lo hi a h e =
+      let z : eqb t 0 ≡ false = ne-eqb t 0 (λ q. omega arith) in
+      rw a
+      (e ∙ ap (λ b. first (λ x. leb (lo .0) (x .key) && (not (leb (x .key) (hi .0)) || not ((not b && eqb (x .owner) t) && ghost x))) es) z)
+
+  pub insert-target : (key : Key) (rec : ℕ) → ask ≡ AV.Insert key rec → bookFound r ≡ first (λ e. leb (key .0) (e .key)) es
+      → bookFound r ≡ target book es t (bookAsk ask)
+  unfolding target
+  insert-target key rec a e = rw a e
+
+  pub delete-target : (key : Key) → ask ≡ AV.Delete key → bookFound r ≡ first (λ e. leb (key .0) (e .key)) es
+      → bookFound r ≡ target book es t (bookAsk ask)
+  unfolding target
+  delete-target key a e = rw a e
+
+-- ---- the mode: by whether the target is of the key, and by the request
+module _ (found : Found) (key : Key) (there otherwise : M.Mode) (e : E.Entry) (f : found ≡ Here e) (b : Bool) (q : b ≡ eqb (e .key .0) (key .0)) where
+  pub mode-there : b ≡ true → bookMode there ≡ modeIf book (bookMode there) (bookMode otherwise) (itself book (key .0) (bookFound found))
+  mode-there h = let s : eqb (e .key .0) (key .0) ≡ true = sym q ∙ h in rw (f, s)
+
+  pub mode-otherwise : b ≡ false → bookMode otherwise ≡ modeIf book (bookMode there) (bookMode otherwise) (itself book (key .0) (bookFound found))
+  mode-otherwise h = let s : eqb (e .key .0) (key .0) ≡ false = sym q ∙ h in rw (f, s)
+
+module _ (ask : A.Ask) (x : Option (Entry ℕ ℕ)) where
+  pub read-mode : (lo hi : Key) → ask ≡ AV.Read lo hi → S ≡ mode book (bookAsk ask) x
+  unfolding mode
+  read-mode lo hi e = rw e
+
+  pub insert-mode : (key : Key) (rec : ℕ) (m : M.Mode) → ask ≡ AV.Insert key rec → bookMode m ≡ modeIf book S X (itself book (key .0) x)
+      → bookMode m ≡ mode book (bookAsk ask) x
+  unfolding mode
+  insert-mode key rec m e h = rw e h
+
+  pub delete-mode : (key : Key) (m : M.Mode) → ask ≡ AV.Delete key → bookMode m ≡ modeIf book X S (itself book (key .0) x)
+      → bookMode m ≡ mode book (bookAsk ask) x
+  unfolding mode
+  delete-mode key m e h = rw e h
+
+-- ---- the name: a key of the index is below the end mark
+name-there : (n : ℕ) → n < endMark → nameIn n ≡ on n
+name-there n h = ap (λ b. cond b end (on n)) (ne-eqb n endMark (λ e. omega arith))
+
+target-in : (es : List (Entry ℕ ℕ)) (t : ℕ) (a : Ask ℕ ℕ) (e : Entry ℕ ℕ) → target book es t a ≡ some e → In e es
+unfolding target
+target-in es t (read lo hi) e h = first-in _ es e h .0
+target-in es t (insert k r) e h = first-in _ es e h .0
+target-in es t (delete k) e h = first-in _ es e h .0
+
+named-back : (es : List (Entry ℕ ℕ)) → ascending book es ≡ true → (o : Option (Entry ℕ ℕ)) → ((e : Entry ℕ ℕ) → o ≡ some e → In e es)
+    → nameIn (nameNumber (named book o)) ≡ named book o
+unfolding ascending
+named-back es h none i = refl
+named-back es h (some e) i =
+    name-there (e .key)
+    (ltb-true (e .key) endMark
+    (all-in (λ x. ltb (x .key) endMark) es e (and-right (pairs (below book) es) (all (λ x. ltb (x .key) endMark) es) h) (i e refl)))
+
+pub want-is : (es : List (Entry ℕ ℕ)) (t : ℕ) (ask : A.Ask) (found : Found) (w : Want) → ascending book es ≡ true
+    → bookFound found ≡ target book es t (bookAsk ask) → w .name .0 ≡ nameNumber (named book (bookFound found))
+    → bookMode (w .mode) ≡ mode book (bookAsk ask) (bookFound found)
+    → bookWant w ≡ wanted book es (record { asker = t; asks = bookAsk ask })
+unfolding wanted
+want-is es t ask found w h e n m =
+    let x = target book es t (bookAsk ask) in
+    ap₂ (λ a b. record { name = a; mode = b })
+    (ap nameIn n ∙ ap (λ o. nameIn (nameNumber (named book o))) e ∙ named-back es h x (target-in es t (bookAsk ask)))
+    (m ∙ ap (mode book (bookAsk ask)) e)
+
+-- ---- the request at a place of the queue
+pub want-queued : (es : List (Entry ℕ ℕ)) (d : List ℕ) (q t : ℕ) (ask : A.Ask) (w : Want) → t ≡ inPlace d q → bookAsk ask ≡ askAt d t
+    → bookWant w ≡ wanted book es (record { asker = t; asks = bookAsk ask }) → bookWant w ≡ wanted book es (queuedAt d q)
+unfolding queuedAt
+want-queued es d q t ask w e a h =
+    h ∙ ap (λ x. wanted book es (record { asker = t; asks = x })) a ∙ ap (λ u. wanted book es (record { asker = u; asks = askAt d u })) e

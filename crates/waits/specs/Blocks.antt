@@ -1,0 +1,55 @@
+-- The queue at one of its places: who is ahead, who blocks the request there, and whether it is behind another's. Assumes nothing.
+use Prim.Native.Nat.{ℕ, _+_, _≤_, _<_}
+use mathlib.Core.Path.{_≡_}
+use mathlib.Core.Bool.{Bool, cond, not, _&&_}
+use mathlib.Core.List.{List}
+use mathlib.Core.Option.{Option, none, some}
+use lib.Dec.{eqb}
+use lib.ListN.{length}
+use Rattle.lists.specs.Lists.{any, tab}
+use Rattle.rules.specs.Kinds.{Queued, Lock}
+use Rattle.rules.specs.Locks as K
+use Rattle.rules.specs.Queue.{waits}
+use Rattle.tables.specs.Layout.{transactionsMost, locksMost, queuedAt, slotAt, slotsOf}
+use Rattle.tables.specs.Moves.{isSlotAgainst}
+use Rattle.index.specs.Pictures.{entriesIn}
+use Rattle.whole.specs.States.{book, stateOf}
+use Rattle.circles.specs.Sets.{RowOf}
+use Rattle.circles.specs.Search.{withOne}
+
+unfoldable pub ahead : List ℕ → ℕ → List (Queued ℕ ℕ)
+ahead d q = tab q 0 (queuedAt d)
+
+-- all who block the request at a place
+unfoldable pub blockersAt : List ℕ → List ℕ → ℕ → List ℕ
+blockersAt p d q = K.blockers book (entriesIn p) (slotsOf d) (ahead d q) (queuedAt d q)
+
+-- another's request with the same target, in a conflicting mode
+abbrev pub isRival : List ℕ → ℕ → K.Want book → Queued ℕ ℕ → Bool
+isRival p t w x = not (eqb (x .asker) t) && K.clash book (K.wanted book (entriesIn p) x) w
+
+-- "or if T holds no lock on it and U has an earlier waiting request with the same target and a conflicting mode"
+unfoldable pub isBehind : List ℕ → List ℕ → ℕ → ℕ → K.Want book → Bool
+isBehind p d q t w = not (K.holds book (slotsOf d) t (w .name)) && any (isRival p t w) (ahead d q)
+
+-- every lock's holder is a transaction
+pub record HoldersKnown (d : List ℕ) : Type 0 where
+  pub low : (i : ℕ) (l : Lock ℕ) → i < locksMost → slotAt d i ≡ some l → 1 ≤ l .holder
+  pub high : (i : ℕ) (l : Lock ℕ) → i < locksMost → slotAt d i ≡ some l → l .holder ≤ transactionsMost
+
+-- who holds a slot; nobody, where it is free
+abbrev pub holderOf : Option (Lock ℕ) → ℕ
+holderOf none = 0
+holderOf (some l) = l .holder
+
+-- a set with a slot's holder, and with a request's asker, where it blocks t
+abbrev pub withHolder : ℕ → ℕ → K.Want book → Option (Lock ℕ) → ℕ
+withHolder m t w x = cond (isSlotAgainst t (w .name) (w .mode) x) (withOne m (holderOf x)) m
+
+abbrev pub withRival : ℕ → List ℕ → ℕ → K.Want book → Queued ℕ ℕ → ℕ
+withRival m p t w x = cond (isRival p t w x) (withOne m (x .asker)) m
+
+-- for each transaction, at its number, all who block its queued request
+pub record Rows (p d row : List ℕ) : Type 0 where
+  pub long : length row ≡ transactionsMost + 1
+  pub links : RowOf book row (waits book (stateOf p d))
