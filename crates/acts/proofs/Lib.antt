@@ -1,0 +1,6 @@
+pub mod Tables
+pub mod Places
+pub mod Moves
+pub mod Ended
+pub mod Runs
+pub mod Looks

@@ -1,0 +1,46 @@
+-- `acts::ending::end` meets its contract: what the index and the desk become is the rule book's end.
+-- Assumes nothing.
+use borrow.Author.Needs.{needs}
+use Rattle.acts.proofs.Tables.{whole-few}
+use Rattle.acts.proofs.Ended.{end-says}
+use Rattle.acts.proofs.ending.end.Statement.{statement}
+use Rattle.acts.proofs.ending.end.Tie as tie
+use Rattle.acts.proofs.ending.end.Reads as reads
+use Rattle.acts.proofs.ending.end.Lts as lts
+use Rattle.acts.proofs.ending.drop_request.Reads as drop-request-reads
+use Rattle.index.proofs.settle.Reads as settle-reads
+use Rattle.tables.proofs.locks.release_locks.Reads as release-locks-reads
+use Rattle.tables.proofs.transactions.put_running.Reads as put-running-reads
+
+settle-requires : tie.Need-settle-requires
+settle-requires c κs = search needs
+
+drop-request-requires : tie.Need-drop-request-requires
+drop-request-requires c κs = search (needs, whole-few)
+
+release-locks-requires : tie.Need-release-locks-requires
+release-locks-requires c κs = search needs
+
+put-running-requires : tie.Need-put-running-requires
+put-running-requires c κs = search needs
+
+same-length : tie.Need-same-length
+same-length c = search needs
+
+same-length-2 : tie.Need-same-length-2
+same-length-2 c = search needs
+
+returns : tie.Need-returns
+returns c = search (needs, end-says)
+
+pub end-spec : {M : Type 1} → statement M
+end-spec =
+    tie.close
+    (tie.spec
+    settle-requires
+    drop-request-requires
+    release-locks-requires
+    put-running-requires
+    same-length
+    same-length-2
+    returns)

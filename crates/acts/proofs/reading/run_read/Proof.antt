@@ -1,0 +1,57 @@
+-- `acts::reading::run_read` meets its contract: the queue stands as it did when the lock has been taken.
+-- Assumes nothing.
+use borrow.Author.Needs.{needs}
+use Rattle.acts.proofs.Runs.{clear-place, clear-low, taken-inside, taken-few, taken-asker}
+use Rattle.acts.proofs.Looks.{read-ran}
+use Rattle.acts.proofs.reading.run_read.Statement.{statement}
+use Rattle.acts.proofs.reading.run_read.Tie as tie
+use Rattle.acts.proofs.reading.run_read.Reads as reads
+use Rattle.acts.proofs.reading.run_read.Lts as lts
+use Rattle.acts.proofs.reading.read_says.Reads as read-says-reads
+use Rattle.acts.proofs.reading.unless_short.Reads as unless-short-reads
+use Rattle.tables.proofs.locks.take_lock.Reads as take-lock-reads
+use Rattle.tables.proofs.queue.in_place.Reads as in-place-reads
+use Rattle.tables.proofs.queue.leave_queue.Reads as leave-queue-reads
+use Rattle.waits.proofs.targets.name_of.Reads as name-of-reads
+use Rattle.waits.proofs.targets.target_of.Reads as target-of-reads
+
+in-place-requires : tie.Need-in-place-requires
+in-place-requires c κs = search (needs, clear-place)
+
+target-of-requires : tie.Need-target-of-requires
+target-of-requires c κs = search (needs, clear-low)
+
+name-of-requires : tie.Need-name-of-requires
+name-of-requires c κs = search needs
+
+take-lock-requires : tie.Need-take-lock-requires
+take-lock-requires c κs = search needs
+
+leave-queue-requires : tie.Need-leave-queue-requires
+leave-queue-requires c κs = (search needs, (search (needs, taken-inside), (search (needs, taken-few), search (needs, taken-asker))))
+
+read-says-requires : tie.Need-read-says-requires
+read-says-requires c κs = search needs
+
+unless-short-requires : tie.Need-unless-short-requires
+unless-short-requires c κs = search needs
+
+same-length : tie.Need-same-length
+same-length c = search needs
+
+returns : tie.Need-returns
+returns c = search (needs, read-ran)
+
+pub run-read-spec : {M : Type 1} → statement M
+run-read-spec =
+    tie.close
+    (tie.spec
+    in-place-requires
+    target-of-requires
+    name-of-requires
+    take-lock-requires
+    leave-queue-requires
+    read-says-requires
+    unless-short-requires
+    same-length
+    returns)

@@ -1,0 +1,62 @@
+// The run of a read. (Document 01, "What the desk says".)
+ghost use mathlib.Core.Path.{_≡_};
+ghost use mathlib.Core.Bool.{cond};
+ghost use Rattle.rules.specs.Kinds.{read};
+ghost use Rattle.rules.specs.Runs.{locksShort, readSays};
+ghost use Rattle.entries.specs.Meaning.{bookSays};
+ghost use Rattle.tables.specs.Layout.{queuedAt};
+ghost use Rattle.index.specs.Searches.{bookFound};
+ghost use Rattle.whole.specs.States.{book};
+ghost use Rattle.whole.specs.Whole.{Whole};
+ghost use Rattle.acts.specs.Acts.{Clear, Ran};
+use entries::Answer;
+use entries::Ask;
+use entries::Key;
+use entries::Says;
+use index::Found;
+use tables::Mode;
+use tables::locks;
+use tables::queue;
+use waits::targets;
+
+// What is said if the lock was given, and otherwise number 17.
+pub fn unless_short(given: bool, says: Says) -> Says
+    ensures { λ r. ⌜ bookSays r ≡ cond given (bookSays says) locksShort ⌝ }
+{
+    if given { says } else { Says::LocksShort }
+}
+
+// What a read says of its target.
+fn read_says(found: Found, hi: Key) -> Says
+    ensures { λ r. ⌜ bookSays r ≡ readSays book (hi .0) (bookFound found) ⌝ }
+{
+    let Found::Here(e) = found else {
+        return Says::Nothing;
+    };
+    let key = e.key;
+    let now = e.now;
+    if key.at_most(hi) {
+        Says::Found(key, now)
+    } else {
+        Says::Nothing
+    }
+}
+
+// Runs the read at place q of the queue, which nobody blocks.
+pub fn run_read(pages: &[u8], desk: &mut [u8], q: usize, lo: Key, hi: Key) -> Answer
+    requires { ⌜ Whole (now pages) (now desk) ⌝ }
+    requires { ⌜ Clear (now pages) (now desk) q ⌝ }
+    requires { ⌜ queuedAt (now desk) q .asks ≡ read (lo .0) (hi .0) ⌝ }
+    ensures { λ r. ⌜ Ran (now (pages .entry)) (now (desk .entry)) (now (pages .entry)) (now (desk .exit)) q r ⌝ }
+{
+    let t = queue::in_place(desk, q);
+    let found = targets::target_of(pages, t, Ask::Read(lo, hi));
+    let name = targets::name_of(found);
+    let given = locks::take_lock(desk, t, name, Mode::S);
+    queue::leave_queue(desk, q);
+    let says = unless_short(given, read_says(found, hi));
+    Answer {
+        asker: t,
+        says: says,
+    }
+}
