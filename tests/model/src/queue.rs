@@ -50,7 +50,7 @@ impl Tables {
     /// Ends a transaction: its entries settle, its locks are released, and a request it still has
     /// in the queue is dropped without an answer. Which entries are its own goes by their owner,
     /// not by its X locks.
-    fn end(&mut self, transaction: u16, ended: fn(Entry) -> Option<Entry>) {
+    pub fn end(&mut self, transaction: u16, ended: fn(Entry) -> Option<Entry>) {
         self.index.settle(transaction, ended);
         for slot in &mut self.desk.slots {
             if matches!(slot, Slot::Taken(lock) if lock.holder == transaction) {
@@ -61,13 +61,13 @@ impl Tables {
         self.desk.set_transaction(transaction, Transaction::NotRunning);
     }
 
-    fn join_queue(&mut self, asker: u16, request: KeyRequest) {
+    pub fn join_queue(&mut self, asker: u16, request: KeyRequest) {
         self.desk.queue.push(asker);
         self.desk.set_transaction(asker, Transaction::Waiting(request));
     }
 
     /// Takes a waiting transaction out of the queue, and gives the request it waited with.
-    fn leave_queue(&mut self, waiter: u16) -> KeyRequest {
+    pub fn leave_queue(&mut self, waiter: u16) -> KeyRequest {
         let request = self.desk.waiting_request(waiter).expect("whoever is queued waits");
         self.desk.queue.retain(|other| *other != waiter);
         self.desk.set_transaction(waiter, Transaction::Running);
@@ -165,13 +165,13 @@ impl Tables {
         }
     }
 
-    fn lowest_free_slot(&self) -> Option<usize> {
+    pub fn lowest_free_slot(&self) -> Option<usize> {
         self.desk.slots.iter().position(|slot| *slot == Slot::Free)
     }
 
     /// Takes a lock for good. "X replaces S in its slot and is never weakened"; a new lock takes
     /// the lowest free slot, of which the run has made sure.
-    fn take_lock(&mut self, holder: u16, wanted: Target) {
+    pub fn take_lock(&mut self, holder: u16, wanted: Target) {
         let lock = Lock { name: wanted.name, holder, mode: wanted.mode };
         let slot = match self.held(holder, wanted.name) {
             Some(Mode::X) => return,
