@@ -1,1 +1,46 @@
-// Judging a picture.
+// Judging a picture: pages and desk. (Document 01, **Whole**.)
+pub mod desk;
+pub mod locks;
+
+ghost use mathlib.Core.Path.{_≡_};
+ghost use Prim.Native.Nat.{_<_};
+ghost use lib.ListN.{length};
+ghost use Rattle.numbers.specs.Numbers.{Bytes};
+ghost use Rattle.whole.specs.Whole.{Judged};
+ghost use Rattle.whole.specs.Checks.{wholeOk};
+
+// Whether the picture passes every test: the pages, the desk by itself, the locks.
+fn passes(pages: &[u8], desk: &[u8]) -> bool
+    requires { ⌜ length (now pages) ≡ 32768 ⌝ }
+    requires { ⌜ length (now desk) ≡ 4672 ⌝ }
+    ensures { λ r. ⌜ r ≡ wholeOk (now (pages .entry)) (now (desk .entry)) ⌝ }
+{
+    if !whole_pages::are_pages(pages) {
+        return false;
+    }
+    if !desk::is_desk(desk) {
+        return false;
+    }
+    let root = numbers::number_at(pages, 16);
+    let height = numbers::number_at(pages, 20);
+    locks::are_locks(pages, desk, height - 1, root)
+}
+
+// The first byte of a slice; what is learnt is that every element is a byte.
+fn first_byte(s: &[u8]) -> u8
+    requires { ⌜ 0 < length (now s) ⌝ }
+    ensures { λ r. ⌜ Bytes (now (s .entry)) ⌝ }
+{
+    s[0]
+}
+
+// Whether the picture is whole: yes exactly when it is. For any bytes of the two lengths.
+pub fn is_whole(pages: &[u8], desk: &[u8]) -> bool
+    requires { ⌜ length (now pages) ≡ 32768 ⌝ }
+    requires { ⌜ length (now desk) ≡ 4672 ⌝ }
+    ensures { λ r. ⌜ Judged (now (pages .entry)) (now (desk .entry)) r ⌝ }
+{
+    let _p = first_byte(pages);
+    let _d = first_byte(desk);
+    passes(pages, desk)
+}

@@ -1,0 +1,10 @@
+pub mod DeskTurns
+pub mod DeskBytes
+pub mod Slots
+pub mod Askers
+pub mod Records
+pub mod Desks
+pub mod LockTurns
+pub mod Fines
+pub mod Judging
+pub mod Tell

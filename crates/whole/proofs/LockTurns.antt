@@ -1,0 +1,209 @@
+-- What one way through the tests of the locks comes to, in the very facts that the code has there: two slots, a slot and an entry, the
+-- entries of a leaf, the children of a page. Each by one step of the list that is walked. Assumes nothing.
+use mathlib.Core.Path.{_≡_, refl, sym, ap, ap₂, subst, _∙_}
+use mathlib.Core.Bool.{Bool, true, false, cond, not, _&&_, _||_}
+use mathlib.Core.List.{List}
+use mathlib.Core.Option.{Option, none, some}
+use Prim.Native.Nat.{ℕ, zero, suc, _+_, _*_, _-_, _≤_, _<_}
+use native.Mathlib.Nat.{sub-zero}
+use native.Mathlib.Omega.{arith}
+use borrow.Author.Tests.{not-true, not-false, eq-eqb, ne-eqb}
+use lib.Dec.{eqb, lit≤}
+use lib.ListN.{length, take, drop}
+use Rattle.lists.specs.Lists.{tab, all, any, pairs}
+use Rattle.lists.proofs.Tests.{both}
+use Rattle.lists.proofs.Tables.{tab-next, tab-done, all-next, all-done, any-next, any-done}
+use Rattle.rules.specs.Kinds.{Lock, Entry, on, end}
+use Rattle.rules.specs.Document.{endMark}
+use Rattle.numbers.specs.Numbers.{numberAt, zeroAt}
+use Rattle.whole_pages.specs.Walks.{spanOf, marks, treeOk, wentOk, frontOk, treeIn, pagesOk}
+use Rattle.whole_pages.proofs.Marks.{reached, walk-is}
+use Rattle.whole_pages.proofs.Pages.{guard-went, went-ok}
+use Rattle.whole_pages.proofs.Tops.{read-first, height-some, front-parts}
+use Rattle.rules.specs.Entries.{isThere}
+use Rattle.rules.specs.Locks.{conflict}
+use Rattle.rules.specs.Good.{together}
+use Rattle.entries.specs.Meaning.{bookEntry}
+use Rattle.entries.specs.declared.Entry as E
+use Rattle.tables.specs.Layout.{nameIn, slotAt, slotsOf, bookMode, bookSlot}
+use Rattle.tables.specs.Moves.{isSlotOf}
+use Rattle.tables.proofs.Values.{same-name}
+use Rattle.tables.specs.declared.Slot as Sl
+use Rattle.tables.specs.declared.Slot.the-variants as SV
+use Rattle.tables.specs.declared.Lock as L
+use Rattle.trees.specs.Shapes.{treePaging}
+use Rattle.trees.specs.Trees.{documentSizes}
+use Prim.Native.Nat.{compare}
+use Rattle.pages.specs.Layout.{countOf, entryAt, entriesOf, rootOf, usedOf, heightOf}
+use Rattle.index.specs.Pictures.{pageAt}
+use Rattle.whole_pages.proofs.Fronts.{lent-page}
+use Rattle.whole.specs.Checks.{slotTogether, slotHasX, slotHolds, entryHeld, hasKey, findAt, ownersAt, named, slotNamed, locksOk, wholeOk, deskOk, Fine}
+
+-- ---- two slots
+module _ (a b : Sl.Slot) where
+  pub free-first : a ≡ SV.Free → true ≡ slotTogether (bookSlot a) (bookSlot b)
+  free-first e = sym (ap (λ x. slotTogether (bookSlot x) (bookSlot b)) e)
+
+  pub free-second : (k : L.Lock) → a ≡ SV.Held k → b ≡ SV.Free → true ≡ slotTogether (bookSlot a) (bookSlot b)
+  free-second k e f = sym (ap₂ (λ x y. slotTogether (bookSlot x) (bookSlot y)) e f)
+
+  pub held-both : (k l : L.Lock) (s c : Bool) → a ≡ SV.Held k → b ≡ SV.Held l → s ≡ eqb (k .name .0) (l .name .0) → c ≡ conflict (bookMode (k .mode)) (bookMode (l .mode))
+      → (not s || (not (eqb (k .holder) (l .holder)) && not c)) ≡ slotTogether (bookSlot a) (bookSlot b)
+  unfolding together
+  held-both k l s c e f g h =
+      ap₂ (λ x y. not x || (not (eqb (k .holder) (l .holder)) && not y)) (g ∙ sym (same-name (treePaging compare 0 documentSizes) (k .name .0) (l .name .0))) h
+      ∙ sym (ap₂ (λ x y. slotTogether (bookSlot x) (bookSlot y)) e f)
+
+pub slots-together : (d : List ℕ) (i j : ℕ) (a b : Sl.Slot) (r : Bool) → bookSlot a ≡ slotAt d i → bookSlot b ≡ slotAt d j → r ≡ slotTogether (bookSlot a) (bookSlot b)
+    → r ≡ slotTogether (slotAt d i) (slotAt d j)
+slots-together d i j a b r e f g = g ∙ ap₂ slotTogether e f
+
+all-free : (d : List ℕ) (x : Option (Lock ℕ)) (n i : ℕ) → isThere x ≡ false → all (slotTogether x) (tab n i (slotAt d)) ≡ true
+unfolding all tab
+all-free d none zero i h = refl
+all-free d none (suc n) i h = all-free d none n (i + 1) h
+all-free d (some l) n i h = absurd (let z : _≡_ {A = ℕ} 0 1 = cc in omega arith)
+
+pub later-free : (d : List ℕ) (i : ℕ) (a : Sl.Slot) (b : Bool) → bookSlot a ≡ slotAt d i → b ≡ not (isThere (bookSlot a)) → b ≡ true
+    → true ≡ all (slotTogether (slotAt d i)) (tab (256 - (i + 1)) (i + 1) (slotAt d))
+later-free d i a b e f t = sym (all-free d (slotAt d i) (256 - (i + 1)) (i + 1) (not-true (isThere (slotAt d i)) (ap (λ x. not (isThere x)) (sym e) ∙ sym f ∙ t)))
+
+-- ---- a table, from one place on
+module _ {A : Type 0} (p : A → Bool) (f : ℕ → A) (whole : Bool) (n i : ℕ) where
+  pub all-bad : (b : Bool) → whole ≡ all p (tab (n - i) i f) → i < n → b ≡ p (f i) → not b ≡ true → false ≡ whole
+  all-bad b inv l e t = sym (inv ∙ all-next p n i f l ∙ ap (λ x. x && all p (tab (n - (i + 1)) (i + 1) f)) (sym e ∙ not-true b t))
+
+  pub all-step : (b : Bool) → whole ≡ all p (tab (n - i) i f) → i < n → b ≡ p (f i) → not b ≡ false → whole ≡ all p (tab (n - (i + 1)) (i + 1) f)
+  all-step b inv l e t = inv ∙ all-next p n i f l ∙ ap (λ x. x && all p (tab (n - (i + 1)) (i + 1) f)) (sym e ∙ not-false b t)
+
+  pub all-end : whole ≡ all p (tab (n - i) i f) → n ≤ i → true ≡ whole
+  all-end inv l = sym (inv ∙ all-done p n i f l)
+
+  pub any-hit : (b : Bool) → whole ≡ any p (tab (n - i) i f) → i < n → b ≡ p (f i) → b ≡ true → true ≡ whole
+  any-hit b inv l e t = sym (inv ∙ any-next p n i f l ∙ ap (λ x. x || any p (tab (n - (i + 1)) (i + 1) f)) (sym e ∙ t))
+
+  pub any-step : (b : Bool) → whole ≡ any p (tab (n - i) i f) → i < n → b ≡ p (f i) → b ≡ false → whole ≡ any p (tab (n - (i + 1)) (i + 1) f)
+  any-step b inv l e t = inv ∙ any-next p n i f l ∙ ap (λ x. x || any p (tab (n - (i + 1)) (i + 1) f)) (sym e ∙ t)
+
+  pub any-end : whole ≡ any p (tab (n - i) i f) → n ≤ i → false ≡ whole
+  any-end inv l = sym (inv ∙ any-done p n i f l)
+
+-- ---- every two slots
+module _ (d : List ℕ) (i : ℕ) (inv : pairs slotTogether (slotsOf d) ≡ pairs slotTogether (tab (256 - i) i (slotAt d))) where
+  pairs-turn : i < 256 → pairs slotTogether (slotsOf d) ≡ (all (slotTogether (slotAt d i)) (tab (256 - (i + 1)) (i + 1) (slotAt d)) && pairs slotTogether (tab (256 - (i + 1)) (i + 1) (slotAt d)))
+  unfolding pairs
+  pairs-turn l = inv ∙ ap (pairs slotTogether) (tab-next 256 i (slotAt d) l)
+
+  pub pairs-bad : (b : Bool) → i < 256 → b ≡ all (slotTogether (slotAt d i)) (tab (256 - (i + 1)) (i + 1) (slotAt d)) → not b ≡ true → false ≡ pairs slotTogether (slotsOf d)
+  pairs-bad b l e t = sym (pairs-turn l ∙ ap (λ x. x && pairs slotTogether (tab (256 - (i + 1)) (i + 1) (slotAt d))) (sym e ∙ not-true b t))
+
+  pub pairs-step : (b : Bool) → i < 256 → b ≡ all (slotTogether (slotAt d i)) (tab (256 - (i + 1)) (i + 1) (slotAt d)) → not b ≡ false
+      → pairs slotTogether (slotsOf d) ≡ pairs slotTogether (tab (256 - (i + 1)) (i + 1) (slotAt d))
+  pairs-step b l e t = pairs-turn l ∙ ap (λ x. x && pairs slotTogether (tab (256 - (i + 1)) (i + 1) (slotAt d))) (sym e ∙ not-false b t)
+
+  pub pairs-end : 256 ≤ i → true ≡ pairs slotTogether (slotsOf d)
+  unfolding pairs
+  pairs-end l = sym (inv ∙ ap (pairs slotTogether) (tab-done 256 i (slotAt d) l))
+
+-- ---- a slot and an owner
+pub slot-holds : (d : List ℕ) (i t k : ℕ) (s : Sl.Slot) (a b : Bool) → bookSlot s ≡ slotAt d i → a ≡ isSlotOf t (nameIn k) (bookSlot s) → b ≡ slotHasX (bookSlot s)
+    → (a && b) ≡ slotHolds t k (slotAt d i)
+slot-holds d i t k s a b e f g = ap₂ (λ x y. x && y) f g ∙ ap (slotHolds t k) e
+
+module _ (s d : List ℕ) (q i : ℕ) (e : E.Entry) (f : bookEntry e ≡ entryAt (take (512 * q + 512 - 512 * q) (drop (512 * q) s)) i) where
+  read-there : bookEntry e ≡ entryAt (pageAt s q) i
+  read-there = f ∙ ap (λ p. entryAt p i) (lent-page s q)
+
+  pub unowned : e .owner ≡ 0 → true ≡ entryHeld d (entryAt (pageAt s q) i)
+  unfolding entryHeld
+  unowned z =
+      sym (ap (entryHeld d) (sym read-there) ∙ ap (λ b. b || any (slotHolds (e .owner) (e .key .0)) (slotsOf d)) (eq-eqb (e .owner) 0 z))
+
+  pub owned : (r : Bool) → (e .owner ≡ 0 → ⊥) → r ≡ any (slotHolds (e .owner) (e .key .0)) (slotsOf d) → r ≡ entryHeld d (entryAt (pageAt s q) i)
+  unfolding entryHeld
+  owned r z g =
+      g ∙ sym (ap (entryHeld d) (sym read-there) ∙ ap (λ b. b || any (slotHolds (e .owner) (e .key .0)) (slotsOf d)) (ne-eqb (e .owner) 0 z))
+
+pub key-lent : (s : List ℕ) (q i k r : ℕ) → r ≡ entryAt (take (512 * q + 512 - 512 * q) (drop (512 * q) s)) i .key → eqb r k ≡ hasKey k (entryAt (pageAt s q) i)
+key-lent s q i k r e = ap (λ x. eqb x k) (e ∙ ap (λ p. entryAt p i .key) (lent-page s q))
+
+-- ---- the entries of a leaf
+pub entries-start : (s : List ℕ) (q n : ℕ) → n ≡ countOf (pageAt s q) → entriesOf (pageAt s q) ≡ tab (n - 0) 0 (entryAt (pageAt s q))
+unfolding entriesOf
+entries-start s q n e = ap (λ k. tab k 0 (entryAt (pageAt s q))) (sym e ∙ sym (sub-zero n))
+
+pub held-start : (s d : List ℕ) (q n : ℕ) → n ≡ countOf (pageAt s q) → all (entryHeld d) (entriesOf (pageAt s q)) ≡ all (entryHeld d) (tab (n - 0) 0 (entryAt (pageAt s q)))
+held-start s d q n e = ap (all (entryHeld d)) (entries-start s q n e)
+
+pub key-start : (s : List ℕ) (k q n : ℕ) → n ≡ countOf (pageAt s q) → any (hasKey k) (entriesOf (pageAt s q)) ≡ any (hasKey k) (tab (n - 0) 0 (entryAt (pageAt s q)))
+key-start s k q n e = ap (any (hasKey k)) (entries-start s q n e)
+
+pub count-few : (s : List ℕ) (q n : ℕ) → n ≡ countOf (pageAt s q) → countOf (pageAt s q) ≤ 24 → n ≤ 24
+count-few s q n e h = omega arith
+
+-- ---- a slot and its name
+module _ (n : ℕ) (s d : List ℕ) (q i : ℕ) (x : Sl.Slot) (e : bookSlot x ≡ slotAt d i) where
+  pub named-free : x ≡ SV.Free → true ≡ slotNamed n s q (slotAt d i)
+  named-free f = sym (ap (slotNamed n s q) (sym e ∙ ap bookSlot f))
+
+  module _ (l : L.Lock) (f : x ≡ SV.Held l) (b : Bool) (g : b ≡ eqb (l .name .0) endMark) where
+    name-of : slotNamed n s q (slotAt d i) ≡ named n s q (nameIn (l .name .0))
+    name-of = ap (slotNamed n s q) (sym e ∙ ap bookSlot f)
+
+    pub named-end : b ≡ true → true ≡ slotNamed n s q (slotAt d i)
+    named-end t = sym (name-of ∙ ap (λ y. named n s q (cond y end (on (l .name .0)))) (sym g ∙ t))
+
+    pub named-key : (r : Bool) → b ≡ false → r ≡ findAt n s (l .name .0) q → r ≡ slotNamed n s q (slotAt d i)
+    named-key r t h = h ∙ sym (name-of ∙ ap (λ y. named n s q (cond y end (on (l .name .0)))) (sym g ∙ t))
+
+-- ---- what the test of the pages has
+pages-front : (s : List ℕ) → pagesOk s ≡ true → frontOk s ≡ true
+unfolding pagesOk
+pages-front s h =
+    both (frontOk s) (wentOk (usedOf (pageAt s 0)) (treeIn s)) (both (frontOk s && wentOk (usedOf (pageAt s 0)) (treeIn s)) (zeroAt (32768 - 512 * usedOf (pageAt s 0)) (512 * usedOf (pageAt s 0)) s) h .0) .0
+
+pages-tree : (s : List ℕ) → pagesOk s ≡ true → treeOk (heightOf (pageAt s 0) - 1) 2 s (spanOf (rootOf (pageAt s 0)) 0 endMark) ≡ true
+unfolding pagesOk treeIn
+pages-tree s h =
+    let a = both (frontOk s && wentOk (usedOf (pageAt s 0)) (treeIn s)) (zeroAt (32768 - 512 * usedOf (pageAt s 0)) (512 * usedOf (pageAt s 0)) s) h in
+    let w = went-ok (usedOf (pageAt s 0)) (treeIn s) (both (frontOk s) (wentOk (usedOf (pageAt s 0)) (treeIn s)) (a .0) .1) in
+    guard-went (treeOk (heightOf (pageAt s 0) - 1) 2 s (spanOf (rootOf (pageAt s 0)) 0 endMark)) (marks (usedOf (pageAt s 0)) (reached (heightOf (pageAt s 0) - 1) s (rootOf (pageAt s 0))) 1) (w .0)
+    (sym (walk-is (heightOf (pageAt s 0) - 1) 2 s (usedOf (pageAt s 0)) (spanOf (rootOf (pageAt s 0)) 0 endMark) 1) ∙ w .1) .0
+
+-- ---- the whole
+pub locks-done : (n : ℕ) (s d : List ℕ) (q : ℕ) (a b c : Bool) → a ≡ pairs slotTogether (slotsOf d) → b ≡ all (slotNamed n s q) (slotsOf d) → c ≡ ownersAt n s d q
+    → ((a && b) && c) ≡ locksOk n s d q
+unfolding locksOk
+locks-done n s d q a b c e f g = rw (e, f, g) refl
+
+module _ (s d : List ℕ) (a : Bool) (e : a ≡ pagesOk s) where
+  pub not-pages : not a ≡ true → false ≡ wholeOk s d
+  unfolding wholeOk
+  not-pages t = sym (ap (λ x. (x && deskOk d) && locksOk (heightOf (pageAt s 0) - 1) s d (rootOf (pageAt s 0))) (sym e ∙ not-true a t))
+
+  module _ (t : not a ≡ false) where
+    good-pages : pagesOk s ≡ true
+    good-pages = sym e ∙ not-false a t
+
+    pub tall-pages : (h : ℕ) → h ≡ numberAt 2 s 20 → 1 ≤ h
+    tall-pages h f = height-some s h f (front-parts s (pages-front s good-pages) .2)
+
+    pub fine-root : (r h : ℕ) → length s ≡ 32768 → r ≡ numberAt 2 s 16 → h ≡ numberAt 2 s 20 → Fine (h - 1) s r
+    fine-root r h size f g =
+        let x : r ≡ rootOf (pageAt s 0) = f ∙ read-first s 16 (lit≤ tt) in
+        let y : h ≡ heightOf (pageAt s 0) = g ∙ read-first s 20 (lit≤ tt) in
+        record { least = 2; low = 0; high = endMark; one = lit≤ tt; size = size; ok = subst (λ k. treeOk (k - 1) 2 s (spanOf r 0 endMark) ≡ true) (sym y) (subst (λ v. treeOk (heightOf (pageAt s 0) - 1) 2 s (spanOf v 0 endMark) ≡ true) (sym x) (pages-tree s good-pages)) }
+
+    module _ (b : Bool) (f : b ≡ deskOk d) where
+      pub not-desk : not b ≡ true → false ≡ wholeOk s d
+      unfolding wholeOk
+      not-desk v = sym (ap₂ (λ x y. (x && y) && locksOk (heightOf (pageAt s 0) - 1) s d (rootOf (pageAt s 0))) good-pages (sym f ∙ not-true b v))
+
+      pub whole-done : (r h : ℕ) (c : Bool) → not b ≡ false → r ≡ numberAt 2 s 16 → h ≡ numberAt 2 s 20 → c ≡ locksOk (h - 1) s d r → c ≡ wholeOk s d
+      unfolding wholeOk
+      whole-done r h c v x y z =
+          let u : r ≡ rootOf (pageAt s 0) = x ∙ read-first s 16 (lit≤ tt) in
+          let w : h ≡ heightOf (pageAt s 0) = y ∙ read-first s 20 (lit≤ tt) in
+          z
+          ∙ ap₂ (λ k m. locksOk (k - 1) s d m) w u
+          ∙ sym (ap₂ (λ x y. (x && y) && locksOk (heightOf (pageAt s 0) - 1) s d (rootOf (pageAt s 0))) good-pages (sym f ∙ not-false b v))

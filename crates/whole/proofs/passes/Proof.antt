@@ -1,0 +1,48 @@
+-- `whole::passes` meets its contract: the tests are made in their order.
+-- Assumes nothing.
+use borrow.Author.Needs.{needs}
+use Rattle.whole.proofs.LockTurns.{not-pages, tall-pages, fine-root, not-desk, whole-done}
+use borrow.Author.Needs.{needs}
+use Rattle.whole.proofs.passes.Statement.{statement}
+use Rattle.whole.proofs.passes.Tie as tie
+
+are-pages-requires : tie.Need-are-pages-requires
+are-pages-requires c κs = search needs
+
+returns : tie.Need-returns
+returns c = search (needs, not-pages)
+
+is-desk-requires : tie.Need-is-desk-requires
+is-desk-requires c κs = search needs
+
+returns-2 : tie.Need-returns-2
+returns-2 c = search (needs, not-desk)
+
+number-at-requires : tie.Need-number-at-requires
+number-at-requires c κs = search needs
+
+number-at-requires-2 : tie.Need-number-at-requires-2
+number-at-requires-2 c κs = search needs
+
+sub-are-locks : tie.Need-sub-are-locks
+sub-are-locks c = search (needs, tall-pages)
+
+are-locks-requires : tie.Need-are-locks-requires
+are-locks-requires c κs = (search (needs, fine-root), search needs)
+
+returns-3 : tie.Need-returns-3
+returns-3 c = search (needs, whole-done)
+
+pub passes-spec : {M : Type 1} → statement M
+passes-spec =
+    tie.close
+    (tie.spec
+    are-pages-requires
+    returns
+    is-desk-requires
+    returns-2
+    number-at-requires
+    number-at-requires-2
+    sub-are-locks
+    are-locks-requires
+    returns-3)

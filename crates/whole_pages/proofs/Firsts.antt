@@ -1,0 +1,117 @@
+-- Page 0 has the bytes that root, used and height write, exactly where it passes its test; and the pages that are not used are zero exactly
+-- where the bytes from there on are. By the fields and the zeros, byte for byte. Assumes nothing.
+use mathlib.Core.Path.{_≡_, sym, ap, _∙_}
+use mathlib.Core.Bool.{true, _&&_}
+use mathlib.Core.List.{List, [], _∷_}
+use Prim.Native.Nat.{ℕ, _+_, _*_, _-_, _/_, _%_, _≤_, _<_}
+use native.Mathlib.Decide.{decLt}
+use native.Mathlib.Omega.{arith}
+use borrow.Author.Tests.{eqb-true, eq-eqb}
+use lib.Dec.{eqb, lit<, lit≤}
+use lib.ListN.{length, getD, replicate, length-replicate}
+use lib.Seq.{ext-getD}
+use Rattle.lists.proofs.Tests.{both, and-both}
+use Rattle.numbers.specs.Numbers.{numberAt, widthOf, fieldsAt, part, zeroAt, Bytes}
+use Rattle.numbers.proofs.Agree.{Agree}
+use Rattle.numbers.proofs.Numbers.{number-below, numbers-inj, numberAt-ext}
+use Rattle.numbers.proofs.Fields.{fields-same, fields-inj, touches-putFields, length-putFields}
+use Rattle.numbers.proofs.Parts.{length-part, getD-part}
+use Rattle.numbers.proofs.Moves.{zeroAt-true, zeroAt-is}
+use Rattle.numbers.proofs.Kept.{bytes-putFields}
+use Rattle.pages.specs.Layout.{rootWidths, countOf, rootOf, usedOf, heightOf, putRoot}
+use Rattle.index.specs.Pictures.{pageAt, blankPage, headPage}
+use Rattle.whole_pages.specs.Checks.{headOk, firstPageOk}
+use Rattle.whole_pages.proofs.Layouts.{zero-at, blank-length, blank-bytes, blank-rest, blank-count, head-bytes, fields-head}
+
+module _ (p : List ℕ) (g : Bytes p) where
+  abbrev written : List ℕ
+  written = headPage (rootOf p) (usedOf p) (heightOf p)
+
+  written-length : length written ≡ 512
+  unfolding headPage putRoot
+  written-length = length-putFields rootWidths (blankPage 1 0) 16 (rootOf p ∷ usedOf p ∷ heightOf p ∷ []) ∙ blank-length 1 0
+
+  written-head : (k : ℕ) → k < 16 → getD written k 0 ≡ getD (blankPage 1 0) k 0
+  unfolding headPage putRoot widthOf
+  written-head k h = touches-putFields rootWidths (blankPage 1 0) 16 (rootOf p ∷ usedOf p ∷ heightOf p ∷ []) .rest k (omega arith)
+
+  written-rest : (k : ℕ) → 22 ≤ k → getD written k 0 ≡ 0
+  unfolding headPage putRoot widthOf
+  written-rest k h = touches-putFields rootWidths (blankPage 1 0) 16 (rootOf p ∷ usedOf p ∷ heightOf p ∷ []) .rest k (omega arith) ∙ blank-rest 1 0 k (omega arith)
+
+  written-root : Agree 6 p 16 written 16
+  unfolding headPage putRoot widthOf fieldsAt
+  written-root =
+      let b = blank-length 1 0 in
+      let f : fieldsAt rootWidths written 16 ≡ rootOf p ∷ usedOf p ∷ heightOf p ∷ [] =
+      fields-same rootWidths (blankPage 1 0) 16 (rootOf p ∷ usedOf p ∷ heightOf p ∷ []) (number-below 2 p 16 g, (number-below 2 p 18 g, (number-below 2 p 20 g, tt))) (omega arith) in
+      fields-inj rootWidths g (bytes-putFields rootWidths (blankPage 1 0) 16 (rootOf p ∷ usedOf p ∷ heightOf p ∷ []) (blank-bytes 1 0)) (sym f)
+
+  pub first-laid : length p ≡ 512 → firstPageOk p ≡ true → p ≡ headPage (rootOf p) (usedOf p) (heightOf p)
+  unfolding firstPageOk
+  first-laid size h =
+      let a = both (headOk 1 0 p && eqb (countOf p) 0) (zeroAt 490 22 p) h in
+      let b = both (headOk 1 0 p) (eqb (countOf p) 0) (a .0) in
+      let n : countOf p ≡ 0 = eqb-true (countOf p) 0 (b .1) in
+      let c : Agree 2 p 4 (blankPage 1 0) 4 = same-count n in
+      let z = zeroAt-true 490 22 p (a .1) (omega arith) in
+      ext-getD 0 p written (size ∙ sym written-length) (λ k l. at k (omega arith) (b .0) c z (decLt k 16) (decLt k 22) (decLt k 4) (decLt k 6))
+    where
+      same-count : countOf p ≡ 0 → Agree 2 p 4 (blankPage 1 0) 4
+      same-count n = numbers-inj 2 g (blank-bytes 1 0) (n ∙ sym (blank-count 1 0 (lit< tt) (lit< tt)))
+
+      at : (k : ℕ) → k < 512 → headOk 1 0 p ≡ true → Agree 2 p 4 (blankPage 1 0) 4 → Agree 490 p 22 [] 0 → Dec (k < 16) → Dec (k < 22) → Dec (k < 4) → Dec (k < 6) → getD p k 0 ≡ getD written k 0
+      at k l h c z (yes i) j (yes m) o = head-bytes 1 0 (lit< tt) (lit< tt) p g h k i (omega arith) ∙ sym (written-head k i)
+      at k l h c z (yes i) j (no m) (yes o) =
+          let q : k ≡ 4 + (k - 4) = omega arith in
+          let r : getD p k 0 ≡ getD (blankPage 1 0) k 0 = rw q (c .byte (k - 4) (omega arith)) in
+          r ∙ sym (written-head k i)
+      at k l h c z (yes i) j (no m) (no o) = head-bytes 1 0 (lit< tt) (lit< tt) p g h k i (omega arith) ∙ sym (written-head k i)
+      at k l h c z (no i) (yes j) m o =
+          let q : k ≡ 16 + (k - 16) = omega arith in
+          rw q (written-root .byte (k - 16) (omega arith))
+      at k l h c z (no i) (no j) m o =
+          let q : k ≡ 22 + (k - 22) = omega arith in
+          let r : getD p k 0 ≡ 0 = ap (λ x. getD p x 0) q ∙ z .byte (k - 22) (omega arith) in
+          r ∙ sym (written-rest k (omega arith))
+
+  pub laid-first : p ≡ headPage (rootOf p) (usedOf p) (heightOf p) → (firstPageOk p ≡ true) × (length p ≡ 512)
+  unfolding firstPageOk
+  laid-first e =
+      let size : length p ≡ 512 = ap length e ∙ written-length in (
+        and-both (headOk 1 0 p && eqb (countOf p) 0) (zeroAt 490 22 p)
+            (and-both (headOk 1 0 p) (eqb (countOf p) 0)
+            (fields-head 1 0 (lit< tt) (lit< tt) p (same 2 0 (lit≤ tt)) (same 2 2 (lit≤ tt)) (same 2 6 (lit≤ tt)) (same 8 8 (lit≤ tt)))
+            (eq-eqb (countOf p) 0 (same 2 4 (lit≤ tt) ∙ blank-count 1 0 (lit< tt) (lit< tt))))
+            (zeroAt-is 490 22 p (omega arith) (record { byte = λ k h. ap (λ s. getD s (22 + k) 0) e ∙ written-rest (22 + k) (omega arith) })),
+        size,
+      )
+    where
+      same : (w at : ℕ) → at + w ≤ 16 → numberAt w p at ≡ numberAt w (blankPage 1 0) at
+      same w at h = ap (λ s. numberAt w s at) e ∙ numberAt-ext w (record { byte = λ k l. written-head (at + k) (omega arith) })
+
+-- ---- pages that are not used
+module _ (s : List ℕ) (size : length s ≡ 32768) (used : ℕ) (few : used ≤ 64) where
+  pub spare-zero : zeroAt (32768 - 512 * used) (512 * used) s ≡ true → (q : ℕ) → used ≤ q → q < 64 → pageAt s q ≡ replicate 512 0
+  unfolding pageAt
+  spare-zero h q a b =
+      let z = zeroAt-true (32768 - 512 * used) (512 * used) s h (omega arith) in
+      ext-getD 0 (part (512 * q) 512 s) (replicate 512 0) (length-part (512 * q) 512 s (omega arith) ∙ sym (length-replicate {A = ℕ} 512 0))
+      (λ k l.
+      let m : k < 512 = omega (arith, length-part (512 * q) 512 s (omega arith)) in
+      let e : 512 * q + k ≡ 512 * used + (512 * q + k - 512 * used) = omega arith in
+      getD-part (512 * q) 512 s k m ∙ ap (λ x. getD s x 0) e ∙ z .byte (512 * q + k - 512 * used) (omega arith) ∙ sym (zero-at 512 k))
+
+  pub zero-spare : ((q : ℕ) → used ≤ q → q < 64 → pageAt s q ≡ replicate 512 0) → zeroAt (32768 - 512 * used) (512 * used) s ≡ true
+  unfolding pageAt
+  zero-spare h =
+      zeroAt-is (32768 - 512 * used) (512 * used) s (omega arith)
+      (record {
+        byte = λ k l.
+            let e : 512 * used + k ≡ 512 * ((512 * used + k) / 512) + (512 * used + k) % 512 = omega arith in
+            let m : (512 * used + k) % 512 < 512 = omega arith in
+            ap (λ x. getD s x 0) e
+            ∙ sym (getD-part (512 * ((512 * used + k) / 512)) 512 s ((512 * used + k) % 512) m)
+            ∙ ap (λ p. getD p ((512 * used + k) % 512) 0) (h ((512 * used + k) / 512) (omega arith) (omega arith))
+            ∙ zero-at 512 ((512 * used + k) % 512);
+      })

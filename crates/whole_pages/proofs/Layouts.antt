@@ -1,0 +1,240 @@
+-- A page's bytes are those that its rows write, exactly where its head is right, each row is written as it was read, and the rest is zero.
+-- Once for every kind of row: two pages of bytes are the same where their fields and their unused bytes are. Assumes nothing.
+use mathlib.Core.Path.{_≡_, sym, ap, ap₂, subst, _∙_}
+use mathlib.Core.Bool.{true, _&&_}
+use mathlib.Core.List.{List, [], _∷_, map}
+use Prim.Native.Nat.{ℕ, _+_, _*_, _-_, _≤_, _<_}
+use native.Mathlib.Nat.{mul-zero, add-zero, zero-add, mul-le-mul-left}
+use native.Mathlib.Decide.{decLt}
+use native.Mathlib.Omega.{arith}
+use borrow.Author.Tests.{eqb-true, eq-eqb}
+use lib.Dec.{eqb, lit<, lit≤}
+use lib.ListN.{length, getD, replicate, length-map, length-replicate, getD-replicate, List·getD-eq-default, List·getD-map}
+use lib.Seq.{take-all}
+use Rattle.lists.specs.Lists.{tab}
+use Rattle.lists.proofs.Tests.{and-left, and-right, and-both, all-map, all-each}
+use Rattle.lists.proofs.Tables.{length-tab, getD-tab, tab-ext, map-tab}
+use Rattle.numbers.specs.Numbers.{numberAt, widthOf, fieldsAt, putFields, part, zeroAt, Apart, Bytes, Fits}
+use Rattle.numbers.proofs.Agree.{Agree}
+use Rattle.numbers.proofs.Fields.{fields-same, fields-inj, fields-fit, touches-putFields, length-putFields}
+use Rattle.numbers.proofs.Parts.{part-ext, fieldsAt-part}
+use Rattle.numbers.proofs.Moves.{zeroAt-true, zeroAt-is}
+use Rattle.numbers.proofs.Kept.{bytes-putFields}
+use Rattle.pages.specs.Layout.{headWidths, kindOf, countOf, levelOf, putHead}
+use Rattle.pages.specs.Rows.{rowAt, rowsOf, withRows}
+use Rattle.pages.proofs.Rows.{Wide, isWide, length-rowsOf, wide-rowsOf}
+use Rattle.pages.proofs.WithRows.{Fit, Holds, holds-same, holds-with, length-with, head-with, rows-with, zero-with, with-own}
+use Rattle.index.specs.Pictures.{blankPage}
+use Rattle.whole_pages.specs.Checks.{headOk}
+
+-- ---- zero bytes
+pub zero-at : (n k : ℕ) → getD {A = ℕ} (replicate n 0) k 0 ≡ 0
+zero-at n k =
+    elim (decLt k n) [
+      | yes h ↦ getD-replicate n k 0 0 h
+      | no h ↦ List·getD-eq-default (replicate n 0) 0 {n = k} (omega (arith, length-replicate {A = ℕ} n 0))
+    ]
+
+pub bytes-zero : (n : ℕ) → Bytes (replicate n 0)
+bytes-zero n = record { below = λ i. rw (zero-at n i) (lit< tt) }
+
+-- ---- a blank page
+module _ (kind level : ℕ) where
+  pub blank-length : length (blankPage kind level) ≡ 512
+  unfolding blankPage putHead
+  blank-length = length-putFields headWidths (replicate 512 0) 0 (512 ∷ kind ∷ 0 ∷ level ∷ 0 ∷ [])
+
+  pub blank-bytes : Bytes (blankPage kind level)
+  unfolding blankPage putHead
+  blank-bytes = bytes-putFields headWidths (replicate 512 0) 0 (512 ∷ kind ∷ 0 ∷ level ∷ 0 ∷ []) (bytes-zero 512)
+
+  pub blank-rest : (k : ℕ) → 16 ≤ k → getD (blankPage kind level) k 0 ≡ 0
+  unfolding blankPage putHead widthOf
+  blank-rest k h = touches-putFields headWidths (replicate 512 0) 0 (512 ∷ kind ∷ 0 ∷ level ∷ 0 ∷ []) .rest k (omega arith) ∙ zero-at 512 k
+
+  module _ (k : kind < 65536) (l : level < 65536) where
+    pub blank-head : fieldsAt headWidths (blankPage kind level) 0 ≡ 512 ∷ kind ∷ 0 ∷ level ∷ 0 ∷ []
+    unfolding blankPage putHead widthOf
+    blank-head =
+        fields-same headWidths (replicate 512 0) 0 (512 ∷ kind ∷ 0 ∷ level ∷ 0 ∷ [])
+        (lit< tt, (k, (lit< tt, (l, (lit< tt, tt))))) (lit≤ tt)
+
+    pub blank-count : countOf (blankPage kind level) ≡ 0
+    unfolding fieldsAt
+    blank-count = ap (λ vs. getD vs 2 0) blank-head
+
+    -- a head that is right is the blank page's
+    module _ (p : List ℕ) where
+      pub head-fields : headOk kind level p ≡ true → (fieldsAt (2 ∷ 2 ∷ []) p 0 ≡ fieldsAt (2 ∷ 2 ∷ []) (blankPage kind level) 0)
+          × (fieldsAt (2 ∷ 8 ∷ []) p 6 ≡ fieldsAt (2 ∷ 8 ∷ []) (blankPage kind level) 6)
+      unfolding headOk fieldsAt
+      head-fields h =
+          let e = blank-head in
+          let abc : ((eqb (numberAt 2 p 0) 512 && eqb (kindOf p) kind) && eqb (levelOf p) level) ≡ true = and-left ((eqb (numberAt 2 p 0) 512 && eqb (kindOf p) kind) && eqb (levelOf p) level) (eqb (numberAt 8 p 8) 0) h in
+          let d : numberAt 8 p 8 ≡ 0 = eqb-true (numberAt 8 p 8) 0 (and-right ((eqb (numberAt 2 p 0) 512 && eqb (kindOf p) kind) && eqb (levelOf p) level) (eqb (numberAt 8 p 8) 0) h) in
+          let ab : (eqb (numberAt 2 p 0) 512 && eqb (kindOf p) kind) ≡ true = and-left (eqb (numberAt 2 p 0) 512 && eqb (kindOf p) kind) (eqb (levelOf p) level) abc in
+          let c : levelOf p ≡ level = eqb-true (levelOf p) level (and-right (eqb (numberAt 2 p 0) 512 && eqb (kindOf p) kind) (eqb (levelOf p) level) abc) in
+          let a : numberAt 2 p 0 ≡ 512 = eqb-true (numberAt 2 p 0) 512 (and-left (eqb (numberAt 2 p 0) 512) (eqb (kindOf p) kind) ab) in
+          let b : kindOf p ≡ kind = eqb-true (kindOf p) kind (and-right (eqb (numberAt 2 p 0) 512) (eqb (kindOf p) kind) ab) in (
+            ap₂ (λ x y. x ∷ y ∷ []) (a ∙ sym (ap (λ vs. getD vs 0 0) e)) (b ∙ sym (ap (λ vs. getD vs 1 0) e)),
+            ap₂ (λ x y. x ∷ y ∷ []) (c ∙ sym (ap (λ vs. getD vs 3 0) e)) (d ∙ sym (ap (λ vs. getD vs 4 0) e)),
+          )
+
+      pub fields-head : (numberAt 2 p 0 ≡ numberAt 2 (blankPage kind level) 0) → kindOf p ≡ kindOf (blankPage kind level)
+          → levelOf p ≡ levelOf (blankPage kind level) → numberAt 8 p 8 ≡ numberAt 8 (blankPage kind level) 8 → headOk kind level p ≡ true
+      unfolding headOk fieldsAt
+      fields-head a b c d =
+          let e = blank-head in
+          and-both ((eqb (numberAt 2 p 0) 512 && eqb (kindOf p) kind) && eqb (levelOf p) level) (eqb (numberAt 8 p 8) 0)
+          (and-both (eqb (numberAt 2 p 0) 512 && eqb (kindOf p) kind) (eqb (levelOf p) level)
+          (and-both (eqb (numberAt 2 p 0) 512) (eqb (kindOf p) kind)
+          (eq-eqb (numberAt 2 p 0) 512 (a ∙ ap (λ vs. getD vs 0 0) e)) (eq-eqb (kindOf p) kind (b ∙ ap (λ vs. getD vs 1 0) e)))
+          (eq-eqb (levelOf p) level (c ∙ ap (λ vs. getD vs 3 0) e)))
+          (eq-eqb (numberAt 8 p 8) 0 (d ∙ ap (λ vs. getD vs 4 0) e))
+
+      pub head-bytes : Bytes p → headOk kind level p ≡ true → (i : ℕ) → i < 16 → Apart i 1 4 2 → getD p i 0 ≡ getD (blankPage kind level) i 0
+      unfolding widthOf
+      head-bytes g h i s a =
+          let es = head-fields h in
+          elim (decLt i 4) [
+            | yes m ↦ simp zero-add at (fields-inj (2 ∷ 2 ∷ []) g blank-bytes (es .0) .byte i m)
+            | no m ↦
+                let q : i ≡ 6 + (i - 6) = omega arith in
+                rw q (fields-inj (2 ∷ 8 ∷ []) g blank-bytes (es .1) .byte (i - 6) (omega arith))
+          ]
+
+-- ---- a page of rows
+module _ (kind level z most : ℕ) (ws : List ℕ) (k : kind < 65536) (l : level < 65536) (width : widthOf ws ≡ z) (space : 16 + z * most ≤ 512)
+    (few : most < 65536) {A : Type 0} (reads : List ℕ → A) (writes : A → List ℕ) where
+  abbrev pub row : A → List ℕ
+  row x = putFields ws (replicate z 0) 0 (writes x)
+
+  abbrev pub fields : List ℕ → ℕ → List ℕ
+  fields p i = fieldsAt ws p (16 + z * i)
+
+  abbrev pub items : List ℕ → List A
+  items p = tab (countOf p) 0 (λ i. reads (fields p i))
+
+  abbrev pub page : List ℕ → List ℕ
+  page p = withRows z (blankPage kind level) (map row (items p))
+
+  row-length : (x : A) → length (row x) ≡ z
+  row-length x = length-putFields ws (replicate z 0) 0 (writes x) ∙ length-replicate z 0
+
+  row-fields : (x : A) → Fits ws (writes x) → fieldsAt ws (row x) 0 ≡ writes x
+  row-fields x f = fields-same ws (replicate z 0) 0 (writes x) f (omega (arith, length-replicate {A = ℕ} z 0))
+
+  within : (n : ℕ) → n ≤ most → 16 + z * n ≤ 512
+  within n h = omega (arith, mul-le-mul-left z h)
+
+  fits-blank : (rs : List (List ℕ)) → Wide z rs → length rs ≤ most → Fit z (blankPage kind level) rs
+  fits-blank rs w h =
+      let b = blank-length kind level in
+      let r = within (length rs) h in
+      record {
+        wide = w;
+        own = rw (blank-count kind level k l, mul-zero) (omega arith);
+        room = omega arith;
+        few = omega arith;
+      }
+
+  module _ (p : List ℕ) (g : Bytes p) (n : countOf p ≤ most) where
+    -- the way there
+    module _ (size : length p ≡ 512) (head : headOk kind level p ≡ true) (rest : zeroAt (496 - z * countOf p) (16 + z * countOf p) p ≡ true)
+        (each : (i : ℕ) → i < countOf p → writes (reads (fields p i)) ≡ fields p i) where
+      row-is : (i : ℕ) → i < countOf p → rowAt z p i ≡ row (reads (fields p i))
+      unfolding rowAt part
+      row-is i h =
+          let x = reads (fields p i) in
+          let e : fieldsAt ws p (16 + z * i) ≡ fieldsAt ws (row x) 0 =
+          sym (row-fields x (subst (Fits ws) (sym (each i h)) (fields-fit ws p (16 + z * i) g)) ∙ each i h) in
+          let a : Agree z p (16 + z * i) (row x) 0 =
+          subst (λ m. Agree m p (16 + z * i) (row x) 0) width (fields-inj ws g (bytes-putFields ws (replicate z 0) 0 (writes x) (bytes-zero z)) e) in
+          let o = within (i + 1) (omega arith) in
+          part-ext z (omega arith) (omega (arith, row-length x)) a ∙ take-all z (row x) (omega (arith, row-length x))
+
+      rows-are : rowsOf z p ≡ map row (items p)
+      unfolding rowsOf
+      rows-are =
+          tab-ext (countOf p) 0 (rowAt z p) (λ i. row (reads (fields p i))) (λ i a b. row-is i (omega arith))
+          ∙ sym (map-tab row (countOf p) 0 (λ i. reads (fields p i)))
+
+      own : 16 + z * countOf p ≤ length p
+      own = let h = within (countOf p) n in omega arith
+
+      own-holds : Holds z p (rowsOf z p) p
+      own-holds =
+          let e = length-rowsOf z p in
+          subst (λ s. Holds z p (rowsOf z p) s) (with-own z p g own)
+          (holds-with z p (rowsOf z p) (record { wide = wide-rowsOf z p own; own = own; room = rw e own; few = omega arith }))
+
+      pub laid : p ≡ page p
+      laid =
+          let e = length-rowsOf z p in
+          let c = blank-count kind level k l in
+          let f = fits-blank (rowsOf z p) (wide-rowsOf z p own) (omega arith) in
+          let zeros = zeroAt-true (496 - z * countOf p) (16 + z * countOf p) p rest (let h = within (countOf p) n in omega arith) in
+          holds-same z (blankPage kind level) (rowsOf z p) p (withRows z (blankPage kind level) (rowsOf z p))
+          (record {
+            len = size ∙ sym (blank-length kind level);
+            low = own-holds .low;
+            high = own-holds .high;
+            head = λ i a b. head-bytes kind level k l p g head i a b;
+            rows = own-holds .rows;
+            freed = λ i a b. let m : i < 16 + z * 0 = rw c at b in absurd (omega (arith, mul-zero z));
+            behind = λ i a b. past i (rw e at a) (decLt i 512) zeros ∙ sym (blank-rest kind level i (omega arith));
+          })
+          (holds-with z (blankPage kind level) (rowsOf z p) f)
+          ∙ ap (withRows z (blankPage kind level)) rows-are
+        where
+          past : (i : ℕ) → 16 + z * countOf p ≤ i → Dec (i < 512) → Agree (496 - z * countOf p) p (16 + z * countOf p) [] 0 → getD p i 0 ≡ 0
+          past i h (yes m) zs =
+              let q : i ≡ 16 + z * countOf p + (i - (16 + z * countOf p)) = omega arith in
+              ap (λ j. getD p j 0) q ∙ zs .byte (i - (16 + z * countOf p)) (omega arith)
+          past i h (no m) zs = List·getD-eq-default p 0 {n = i} (omega arith)
+
+    -- the way back
+    module _ (fit : (i : ℕ) → Fits ws (writes (reads (fields p i)))) (e : p ≡ page p) where
+      many : length (map row (items p)) ≡ countOf p
+      many = length-map (items p) row ∙ length-tab (countOf p) 0 (λ i. reads (fields p i))
+
+      wide : Wide z (map row (items p))
+      wide = all-map (isWide z) row (items p) ∙ all-each (λ x. isWide z (row x)) (items p) (reads []) (λ i h. eq-eqb (length (row (getD (items p) i (reads [])))) z (row-length (getD (items p) i (reads []))))
+
+      fitting : Fit z (blankPage kind level) (map row (items p))
+      fitting = fits-blank (map row (items p)) wide (omega (arith, many))
+
+      pub told-size : length p ≡ 512
+      told-size = ap length e ∙ length-with z (blankPage kind level) (map row (items p)) fitting ∙ blank-length kind level
+
+      pub told-head : headOk kind level p ≡ true
+      told-head =
+          fields-head kind level k l p (same 2 0 (lit≤ tt) (lit< tt)) (same 2 2 (lit≤ tt) (lit< tt)) (same 2 6 (lit≤ tt) (lit< tt)) (same 8 8 (lit≤ tt) (lit< tt))
+        where
+          same : (w at : ℕ) → at + w ≤ 16 → Apart at w 4 2 → numberAt w p at ≡ numberAt w (blankPage kind level) at
+          same w at h a = ap (λ s. numberAt w s at) e ∙ head-with z (blankPage kind level) (map row (items p)) fitting w at h a
+
+      pub told-rest : zeroAt (496 - z * countOf p) (16 + z * countOf p) p ≡ true
+      told-rest =
+          let c = blank-count kind level k l in
+          let b = blank-length kind level in
+          let q : 512 - (16 + z * countOf p) ≡ 496 - z * countOf p = omega arith in
+          let r : zeroAt (512 - (16 + z * length (map row (items p)))) (16 + z * length (map row (items p))) (page p) ≡ true =
+          zero-with z (blankPage kind level) (map row (items p)) fitting 512 (omega arith)
+          (rw (c, mul-zero) (zeroAt-is 496 16 (blankPage kind level) (omega arith) (record { byte = λ i h. blank-rest kind level (16 + i) (omega arith) }))) in
+          subst (λ s. zeroAt (496 - z * countOf p) (16 + z * countOf p) s ≡ true) (sym e)
+          (subst (λ m. zeroAt m (16 + z * countOf p) (page p) ≡ true) q (subst (λ m. zeroAt (512 - (16 + z * m)) (16 + z * m) (page p) ≡ true) many r))
+
+      pub told-each : (i : ℕ) → i < countOf p → writes (reads (fields p i)) ≡ fields p i
+      unfolding rowsOf rowAt
+      told-each i h =
+          let x = reads (fields p i) in
+          let r : tab (countOf p) 0 (rowAt z p) ≡ map row (items p) = ap (rowsOf z) e ∙ rows-with z (blankPage kind level) (map row (items p)) fitting in
+          let s : part (16 + z * i) z p ≡ row x =
+          ap (rowAt z p) (sym (zero-add i))
+          ∙ sym (getD-tab (countOf p) 0 (rowAt z p) i (row (reads [])) h)
+          ∙ ap (λ rs. getD rs i (row (reads []))) r
+          ∙ List·getD-map row (items p) i (reads [])
+          ∙ ap row (getD-tab (countOf p) 0 (λ j. reads (fields p j)) i (reads []) h ∙ ap (λ j. reads (fields p j)) (zero-add i)) in
+          let t : fieldsAt ws (part (16 + z * i) z p) 0 ≡ fieldsAt ws p (16 + z * i + 0) = fieldsAt-part ws (16 + z * i) z p 0 (omega arith) in
+          sym (ap (fieldsAt ws p) (sym (add-zero (16 + z * i))) ∙ sym t ∙ ap (λ v. fieldsAt ws v 0) s ∙ row-fields x (fit i))

@@ -1,0 +1,157 @@
+-- A leaf that passes its test has the bytes that its entries write, with at most 24 of them, in order and in range, each settled or owned;
+-- and a leaf that has all this passes. By the law of pages of rows, and by induction on the entries for their order. Assumes nothing.
+use mathlib.Core.Path.{_≡_, refl, sym, ap, subst, _∙_}
+use mathlib.Core.Bool.{true, not, _&&_}
+use mathlib.Core.List.{List, [], _∷_, map}
+use mathlib.Core.Option.{some}
+use Prim.Native.Nat.{ℕ, _+_, _*_, _-_, _≤_, _<_, compare}
+use native.Mathlib.Omega.{arith}
+use borrow.Author.Tests.{leb-true, le-leb, ltb-true, lt-ltb, lt-leb, leb-false, not-true}
+use lib.Dec.{leb, ltb, lit<, lit≤}
+use lib.ListN.{length, getD}
+use Rattle.lists.specs.Lists.{tab, all, pairs, In}
+use Rattle.lists.proofs.Tests.{both, and-both}
+use Rattle.lists.proofs.Tables.{length-tab, map-tab, all-tab}
+use Rattle.lists.proofs.Rows.{all-weaker}
+use Rattle.whole_pages.proofs.Tabs.{in-tab, tab-in, all-of-tab}
+use Rattle.numbers.specs.Numbers.{numberAt, fieldsAt, widthOf, zeroAt, Bytes, Fits}
+use Rattle.numbers.proofs.Numbers.{number-below}
+use Rattle.trees.specs.Trees.{atMost, under, inside}
+use Rattle.trees.proofs.Sorted.{Sorted}
+use Rattle.pages.specs.Layout.{countOf, entryWidths, entryIn, entryFields, entryAt, entriesOf}
+use Rattle.pages.specs.Rows.{entryRow}
+use Rattle.index.specs.Pictures.{Item, keyOf, leafPage}
+use Rattle.whole_pages.specs.Checks.{headOk, inRange, entryOk, entryFieldsAt, entriesOk, leafOk}
+use Rattle.whole_pages.proofs.Layouts.{laid, told-head, told-rest, told-each}
+use Rattle.whole_pages.proofs.Entries.{Rests, entry-both, both-entry, plain-back, back-plain, fields-rests, rests-fields, entry-fits}
+
+pub under-is : (a b : ℕ) → a < b → under compare a b ≡ true
+under-is a b h = ap not (lt-leb b a h)
+
+pub is-under : (a b : ℕ) → under compare a b ≡ true → a < b
+is-under a b h = leb-false b a (not-true (leb b a) h)
+
+-- ---- the order
+abbrev Ordered : ℕ → ℕ → List Item → Type 0
+Ordered lo hi es = Sorted compare keyOf lo (some hi) es
+
+pub entries-ordered : (lo hi : ℕ) (vss : List (List ℕ)) → entriesOk lo hi vss ≡ true → Ordered lo hi (map entryIn vss) × (all entryOk vss ≡ true)
+unfolding entriesOk entryIn all pairs
+entries-ordered lo hi [] h = (record { low = refl; high = refl; order = refl }, refl)
+entries-ordered lo hi (vs ∷ vss) h =
+    let a = both (inRange lo hi (getD vs 0 0) && entryOk vs) (entriesOk (getD vs 0 0 + 1) hi vss) h in
+    let b = both (inRange lo hi (getD vs 0 0)) (entryOk vs) (a .0) in
+    let c = both (leb lo (getD vs 0 0)) (ltb (getD vs 0 0) hi) (b .0) in
+    let l : lo ≤ getD vs 0 0 = leb-true lo (getD vs 0 0) (c .0) in
+    let u : getD vs 0 0 < hi = ltb-true (getD vs 0 0) hi (c .1) in
+    let t = entries-ordered (getD vs 0 0 + 1) hi vss (a .1) in (
+      record {
+        low = and-both (leb lo (getD vs 0 0)) (all (λ x. atMost compare lo (keyOf x)) (map entryIn vss)) (c .0)
+            (all-weaker (λ x. atMost compare (getD vs 0 0 + 1) (keyOf x)) (λ x. atMost compare lo (keyOf x))
+            (λ x m. le-leb lo (keyOf x) (omega (arith, leb-true (getD vs 0 0 + 1) (keyOf x) m))) (map entryIn vss) (t .0 .low));
+        high = and-both (under compare (getD vs 0 0) hi) (all (λ x. inside compare (keyOf x) (some hi)) (map entryIn vss)) (under-is (getD vs 0 0) hi u) (t .0 .high);
+        order = and-both (all (λ y. under compare (getD vs 0 0) (keyOf y)) (map entryIn vss)) (pairs (λ x y. under compare (keyOf x) (keyOf y)) (map entryIn vss))
+            (all-weaker (λ x. atMost compare (getD vs 0 0 + 1) (keyOf x)) (λ x. under compare (getD vs 0 0) (keyOf x))
+            (λ x m. under-is (getD vs 0 0) (keyOf x) (omega (arith, leb-true (getD vs 0 0 + 1) (keyOf x) m))) (map entryIn vss) (t .0 .low))
+            (t .0 .order);
+      },
+      and-both (entryOk vs) (all entryOk vss) (b .1) (t .1),
+    )
+
+pub ordered-entries : (lo hi : ℕ) (vss : List (List ℕ)) → Ordered lo hi (map entryIn vss) → all entryOk vss ≡ true → entriesOk lo hi vss ≡ true
+unfolding entriesOk entryIn all pairs
+ordered-entries lo hi [] s h = refl
+ordered-entries lo hi (vs ∷ vss) s h =
+    let a = both (entryOk vs) (all entryOk vss) h in
+    let l = both (leb lo (getD vs 0 0)) (all (λ x. atMost compare lo (keyOf x)) (map entryIn vss)) (s .low) in
+    let u = both (under compare (getD vs 0 0) hi) (all (λ x. inside compare (keyOf x) (some hi)) (map entryIn vss)) (s .high) in
+    let o = both (all (λ y. under compare (getD vs 0 0) (keyOf y)) (map entryIn vss)) (pairs (λ x y. under compare (keyOf x) (keyOf y)) (map entryIn vss)) (s .order) in
+    and-both (inRange lo hi (getD vs 0 0) && entryOk vs) (entriesOk (getD vs 0 0 + 1) hi vss)
+    (and-both (inRange lo hi (getD vs 0 0)) (entryOk vs) (and-both (leb lo (getD vs 0 0)) (ltb (getD vs 0 0) hi) (l .0) (lt-ltb (getD vs 0 0) hi (is-under (getD vs 0 0) hi (u .0)))) (a .0))
+    (ordered-entries (getD vs 0 0 + 1) hi vss
+    (record {
+      low = all-weaker (λ x. under compare (getD vs 0 0) (keyOf x)) (λ x. atMost compare (getD vs 0 0 + 1) (keyOf x))
+          (λ x m. le-leb (getD vs 0 0 + 1) (keyOf x) (omega (arith, is-under (getD vs 0 0) (keyOf x) m))) (map entryIn vss) (o .0);
+      high = u .1;
+      order = o .1;
+    })
+    (a .1))
+
+-- ---- the leaf
+pub record LeafFacts (lo hi : ℕ) (p : List ℕ) : Type 0 where
+  pub laid : p ≡ leafPage (entriesOf p)
+  pub few : countOf p ≤ 24
+  pub order : Ordered lo hi (entriesOf p)
+  pub rests : (e : Item) → In e (entriesOf p) → e .owner ≡ 0 → Rests e
+
+pub length-entries : (p : List ℕ) → length (entriesOf p) ≡ countOf p
+unfolding entriesOf
+length-entries p = length-tab (countOf p) 0 (entryAt p)
+
+entries-map : (p : List ℕ) → map entryIn (tab (countOf p) 0 (entryFieldsAt p)) ≡ entriesOf p
+unfolding entriesOf entryAt entryFieldsAt
+entries-map p = map-tab entryIn (countOf p) 0 (entryFieldsAt p)
+
+module _ (p : List ℕ) (g : Bytes p) where
+  plain-at : (i : ℕ) → entryOk (entryFieldsAt p i) ≡ true → entryFields (entryIn (fieldsAt entryWidths p (16 + 20 * i))) ≡ fieldsAt entryWidths p (16 + 20 * i)
+  unfolding entryFieldsAt fieldsAt
+  plain-at i h =
+      plain-back (numberAt 8 p (16 + 20 * i)) (numberAt 4 p (16 + 20 * i + 8)) (numberAt 4 p (16 + 20 * i + 8 + 4)) (numberAt 2 p (16 + 20 * i + 8 + 4 + 4))
+      (numberAt 2 p (16 + 20 * i + 8 + 4 + 4 + 2)) (entry-both (entryFieldsAt p i) h .0)
+
+  rests-at : (i : ℕ) → entryOk (entryFieldsAt p i) ≡ true → entryIn (entryFieldsAt p i) .owner ≡ 0 → Rests (entryIn (entryFieldsAt p i))
+  unfolding entryFieldsAt fieldsAt entryIn
+  rests-at i h =
+      let b = entry-both (entryFieldsAt p i) h in
+      fields-rests (numberAt 8 p (16 + 20 * i)) (numberAt 4 p (16 + 20 * i + 8)) (numberAt 4 p (16 + 20 * i + 8 + 4)) (numberAt 2 p (16 + 20 * i + 8 + 4 + 4))
+      (numberAt 2 p (16 + 20 * i + 8 + 4 + 4 + 2)) (b .0) (b .1)
+
+  at-entry : (i : ℕ) → entryFields (entryIn (fieldsAt entryWidths p (16 + 20 * i))) ≡ fieldsAt entryWidths p (16 + 20 * i)
+      → (entryIn (entryFieldsAt p i) .owner ≡ 0 → Rests (entryIn (entryFieldsAt p i))) → entryOk (entryFieldsAt p i) ≡ true
+  unfolding entryFieldsAt fieldsAt entryIn
+  at-entry i e r =
+      let b = back-plain (numberAt 8 p (16 + 20 * i)) (numberAt 4 p (16 + 20 * i + 8)) (numberAt 4 p (16 + 20 * i + 8 + 4)) (numberAt 2 p (16 + 20 * i + 8 + 4 + 4))
+      (numberAt 2 p (16 + 20 * i + 8 + 4 + 4 + 2)) e in
+      both-entry (entryFieldsAt p i) b
+      (rests-fields (numberAt 8 p (16 + 20 * i)) (numberAt 4 p (16 + 20 * i + 8)) (numberAt 4 p (16 + 20 * i + 8 + 4)) (numberAt 2 p (16 + 20 * i + 8 + 4 + 4))
+      (numberAt 2 p (16 + 20 * i + 8 + 4 + 4 + 2)) b r)
+
+  fits-at : (i : ℕ) → Fits entryWidths (entryFields (entryIn (fieldsAt entryWidths p (16 + 20 * i))))
+  unfolding fieldsAt
+  fits-at i =
+      entry-fits (numberAt 8 p (16 + 20 * i)) (numberAt 4 p (16 + 20 * i + 8)) (numberAt 4 p (16 + 20 * i + 8 + 4)) (numberAt 2 p (16 + 20 * i + 8 + 4 + 4))
+      (numberAt 2 p (16 + 20 * i + 8 + 4 + 4 + 2)) (number-below 8 p (16 + 20 * i) g) (number-below 4 p (16 + 20 * i + 8) g) (number-below 4 p (16 + 20 * i + 8 + 4) g) (number-below 2 p (16 + 20 * i + 8 + 4 + 4) g)
+
+  pub leaf-facts : (lo hi : ℕ) → length p ≡ 512 → leafOk lo hi p ≡ true → LeafFacts lo hi p
+  unfolding leafOk leafPage entryRow entriesOf entryAt widthOf entryFieldsAt
+  leaf-facts lo hi size h =
+      let a = both ((headOk 2 0 p && leb (countOf p) 24) && entriesOk lo hi (tab (countOf p) 0 (entryFieldsAt p))) (zeroAt (496 - 20 * countOf p) (16 + 20 * countOf p) p) h in
+      let b = both (headOk 2 0 p && leb (countOf p) 24) (entriesOk lo hi (tab (countOf p) 0 (entryFieldsAt p))) (a .0) in
+      let c = both (headOk 2 0 p) (leb (countOf p) 24) (b .0) in
+      let few = leb-true (countOf p) 24 (c .1) in
+      let o = entries-ordered lo hi (tab (countOf p) 0 (entryFieldsAt p)) (b .1) in
+      let each : (i : ℕ) → i < countOf p → entryOk (entryFieldsAt p i) ≡ true =
+      (λ i l. all-tab entryOk (countOf p) 0 (entryFieldsAt p) i (o .1) (omega arith) (omega arith)) in
+      record {
+        laid = laid 2 0 20 24 entryWidths (lit< tt) (lit< tt) refl (lit≤ tt) (lit< tt) entryIn entryFields p g few size (c .0) (a .1) (λ i l. plain-at i (each i l));
+        few = few;
+        order = subst (Ordered lo hi) (entries-map p) (o .0);
+        rests = λ e m z.
+            let x = in-tab (countOf p) 0 (entryAt p) e m in
+            let q : entryIn (entryFieldsAt p (x .0)) ≡ e = x .3 in
+            subst Rests q (rests-at (x .0) (each (x .0) (omega (arith, x .2))) (ap (λ y. y .owner) q ∙ z));
+      }
+
+  pub facts-leaf : (lo hi : ℕ) → LeafFacts lo hi p → leafOk lo hi p ≡ true
+  unfolding leafOk leafPage entryRow entriesOf entryAt widthOf entryFieldsAt
+  facts-leaf lo hi f =
+      let plain = told-each 2 0 20 24 entryWidths (lit< tt) (lit< tt) refl (lit≤ tt) (lit< tt) entryIn entryFields p g (f .few) fits-at (f .laid) in
+      let each : (i : ℕ) → i < countOf p → entryOk (entryFieldsAt p i) ≡ true =
+      (λ i l. at-entry i (plain i l) (f .rests (entryAt p i) (tab-in (countOf p) 0 (entryAt p) i (omega arith) (omega arith)))) in
+      and-both ((headOk 2 0 p && leb (countOf p) 24) && entriesOk lo hi (tab (countOf p) 0 (entryFieldsAt p))) (zeroAt (496 - 20 * countOf p) (16 + 20 * countOf p) p)
+      (and-both (headOk 2 0 p && leb (countOf p) 24) (entriesOk lo hi (tab (countOf p) 0 (entryFieldsAt p)))
+      (and-both (headOk 2 0 p) (leb (countOf p) 24)
+      (told-head 2 0 20 24 entryWidths (lit< tt) (lit< tt) refl (lit≤ tt) (lit< tt) entryIn entryFields p g (f .few) fits-at (f .laid)) (le-leb (countOf p) 24 (f .few)))
+      (ordered-entries lo hi (tab (countOf p) 0 (entryFieldsAt p)) (subst (Ordered lo hi) (sym (entries-map p)) (f .order))
+      (all-of-tab entryOk (countOf p) 0 (entryFieldsAt p) (λ i a b. each i (omega arith)))))
+      (told-rest 2 0 20 24 entryWidths (lit< tt) (lit< tt) refl (lit≤ tt) (lit< tt) entryIn entryFields p g (f .few) fits-at (f .laid))

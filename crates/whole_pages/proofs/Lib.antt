@@ -1,0 +1,14 @@
+pub mod PageTurns
+pub mod Layouts
+pub mod Tabs
+pub mod Entries
+pub mod Leaves
+pub mod Inners
+pub mod Bits
+pub mod WalkTurns
+pub mod Fronts
+pub mod Tops
+pub mod Marks
+pub mod Trees
+pub mod Firsts
+pub mod Pages

@@ -1,0 +1,167 @@
+-- What one way through the walk comes to, in the very facts that the code has there.
+-- Each unfolds the walk by one step; the level is a number that is not 0, so one more than another. Assumes nothing.
+use mathlib.Core.Path.{_≡_, refl, sym, ap, ap₂, subst, _∙_}
+use mathlib.Core.Bool.{Bool, true, false, not, cond, _&&_}
+use mathlib.Core.List.{List, _∷_}
+use Prim.Native.Nat.{ℕ, zero, suc, _+_, _*_, _-_, _/_, _%_, _^_, _≤_, _<_}
+use native.Mathlib.Nat.{sub-zero}
+use native.Mathlib.Decide.{decLt}
+use native.Mathlib.Omega.{arith}
+use borrow.Author.Tests.{ltb-true, leb-true, lt-ltb, le-ltb, not-true, not-false}
+use lib.Dec.{eqb, leb, ltb}
+use Rattle.lists.specs.Lists.{tab}
+use Rattle.lists.proofs.Tests.{and-left, and-right}
+use Rattle.lists.proofs.Tables.{tab-next, tab-done}
+use Rattle.numbers.specs.Numbers.{zeroAt}
+use Rattle.pages.specs.Layout.{countOf, childAt, childrenOf}
+use Rattle.pages.specs.declared.Child.{Child}
+use Rattle.index.specs.Pictures.{pageAt}
+use Rattle.whole_pages.specs.declared.Span.{Span}
+use Rattle.whole_pages.specs.declared.Trail.{Trail}
+use Rattle.whole_pages.specs.declared.Trail.the-variants.{Went, Bad}
+use Rattle.whole_pages.specs.Checks.{headOk, firstOk, childFieldsAt, childrenOk, innerOk}
+use Rattle.whole_pages.specs.Walks.{spanOf, spans, highAt, after, guard, markAt, pageOk, walkOver, walkAt}
+
+-- ---- the ranges of the children, one after the other
+module _ (p : List ℕ) (hi n : ℕ) where
+  pub spans-next : (lo i : ℕ) → i < n → spans lo hi (tab (n - i) i (childAt p)) ≡ spanOf (childAt p i .page) lo (highAt p n i hi) ∷ spans (highAt p n i hi) hi (tab (n - (i + 1)) (i + 1) (childAt p))
+  unfolding spans highAt
+  spans-next lo i h = ap (spans lo hi) (tab-next n i (childAt p) h) ∙ go (decLt (i + 1) n)
+    where
+      go : Dec (i + 1 < n) → spans lo hi (childAt p i ∷ tab (n - (i + 1)) (i + 1) (childAt p))
+          ≡ spanOf (childAt p i .page) lo (cond (ltb (i + 1) n) (childAt p (i + 1) .low .0) hi) ∷ spans (cond (ltb (i + 1) n) (childAt p (i + 1) .low .0) hi) hi (tab (n - (i + 1)) (i + 1) (childAt p))
+      go (yes l) =
+          let t = tab-next n (i + 1) (childAt p) l in
+          rw (lt-ltb (i + 1) n l, t) refl
+      go (no l) =
+          let t = tab-done n (i + 1) (childAt p) (omega arith) in
+          rw (le-ltb (i + 1) n (omega arith), t) refl
+
+-- ---- the code's choice of an end
+pub high-next : (p : List ℕ) (n i hi : ℕ) (c : Child) → c ≡ childAt p (i + 1) → i + 1 < n → c .low .0 ≡ highAt p n i hi
+unfolding highAt
+high-next p n i hi c e h = sym (ap (λ b. cond b (childAt p (i + 1) .low .0) hi) (lt-ltb (i + 1) n h) ∙ ap (λ x. x .low .0) (sym e))
+
+pub high-last : (p : List ℕ) (n i hi : ℕ) → n ≤ i + 1 → hi ≡ highAt p n i hi
+unfolding highAt
+high-last p n i hi h = sym (ap (λ b. cond b (childAt p (i + 1) .low .0) hi) (le-ltb (i + 1) n h))
+
+-- ---- by the level
+one-more : (level : ℕ) → (level ≡ 0 → ⊥) → level ≡ suc (level - 1)
+one-more level h = omega arith
+
+pub inner-page : (level least : ℕ) (s : List ℕ) (t : Span) → (level ≡ 0 → ⊥) → innerOk level least (t .low .0) (t .high .0) (pageAt s (t .page)) ≡ pageOk level least s t
+unfolding pageOk
+inner-page level least s t z =
+    ap (λ x. innerOk x least (t .low .0) (t .high .0) (pageAt s (t .page))) (one-more level z) ∙ ap (λ x. pageOk x least s t) (sym (one-more level z))
+
+walked : (level least : ℕ) (s : List ℕ) (used : ℕ) (t : Span) (m : ℕ) → (level ≡ 0 → ⊥)
+    → walkAt level least s used t m ≡ after (markAt used m (t .page)) (λ k. guard (pageOk level least s t) (walkOver (walkAt (level - 1) 15 s used) (spans (t .low .0) (t .high .0) (childrenOf (pageAt s (t .page)))) k))
+unfolding walkAt
+walked level least s used t m z =
+    let e = one-more level z in
+    ap (λ x. walkAt x least s used t m) e
+    ∙ ap (λ x. after (markAt used m (t .page)) (λ k. guard (pageOk x least s t) (walkOver (walkAt (level - 1) 15 s used) (spans (t .low .0) (t .high .0) (childrenOf (pageAt s (t .page)))) k))) (sym e)
+
+-- ---- the walk
+module _ (level least : ℕ) (s : List ℕ) (used : ℕ) (t : Span) (m : ℕ) (w : Trail) (e : w ≡ markAt used m (t .page)) where
+  pub walk-unmarked : w ≡ Bad → Bad ≡ walkAt level least s used t m
+  unfolding walkAt
+  walk-unmarked b = go level
+    where
+      q : markAt used m (t .page) ≡ Bad
+      q = sym e ∙ b
+
+      go : (n : ℕ) → Bad ≡ walkAt n least s used t m
+      go zero = sym (ap (λ x. after x (λ k. guard (pageOk zero least s t) (Went k))) q)
+      go (suc n) = sym (ap (λ x. after x (λ k. guard (pageOk (suc n) least s t) (walkOver (walkAt n 15 s used) (spans (t .low .0) (t .high .0) (childrenOf (pageAt s (t .page)))) k))) q)
+
+  module _ (k : ℕ) (g : w ≡ Went k) where
+    marked : markAt used m (t .page) ≡ Went k
+    marked = sym e ∙ g
+
+    pub marked-page : used ≤ 64 → t .page < 64
+    unfolding markAt
+    marked-page h = go (ltb (t .page) used) refl (eqb (m / 2 ^ t .page % 2) 0) marked
+      where
+        go : (a : Bool) → ltb (t .page) used ≡ a → (b : Bool) → cond (a && b) (Went (m + 2 ^ t .page)) Bad ≡ Went k → t .page < 64
+        go true c b f = let l = ltb-true (t .page) used c in omega arith
+        go false c b f = absurd (let z : _≡_ {A = ℕ} 0 1 = cc in omega arith)
+
+    module _ (b : Bool) (f : b ≡ pageOk level least s t) where
+      pub walk-page-bad : not b ≡ true → Bad ≡ walkAt level least s used t m
+      unfolding walkAt
+      walk-page-bad h = go level (sym f ∙ not-true b h)
+        where
+          go : (n : ℕ) → pageOk n least s t ≡ false → Bad ≡ walkAt n least s used t m
+          go zero c = sym (ap (λ x. after x (λ k. guard (pageOk zero least s t) (Went k))) marked ∙ ap (λ x. guard x (Went k)) c)
+          go (suc n) c =
+              sym (ap (λ x. after x (λ j. guard (pageOk (suc n) least s t) (walkOver (walkAt n 15 s used) (spans (t .low .0) (t .high .0) (childrenOf (pageAt s (t .page)))) j))) marked
+              ∙ ap (λ x. guard x (walkOver (walkAt n 15 s used) (spans (t .low .0) (t .high .0) (childrenOf (pageAt s (t .page)))) k)) c)
+
+      pub walk-leaf : not b ≡ false → level ≡ 0 → Went k ≡ walkAt level least s used t m
+      unfolding walkAt
+      walk-leaf h z =
+          let c : pageOk 0 least s t ≡ true = ap (λ x. pageOk x least s t) (sym z) ∙ sym f ∙ not-false b h in
+          sym (ap (λ x. walkAt x least s used t m) z ∙ ap (λ x. after x (λ k. guard (pageOk zero least s t) (Went k))) marked ∙ ap (λ x. guard x (Went k)) c)
+
+      pub walk-few : not b ≡ false → (level ≡ 0 → ⊥) → (n : ℕ) → n ≡ countOf (pageAt s (t .page)) → n ≤ 30
+      unfolding innerOk
+      walk-few h z n c =
+          let p = pageAt s (t .page) in
+          let i : innerOk level least (t .low .0) (t .high .0) (pageAt s (t .page)) ≡ true = inner-page level least s t z ∙ sym f ∙ not-false b h in
+          let front = headOk 3 level p && (leb least (countOf p) && leb (countOf p) 30) in
+          few (headOk 3 level (pageAt s (t .page))) (leb least (countOf (pageAt s (t .page)))) n (firstOk (childFieldsAt (pageAt s (t .page)) 0)) (childrenOk (t .low .0) (t .high .0) (tab (countOf (pageAt s (t .page)) - 1) 1 (childFieldsAt (pageAt s (t .page)))))
+          (zeroAt (496 - 16 * countOf (pageAt s (t .page))) (16 + 16 * countOf (pageAt s (t .page))) (pageAt s (t .page)))
+          (subst (λ x. ((((headOk 3 level (pageAt s (t .page)) && (leb least (countOf (pageAt s (t .page))) && leb x 30)) && firstOk (childFieldsAt (pageAt s (t .page)) 0)) && childrenOk (t .low .0) (t .high .0) (tab (countOf (pageAt s (t .page)) - 1) 1 (childFieldsAt (pageAt s (t .page))))) && zeroAt (496 - 16 * countOf (pageAt s (t .page))) (16 + 16 * countOf (pageAt s (t .page))) (pageAt s (t .page))) ≡ true) (sym c) i)
+        where
+          few : (x y : Bool) (n : ℕ) (u v r : Bool) → ((((x && (y && leb n 30)) && u) && v) && r) ≡ true → n ≤ 30
+          few x y n u v r a =
+              leb-true n 30 (and-right y (leb n 30) (and-right x (y && leb n 30) (and-left (x && (y && leb n 30)) u (and-left ((x && (y && leb n 30)) && u) v (and-left (((x && (y && leb n 30)) && u) && v) r a)))))
+
+      pub walk-start : not b ≡ false → (level ≡ 0 → ⊥) → (n : ℕ) → n ≡ countOf (pageAt s (t .page))
+          → walkAt level least s used t m ≡ walkOver (walkAt (level - 1) 15 s used) (spans (t .low .0) (t .high .0) (tab (n - 0) 0 (childAt (pageAt s (t .page))))) k
+      unfolding childrenOf
+      walk-start h z n c =
+          let d : pageOk level least s t ≡ true = sym f ∙ not-false b h in
+          walked level least s used t m z
+          ∙ ap (λ x. after x (λ j. guard (pageOk level least s t) (walkOver (walkAt (level - 1) 15 s used) (spans (t .low .0) (t .high .0) (childrenOf (pageAt s (t .page)))) j))) marked
+          ∙ ap (λ x. guard x (walkOver (walkAt (level - 1) 15 s used) (spans (t .low .0) (t .high .0) (childrenOf (pageAt s (t .page)))) k)) d
+          ∙ ap (λ x. walkOver (walkAt (level - 1) 15 s used) (spans (t .low .0) (t .high .0) (tab x 0 (childAt (pageAt s (t .page))))) k) (sym c ∙ sym (sub-zero n))
+
+-- ---- over the children
+module _ (level least : ℕ) (s : List ℕ) (used : ℕ) (t : Span) (seen n : ℕ) where
+  abbrev f : Span → ℕ → Trail
+  f = walkAt (level - 1) 15 s used
+
+  abbrev whole : Trail
+  whole = walkAt level least s used t seen
+
+  abbrev p : List ℕ
+  p = pageAt s (t .page)
+
+  abbrev hi : ℕ
+  hi = t .high .0
+
+  pub walk-next : (lo i m next page : ℕ) (w : Trail) (more : ℕ) → i < n → next ≡ highAt p n i hi → page ≡ childAt p i .page
+      → w ≡ f (spanOf page lo next) m → w ≡ Went more → whole ≡ walkOver f (spans lo hi (tab (n - i) i (childAt p))) m
+      → whole ≡ walkOver f (spans next hi (tab (n - (i + 1)) (i + 1) (childAt p))) more
+  unfolding walkOver
+  walk-next lo i m next page w more l e g d v h =
+      h
+      ∙ ap (λ ts. walkOver f ts m) (spans-next p hi n lo i l)
+      ∙ ap₂ (λ x y. after (f (spanOf x lo y) m) (walkOver f (spans y hi (tab (n - (i + 1)) (i + 1) (childAt p))))) (sym g) (sym e)
+      ∙ ap (λ x. after x (walkOver f (spans next hi (tab (n - (i + 1)) (i + 1) (childAt p))))) (sym d ∙ v)
+
+  pub walk-stop : (lo i m next page : ℕ) (w : Trail) → i < n → next ≡ highAt p n i hi → page ≡ childAt p i .page
+      → w ≡ f (spanOf page lo next) m → w ≡ Bad → whole ≡ walkOver f (spans lo hi (tab (n - i) i (childAt p))) m → Bad ≡ whole
+  unfolding walkOver
+  walk-stop lo i m next page w l e g d v h =
+      sym (h
+      ∙ ap (λ ts. walkOver f ts m) (spans-next p hi n lo i l)
+      ∙ ap₂ (λ x y. after (f (spanOf x lo y) m) (walkOver f (spans y hi (tab (n - (i + 1)) (i + 1) (childAt p))))) (sym g) (sym e)
+      ∙ ap (λ x. after x (walkOver f (spans next hi (tab (n - (i + 1)) (i + 1) (childAt p))))) (sym d ∙ v))
+
+  pub walk-end : (lo i m : ℕ) → whole ≡ walkOver f (spans lo hi (tab (n - i) i (childAt p))) m → n ≤ i → Went m ≡ whole
+  unfolding walkOver spans
+  walk-end lo i m h l = sym (h ∙ ap (λ cs. walkOver f (spans lo hi cs) m) (tab-done n i (childAt p) l))

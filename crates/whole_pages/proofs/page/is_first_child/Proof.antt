@@ -1,0 +1,21 @@
+-- `whole_pages::page::is_first_child` meets its contract: the separator is read at its place.
+-- Assumes nothing.
+use borrow.Author.Needs.{needs}
+use Rattle.whole_pages.specs.Checks.{firstOk, childFieldsAt}
+use Rattle.numbers.specs.Numbers.{fieldsAt}
+use borrow.Author.Needs.{needs}
+use Rattle.whole_pages.proofs.page.is_first_child.Statement.{statement}
+use Rattle.whole_pages.proofs.page.is_first_child.Tie as tie
+
+read-u64-requires : tie.Need-read-u64-requires
+read-u64-requires c κs = search needs
+
+is-child-requires : tie.Need-is-child-requires
+is-child-requires c κs = search needs
+
+returns : tie.Need-returns
+unfolding firstOk childFieldsAt fieldsAt
+returns c = cc
+
+pub is-first-child-spec : {M : Type 1} → statement M
+is-first-child-spec = tie.close (tie.spec read-u64-requires is-child-requires returns)

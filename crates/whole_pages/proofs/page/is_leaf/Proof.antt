@@ -1,0 +1,104 @@
+-- `whole_pages::page::is_leaf` meets its contract. The invariant: the test of all entries is the test of those from i on, from `least` on.
+-- The measure is the number of entries left. Assumes nothing.
+use borrow.Author.Needs.{needs}
+use mathlib.Core.Path.{_≡_}
+use Prim.Native.Nat.{_-_, _≤_}
+use Rattle.lists.specs.Lists.{tab}
+use Rattle.whole_pages.specs.Checks.{entryFieldsAt, entriesOk}
+use Rattle.whole_pages.proofs.PageTurns.{leaf-few, next-fits, leaf-headless, leaf-bad, leaf-next, leaf-done}
+use native.Mathlib.Nat.{sub-zero}
+use Rattle.whole_pages.proofs.page.is_leaf.Statement.{statement}
+use Rattle.whole_pages.proofs.page.is_leaf.Tie as tie
+
+abbrev Inv-loop : tie.InvT-loop
+Inv-loop p high n least₀ i₀ least i = (n ≤ 24) × ((i ≤ n) × (entriesOk least₀ (high .0) (tab n 0 (entryFieldsAt p)) ≡ entriesOk least (high .0) (tab (n - i) i (entryFieldsAt p))))
+
+abbrev μ-loop : tie.MeasureT-loop
+μ-loop p high n least₀ i₀ least i = n - i
+
+count-of-requires : tie.Need-count-of-requires Inv-loop μ-loop
+count-of-requires c κs = search needs
+
+has-head-requires : tie.Need-has-head-requires Inv-loop μ-loop
+has-head-requires c κs = search needs
+
+returns : tie.Need-returns Inv-loop μ-loop
+returns c = search (needs, leaf-headless)
+
+loop-holds : tie.Need-loop-holds Inv-loop μ-loop
+loop-holds c = (search (needs, leaf-few), (search needs, simp sub-zero))
+
+mul-read-u64 : tie.Need-mul-read-u64 Inv-loop μ-loop
+mul-read-u64 c = search needs
+
+add-read-u64 : tie.Need-add-read-u64 Inv-loop μ-loop
+add-read-u64 c = search needs
+
+read-u64-requires : tie.Need-read-u64-requires Inv-loop μ-loop
+read-u64-requires c κs = search needs
+
+is-in-requires : tie.Need-is-in-requires Inv-loop μ-loop
+is-in-requires c κs = search needs
+
+is-entry-requires : tie.Need-is-entry-requires Inv-loop μ-loop
+is-entry-requires c κs = search needs
+
+returns-2 : tie.Need-returns-2 Inv-loop μ-loop
+returns-2 c = search (needs, leaf-bad)
+
+add-least : tie.Need-add-least Inv-loop μ-loop
+add-least c = search (needs, next-fits)
+
+add-i : tie.Need-add-i Inv-loop μ-loop
+add-i c = search needs
+
+loop-less : tie.Need-loop-less Inv-loop μ-loop
+loop-less c = search needs
+
+loop-again : tie.Need-loop-again Inv-loop μ-loop
+loop-again c = (search needs, (search needs, search (needs, leaf-next)))
+
+mul-is-zero : tie.Need-mul-is-zero Inv-loop μ-loop
+mul-is-zero c = search needs
+
+add-is-zero : tie.Need-add-is-zero Inv-loop μ-loop
+add-is-zero c = search needs
+
+mul-is-zero-2 : tie.Need-mul-is-zero-2 Inv-loop μ-loop
+mul-is-zero-2 c = search needs
+
+sub-is-zero : tie.Need-sub-is-zero Inv-loop μ-loop
+sub-is-zero c = search needs
+
+is-zero-requires : tie.Need-is-zero-requires Inv-loop μ-loop
+is-zero-requires c κs = search needs
+
+returns-3 : tie.Need-returns-3 Inv-loop μ-loop
+returns-3 c = search (needs, leaf-done)
+
+pub is-leaf-spec : {M : Type 1} → statement M
+is-leaf-spec =
+    tie.close
+    (tie.spec
+    Inv-loop
+    μ-loop
+    count-of-requires
+    has-head-requires
+    returns
+    loop-holds
+    mul-read-u64
+    add-read-u64
+    read-u64-requires
+    is-in-requires
+    is-entry-requires
+    returns-2
+    add-least
+    add-i
+    loop-less
+    loop-again
+    mul-is-zero
+    add-is-zero
+    mul-is-zero-2
+    sub-is-zero
+    is-zero-requires
+    returns-3)

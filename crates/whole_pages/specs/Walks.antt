@@ -1,0 +1,83 @@
+-- The walk over the pages of a tree as the code makes it: each page's own test, the pages seen as bits of a number, the children one after
+-- the other. It is not for readers: what it comes to is shown in ../proofs. Assumes nothing.
+use Prim.Native.Nat.{ℕ, zero, suc, _+_, _*_, _-_, _/_, _%_, _^_}
+use mathlib.Core.Bool.{Bool, false, cond, _&&_}
+use mathlib.Core.List.{List, [], _∷_}
+use lib.Dec.{eqb, leb, ltb}
+use Rattle.lists.specs.Lists.{tab, all}
+use Rattle.numbers.specs.Numbers.{zeroAt}
+use Rattle.rules.specs.Document.{endMark}
+use Rattle.pages.specs.Layout.{rootOf, usedOf, heightOf, childAt, childrenOf}
+use Rattle.pages.specs.declared.Child.{Child}
+use Rattle.index.specs.Pictures.{pageAt}
+use Rattle.whole_pages.specs.declared.Span.{Span}
+use Rattle.whole_pages.specs.declared.Trail.{Trail}
+use Rattle.whole_pages.specs.declared.Trail.the-variants.{Went, Bad}
+use Rattle.whole_pages.specs.Checks.{firstPageOk, leafOk, innerOk}
+
+abbrev pub spanOf : ℕ → ℕ → ℕ → Span
+spanOf q lo hi = record { page = q; low = record { 0 = lo }; high = record { 0 = hi } }
+
+-- the ranges of the children of a page with the range from lo to hi
+unfoldable pub spans : ℕ → ℕ → List Child → List Span
+spans lo hi [] = []
+spans lo hi (c ∷ []) = spanOf (c .page) lo hi ∷ []
+spans lo hi (c ∷ d ∷ cs) = spanOf (c .page) lo (d .low .0) ∷ spans (d .low .0) hi (d ∷ cs)
+
+unfoldable pub highAt : List ℕ → ℕ → ℕ → ℕ → ℕ
+highAt p n i hi = cond (ltb (i + 1) n) (childAt p (i + 1) .low .0) hi
+
+abbrev pub after : Trail → (ℕ → Trail) → Trail
+after (Went m) f = f m
+after Bad f = Bad
+
+abbrev pub guard : Bool → Trail → Trail
+guard b w = cond b w Bad
+
+-- page q seen for the first time
+unfoldable pub markAt : ℕ → ℕ → ℕ → Trail
+markAt used m q = cond (ltb q used && eqb (m / 2 ^ q % 2) 0) (Went (m + 2 ^ q)) Bad
+
+unfoldable pub marks : ℕ → List ℕ → ℕ → Trail
+marks used [] m = Went m
+marks used (q ∷ qs) m = after (markAt used m q) (marks used qs)
+
+unfoldable pub pageOk : ℕ → ℕ → List ℕ → Span → Bool
+pageOk zero least s t = leafOk (t .low .0) (t .high .0) (pageAt s (t .page))
+pageOk (suc n) least s t = innerOk (suc n) least (t .low .0) (t .high .0) (pageAt s (t .page))
+
+unfoldable pub walkOver : (Span → ℕ → Trail) → List Span → ℕ → Trail
+walkOver f [] m = Went m
+walkOver f (t ∷ ts) m = after (f t m) (walkOver f ts)
+
+unfoldable pub walkAt : ℕ → ℕ → List ℕ → ℕ → Span → ℕ → Trail
+walkAt zero least s used t m = after (markAt used m (t .page)) (λ k. guard (pageOk zero least s t) (Went k))
+walkAt (suc n) least s used t m =
+    after (markAt used m (t .page))
+    (λ k. guard (pageOk (suc n) least s t) (walkOver (walkAt n 15 s used) (spans (t .low .0) (t .high .0) (childrenOf (pageAt s (t .page)))) k))
+
+-- every page of the tree is in order
+unfoldable pub treeOk : ℕ → ℕ → List ℕ → Span → Bool
+treeOk zero least s t = pageOk zero least s t
+treeOk (suc n) least s t =
+    pageOk (suc n) least s t && all (treeOk n 15 s) (spans (t .low .0) (t .high .0) (childrenOf (pageAt s (t .page))))
+
+-- every page below `used` is seen
+unfoldable pub seenOk : ℕ → ℕ → Bool
+seenOk used m = all (λ q. eqb (m / 2 ^ q % 2) 1) (tab used 0 (λ q. q))
+
+abbrev pub wentOk : ℕ → Trail → Bool
+wentOk used (Went m) = seenOk used m
+wentOk used Bad = false
+
+-- the whole page buffer
+unfoldable pub frontOk : List ℕ → Bool
+frontOk s = firstPageOk (pageAt s 0) && (leb (usedOf (pageAt s 0)) 64 && ltb 0 (heightOf (pageAt s 0)))
+
+unfoldable pub treeIn : List ℕ → Trail
+treeIn s =
+    let p = pageAt s 0 in walkAt (heightOf p - 1) 2 s (usedOf p) (spanOf (rootOf p) 0 endMark) 1
+
+unfoldable pub pagesOk : List ℕ → Bool
+pagesOk s =
+    (frontOk s && wentOk (usedOf (pageAt s 0)) (treeIn s)) && zeroAt (32768 - 512 * usedOf (pageAt s 0)) (512 * usedOf (pageAt s 0)) s

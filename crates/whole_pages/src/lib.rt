@@ -1,0 +1,194 @@
+// Judging the page buffer of a picture. (Document 01, "Records and pages", **Whole**.)
+pub mod page;
+
+ghost use mathlib.Core.Path.{_≡_};
+ghost use Prim.Native.Nat.{_<_, _≤_, _+_, _*_};
+ghost use lib.ListN.{length};
+ghost use Rattle.numbers.specs.Numbers.{part};
+ghost use Rattle.pages.specs.Layout.{countOf, rootOf, usedOf, heightOf, childAt};
+ghost use Rattle.index.specs.Pictures.{pageAt};
+ghost use Rattle.whole_pages.specs.Walks.{spanOf, highAt, markAt, pageOk, walkAt, seenOk, frontOk, treeIn, pagesOk};
+use entries::Key;
+use pages::head;
+
+// A page with the range of its keys: from low on, below high.
+pub struct Span {
+    pub page: usize,
+    pub low: Key,
+    pub high: Key,
+}
+
+// The pages seen so far, as bits; or a page that is not in order, or not there, or seen before.
+pub enum Trail {
+    Went(u64),
+    Bad,
+}
+
+// Sets page q down as seen, if it is used and was not seen before: "each reached once".
+pub fn mark(seen: u64, q: usize, used: usize) -> Trail
+    requires { ⌜ used ≤ 64 ⌝ }
+    ensures { λ r. ⌜ r ≡ markAt used seen q ⌝ }
+{
+    if q >= used {
+        return Trail::Bad;
+    }
+    if (seen >> q) % 2 != 0 {
+        return Trail::Bad;
+    }
+    Trail::Went(seen + (1 << q))
+}
+
+// Whether the page is in order, by its level: "leaves all at level 0, an inner page one above its children".
+fn is_page(pages: &[u8], level: usize, least: usize, t: Span) -> bool
+    requires { ⌜ length (now pages) ≡ 32768 ⌝ }
+    requires { ⌜ t .page < 64 ⌝ }
+    requires { ⌜ 1 ≤ least ⌝ }
+    ensures { λ r. ⌜ r ≡ pageOk level least (now (pages .entry)) t ⌝ }
+{
+    let a = 512 * t.page;
+    let low = t.low;
+    let high = t.high;
+    if level == 0 {
+        return page::is_leaf(&pages[a..a + 512], low, high);
+    }
+    page::is_inner(&pages[a..a + 512], level, least, low, high)
+}
+
+// How many children page q has.
+pub fn count_at(pages: &[u8], q: usize) -> usize
+    requires { ⌜ length (now pages) ≡ 32768 ⌝ }
+    requires { ⌜ q < 64 ⌝ }
+    ensures { λ r. ⌜ (r ≡ countOf (pageAt (now (pages .entry)) q)) × (r < 65536) ⌝ }
+{
+    let a = 512 * q;
+    head::count_of(&pages[a..a + 512])
+}
+
+// Where the range of child i of page q ends: at the next separator, or where the page's own does.
+fn high_at(pages: &[u8], q: usize, n: usize, i: usize, high: u64) -> u64
+    requires { ⌜ length (now pages) ≡ 32768 ⌝ }
+    requires { ⌜ q < 64 ⌝ }
+    requires { ⌜ n ≤ 30 ⌝ }
+    requires { ⌜ i < n ⌝ }
+    ensures { λ r. ⌜ r ≡ highAt (pageAt (now (pages .entry)) q) n i high ⌝ }
+{
+    if i + 1 < n {
+        let a = 512 * q;
+        let next = pages::inner::child_at(&pages[a..a + 512], i + 1);
+        let low = next.low;
+        return low.0;
+    }
+    high
+}
+
+// The page of child i of page q.
+pub fn child_at(pages: &[u8], q: usize, i: usize) -> usize
+    requires { ⌜ length (now pages) ≡ 32768 ⌝ }
+    requires { ⌜ q < 64 ⌝ }
+    requires { ⌜ i < 30 ⌝ }
+    ensures { λ r. ⌜ r ≡ childAt (pageAt (now (pages .entry)) q) i .page ⌝ }
+{
+    let a = 512 * q;
+    let child = pages::inner::child_at(&pages[a..a + 512], i);
+    child.page as usize
+}
+
+// Walks the tree of a level from its page down, the level falling by one at each step, so that it ends whatever the bytes say. Gives the
+// pages seen then, or Bad where some page is not in order or is seen twice.
+fn walk(pages: &[u8], used: usize, level: usize, least: usize, t: Span, seen: u64) -> Trail
+    requires { ⌜ length (now pages) ≡ 32768 ⌝ }
+    requires { ⌜ used ≤ 64 ⌝ }
+    requires { ⌜ 1 ≤ least ⌝ }
+    ensures { λ r. ⌜ r ≡ walkAt level least (now (pages .entry)) used t seen ⌝ }
+{
+    let q = t.page;
+    let marked = mark(seen, q, used);
+    let Trail::Went(first) = marked else {
+        return Trail::Bad;
+    };
+    if !is_page(pages, level, least, t) {
+        return Trail::Bad;
+    }
+    if level == 0 {
+        return Trail::Went(first);
+    }
+    let n = count_at(pages, q);
+    let high = t.high;
+    let mut low = t.low.0;
+    let mut m = first;
+    let mut i: usize = 0;
+    while i < n {
+        let next = high_at(pages, q, n, i, high.0);
+        let child = Span {
+            page: child_at(pages, q, i),
+            low: Key(low),
+            high: Key(next),
+        };
+        let below = walk(pages, used, level - 1, 15, child, m);
+        let Trail::Went(more) = below else {
+            return Trail::Bad;
+        };
+        m = more;
+        low = next;
+        i += 1;
+    }
+    Trail::Went(m)
+}
+
+// Whether every page below `used` is seen.
+fn are_seen(seen: u64, used: usize) -> bool
+    requires { ⌜ used ≤ 64 ⌝ }
+    ensures { λ r. ⌜ r ≡ seenOk used seen ⌝ }
+{
+    let mut q: usize = 0;
+    while q < used {
+        if (seen >> q) % 2 != 1 {
+            return false;
+        }
+        q += 1;
+    }
+    true
+}
+
+// Whether page 0 is in order, with no more pages used than there are, and a height.
+fn has_front(pages: &[u8]) -> bool
+    requires { ⌜ length (now pages) ≡ 32768 ⌝ }
+    ensures { λ r. ⌜ r ≡ frontOk (now (pages .entry)) ⌝ }
+{
+    let p = &pages[0..512];
+    page::is_first_page(p) & ((head::used_of(p) <= 64) & (0 < head::height_of(p)))
+}
+
+// The walk from the root: "height the root's level plus 1, root with 2 to 30 children or a leaf".
+fn walk_root(pages: &[u8]) -> Trail
+    requires { ⌜ length (now pages) ≡ 32768 ⌝ }
+    requires { ⌜ usedOf (pageAt (now pages) 0) ≤ 64 ⌝ }
+    requires { ⌜ 0 < heightOf (pageAt (now pages) 0) ⌝ }
+    ensures { λ r. ⌜ r ≡ treeIn (now (pages .entry)) ⌝ }
+{
+    let root = numbers::number_at(pages, 16);
+    let used = numbers::number_at(pages, 18);
+    let height = numbers::number_at(pages, 20);
+    let t = Span {
+        page: root,
+        low: Key(0),
+        high: Key::END,
+    };
+    walk(pages, used, height - 1, 2, t, 1)
+}
+
+// Whether the page buffer is whole, with every entry in order: page 0, the tree with each used page once, and nothing in the others.
+pub fn are_pages(pages: &[u8]) -> bool
+    requires { ⌜ length (now pages) ≡ 32768 ⌝ }
+    ensures { λ r. ⌜ r ≡ pagesOk (now (pages .entry)) ⌝ }
+{
+    if !has_front(pages) {
+        return false;
+    }
+    let w = walk_root(pages);
+    let Trail::Went(seen) = w else {
+        return false;
+    };
+    let used = numbers::number_at(pages, 18);
+    are_seen(seen, used) & numbers::is_zero(pages, 512 * used, 32768 - 512 * used)
+}

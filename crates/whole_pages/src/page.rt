@@ -1,0 +1,126 @@
+// One page: its 512 bytes are those that its entries or children write, and these are in order. (Document 01, **Whole**: "these layouts and
+// entry rules"; "keys, and separators after a page's first, strictly ascending and in that page's range".)
+ghost use mathlib.Core.Path.{_≡_};
+ghost use Prim.Native.Nat.{_<_, _≤_, _+_, _*_};
+ghost use lib.ListN.{length};
+ghost use Rattle.pages.specs.Layout.{countOf};
+ghost use Rattle.whole_pages.specs.Checks.{headOk, firstPageOk, inRange, entryOk, entryFieldsAt, leafOk, between, fillersOk, firstOk, childFieldsAt, innerOk};
+use entries::Key;
+use pages::head;
+
+// Whether the head has the length of a page, this kind and this level, and its eight zeros.
+fn has_head(p: &[u8], kind: usize, level: usize) -> bool
+    requires { ⌜ length (now p) ≡ 512 ⌝ }
+    ensures { λ r. ⌜ r ≡ headOk kind level (now (p .entry)) ⌝ }
+{
+    let length = numbers::number_at(p, 0);
+    let zeros = numbers::read_u64(p, 8);
+    (length == 512) & (head::kind_of(p) == kind) & (head::level_of(p) == level) & (zeros == 0)
+}
+
+// Whether it is a first page: the head, and nothing behind root, used and height.
+pub fn is_first_page(p: &[u8]) -> bool
+    requires { ⌜ length (now p) ≡ 512 ⌝ }
+    ensures { λ r. ⌜ r ≡ firstPageOk (now (p .entry)) ⌝ }
+{
+    has_head(p, 1, 0) & (head::count_of(p) == 0) & numbers::is_zero(p, 22, 490)
+}
+
+// Whether the entry at a place is one: what is absent is 0, and "Owner 0 means settled: present, with now and before equal".
+fn is_entry(p: &[u8], i: usize) -> bool
+    requires { ⌜ length (now p) ≡ 512 ⌝ }
+    requires { ⌜ i < 24 ⌝ }
+    ensures { λ r. ⌜ r ≡ entryOk (entryFieldsAt (now (p .entry)) i) ⌝ }
+{
+    let now_at = 16 + 20 * i + 8;
+    let before_at = now_at + 4;
+    let owner_at = before_at + 4;
+    let now = numbers::read_u32(p, now_at);
+    let before = numbers::read_u32(p, before_at);
+    let owner = numbers::read_u16(p, owner_at);
+    let there = numbers::read_u16(p, owner_at + 2);
+    (there < 4)
+        & ((there % 2 == 1) | (now == 0))
+        & ((there / 2 == 1) | (before == 0))
+        & ((owner != 0) | ((there == 3) & (now == before)))
+}
+
+// Whether a key lies from low on and below high.
+fn is_in(low: u64, high: u64, key: u64) -> bool
+    ensures { λ r. ⌜ r ≡ inRange low high key ⌝ }
+{
+    (low <= key) & (key < high)
+}
+
+// Whether it is a leaf with keys from low on and below high.
+pub fn is_leaf(p: &[u8], low: Key, high: Key) -> bool
+    requires { ⌜ length (now p) ≡ 512 ⌝ }
+    ensures { λ r. ⌜ r ≡ leafOk (low .0) (high .0) (now (p .entry)) ⌝ }
+{
+    let n = head::count_of(p);
+    if !(has_head(p, 2, 0) & (n <= 24)) {
+        return false;
+    }
+    let mut least = low.0;
+    let mut i: usize = 0;
+    while i < n {
+        let key = numbers::read_u64(p, 16 + 20 * i);
+        if !(is_in(least, high.0, key) & is_entry(p, i)) {
+            return false;
+        }
+        least = key + 1;
+        i += 1;
+    }
+    numbers::is_zero(p, 16 + 20 * n, 496 - 20 * n)
+}
+
+// Whether a child's six zeros are.
+fn is_child(p: &[u8], i: usize) -> bool
+    requires { ⌜ length (now p) ≡ 512 ⌝ }
+    requires { ⌜ i < 30 ⌝ }
+    ensures { λ r. ⌜ r ≡ fillersOk (childFieldsAt (now (p .entry)) i) ⌝ }
+{
+    let filler_at = 16 + 16 * i + 8 + 2;
+    let filler = numbers::read_u16(p, filler_at);
+    let rest = numbers::read_u32(p, filler_at + 2);
+    (filler == 0) & (rest == 0)
+}
+
+// Whether a key lies above low and below high.
+fn is_between(low: u64, high: u64, key: u64) -> bool
+    ensures { λ r. ⌜ r ≡ between low high key ⌝ }
+{
+    (low < key) & (key < high)
+}
+
+// Whether the first child is one: "the first separator is 0".
+fn is_first_child(p: &[u8]) -> bool
+    requires { ⌜ length (now p) ≡ 512 ⌝ }
+    ensures { λ r. ⌜ r ≡ firstOk (childFieldsAt (now (p .entry)) 0) ⌝ }
+{
+    let low = numbers::read_u64(p, 16);
+    (low == 0) & is_child(p, 0)
+}
+
+// Whether it is an inner page of a level, with at least so many children, and separators above low and below high.
+pub fn is_inner(p: &[u8], level: usize, least: usize, low: Key, high: Key) -> bool
+    requires { ⌜ length (now p) ≡ 512 ⌝ }
+    requires { ⌜ 1 ≤ least ⌝ }
+    ensures { λ r. ⌜ r ≡ innerOk level least (low .0) (high .0) (now (p .entry)) ⌝ }
+{
+    let n = head::count_of(p);
+    if !(has_head(p, 3, level) & ((least <= n) & (n <= 30)) & is_first_child(p)) {
+        return false;
+    }
+    let mut above = low.0;
+    let mut i: usize = 1;
+    while i < n {
+        let key = numbers::read_u64(p, 16 + 16 * i);
+        if !(is_between(above, high.0, key) & is_child(p, i)) {
+            return false;
+        }
+        above = key;
+        i += 1;
+    }
+    numbers::is_zero(p, 16 + 16 * n, 496 - 16 * n)
+}
