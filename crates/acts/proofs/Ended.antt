@@ -36,7 +36,7 @@ use Rattle.tables.specs.Moves.{locksReleased, waitsIn, queueLeft, markPut}
 use Rattle.tables.proofs.Queues.{waits-there}
 use Rattle.index.specs.Pictures.{Item, keyOf, indexOf, entriesIn}
 use Rattle.index.specs.Changes.{settledIn, Becomes}
-use Rattle.whole.specs.States.{book, stateOf}
+use Rattle.desks.specs.States.{book, stateOf}
 use Rattle.whole.specs.Whole.{Whole}
 use Rattle.desks.specs.Fitting.{Fitting}
 use Rattle.desks.proofs.Kept.{fit-marked, fit-released, fit-left}

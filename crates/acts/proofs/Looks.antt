@@ -27,7 +27,7 @@ use Rattle.index.specs.declared.Found.{Found}
 use Rattle.index.specs.declared.Found.the-variants as FV
 use Rattle.index.specs.Pictures.{entriesIn}
 use Rattle.index.specs.Searches.{bookFound}
-use Rattle.whole.specs.States.{book, stateOf}
+use Rattle.desks.specs.States.{book, stateOf}
 use Rattle.whole.specs.Whole.{Whole}
 use Rattle.desks.specs.Fitting.{NameFits}
 use Rattle.desks.proofs.Values.{name-read}

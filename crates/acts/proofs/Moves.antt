@@ -20,7 +20,7 @@ use Rattle.rules.proofs.Keeps.{Kept, Anyone}
 use Rattle.tables.specs.Layout.{transactionsMost, queued, queuedAt, queueOf, slotsOf, marksOf, inPlace}
 use Rattle.tables.specs.Moves.{markPut, queueJoined, queueLeft}
 use Rattle.tables.proofs.Queues.{length-queue}
-use Rattle.whole.specs.States.{book, stateOf, deskWith}
+use Rattle.desks.specs.States.{book, stateOf, deskWith}
 use Rattle.whole.specs.Whole.{Whole}
 use Rattle.desks.specs.Fitting.{AskFits, Fitting}
 use Rattle.desks.proofs.Says.{askerIn}

@@ -13,7 +13,7 @@ use Rattle.rules.specs.Locks.{Slots, blockers}
 use Rattle.rules.specs.Queue.{Q, Wait, waitsFrom, waits}
 use Rattle.tables.specs.Layout.{queued, queuedAt, queueOf, slotsOf}
 use Rattle.index.specs.Pictures.{entriesIn}
-use Rattle.whole.specs.States.{book, stateOf}
+use Rattle.desks.specs.States.{book, stateOf}
 
 abbrev waitBehind : Entries book → Slots book → List (Q book) → Q book → Wait book
 waitBehind es ls ahead q = record { request = q; behind = blockers book es ls ahead q }

@@ -21,7 +21,7 @@ use Rattle.tables.specs.Moves.{lockTaken, lockGiven, queueLeft}
 use Rattle.tables.proofs.Queues.{length-queue}
 use Rattle.tables.proofs.Frames.{only-taken, queued-beside, place-beside}
 use Rattle.index.specs.Pictures.{keyOf, indexOf, entriesIn, WholePages}
-use Rattle.whole.specs.States.{book, stateOf, deskWith}
+use Rattle.desks.specs.States.{book, stateOf, deskWith}
 use Rattle.whole.specs.Whole.{Whole}
 use Rattle.desks.specs.Fitting.{NameFits, QueuedFits, Fitting}
 use Rattle.desks.proofs.Kept.{fit-taken, fit-left}

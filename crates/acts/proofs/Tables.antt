@@ -13,7 +13,7 @@ use Rattle.trees.specs.Shapes.{shape}
 use Rattle.tables.specs.Layout.{transactionsMost, queued, slotsOf, queueOf, marksOf}
 use Rattle.tables.proofs.Queues.{length-queue}
 use Rattle.index.specs.Pictures.{keyOf, indexOf, entriesIn, WholePages}
-use Rattle.whole.specs.States.{book, stateOf, deskWith}
+use Rattle.desks.specs.States.{book, stateOf, deskWith}
 use Rattle.whole.specs.Whole.{Whole}
 use Rattle.desks.specs.Fitting.{Fitting}
 use Rattle.desks.proofs.Reading.{desk-length}

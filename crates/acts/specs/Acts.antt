@@ -10,7 +10,7 @@ use Rattle.entries.specs.declared.Answer.{Answer}
 use Rattle.entries.specs.Meaning.{bookAnswer}
 use Rattle.tables.specs.Layout.{queued, queuedAt, slotsOf}
 use Rattle.index.specs.Pictures.{entriesIn}
-use Rattle.whole.specs.States.{book, stateOf}
+use Rattle.desks.specs.States.{book, stateOf}
 use Rattle.whole.specs.Whole.{Whole}
 
 -- the picture is whole and says s

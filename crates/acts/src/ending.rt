@@ -7,7 +7,7 @@ ghost use Rattle.rules.specs.Desk.{ended, runs};
 ghost use Rattle.pages.specs.Rows.{endOf};
 ghost use Rattle.tables.specs.Layout.{deskSize, transactionsMost, queued};
 ghost use Rattle.tables.specs.Moves.{waitsIn, queueLeft};
-ghost use Rattle.whole.specs.States.{book, stateOf};
+ghost use Rattle.desks.specs.States.{book, stateOf};
 ghost use Rattle.whole.specs.Whole.{Whole};
 ghost use Rattle.acts.specs.Acts.{Says};
 use tables::locks;

@@ -12,7 +12,7 @@ use Rattle.rules.specs.Kinds.{Call}
 use Rattle.rules.specs.Runs.{Worked}
 use Rattle.rules.specs.Desk.{step}
 use Rattle.entries.specs.Records.{heard, written}
-use Rattle.whole.specs.States.{book, stateOf}
+use Rattle.desks.specs.States.{book, stateOf}
 use Rattle.whole.specs.Whole.{Whole}
 
 -- what a call was lent, and what it leaves

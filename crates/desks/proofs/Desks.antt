@@ -17,7 +17,7 @@ use Rattle.numbers.proofs.Numbers.{numberAt-ext, number-none, number-below}
 use Rattle.numbers.proofs.Fields.{fields-fit}
 use Rattle.rules.specs.Kinds.{Lock, Queued, Mark}
 use Rattle.tables.specs.Layout.{deskSize, transactionsMost, locksMost, headWidths, queuePlace, inPlace, recordWidths, recordPlace, recordAt, lockWidths, lockPlace, slotFields}
-use Rattle.whole.specs.States.{written, recordOf, deskWith}
+use Rattle.desks.specs.States.{written, recordOf, deskWith}
 use Rattle.desks.specs.Fitting.{Fitting}
 use Rattle.desks.proofs.Written.{agree-itself, agree-ahead, agree-behind, bytes-append, zero-in, bytes-zeros, agree-row, bytes-join, length-written, bytes-written, fields-written}
 use Rattle.desks.proofs.Says.{headFields, nobody, askerIn, recordFields, Says, says-once}

@@ -16,7 +16,7 @@ use Rattle.rules.specs.Document.{document}
 use Rattle.tables.specs.Layout.{transactionsMost, queued, queueOf}
 use Rattle.tables.specs.Moves.{locksReleased, waitsIn, queueLeft, markPut}
 use Rattle.tables.proofs.Queues.{waits-there, leave-none}
-use Rattle.whole.specs.States.{deskWith}
+use Rattle.desks.specs.States.{deskWith}
 use Rattle.desks.specs.Fitting.{Fitting}
 use Rattle.desks.proofs.Says.{askerIn}
 use Rattle.desks.proofs.Desks.{desk-says}

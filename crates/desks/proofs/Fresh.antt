@@ -16,7 +16,7 @@ use Rattle.numbers.proofs.Kept.{bytes-putFields}
 use Rattle.rules.specs.Kinds.{Lock, Mark, idle}
 use Rattle.rules.specs.Locks.{inUse}
 use Rattle.tables.specs.Layout.{deskSize, transactionsMost, locksMost, headWidths, queuePlace, recordWidths, recordPlace, recordAt, lockWidths, lockPlace, slotFields}
-use Rattle.whole.specs.States.{markNumber, deskWith}
+use Rattle.desks.specs.States.{markNumber, deskWith}
 use Rattle.desks.specs.Fitting.{Fitting}
 use Rattle.desks.proofs.Written.{zero-in}
 use Rattle.desks.proofs.Says.{headFields, recordFields, Says}

@@ -27,7 +27,7 @@ use Rattle.rules.proofs.Orders.{numbers-ordered}
 use Rattle.rules.proofs.Keys.{same-equal}
 use Rattle.rules.proofs.Waits.{in-everyone, runs-known, queued-runs}
 use Rattle.tables.specs.Layout.{transactionsMost, recordPlace, recordAt, askIn, askAt, inPlace, queued, queuedAt, slotsOf, queueOf, marksOf}
-use Rattle.whole.specs.States.{book, stateOf}
+use Rattle.desks.specs.States.{book, stateOf}
 use Rattle.desks.specs.Fitting.{NameFits, AskFits, LockFits, QueuedFits, Fitting}
 
 -- the record that a request names is within its width

@@ -18,7 +18,7 @@ use Rattle.index.specs.Pictures.{keyOf, indexOf, entriesIn}
 use Rattle.tables.specs.Layout.{deskSize, transactionsMost, locksMost, headWidths, queued, inPlace, recordAt, lockWidths, lockPlace, slotFields, slotAt, slotsOf, queuedAt, queueOf, marksOf}
 use Rattle.tables.proofs.Slots.{length-slots, slot-in}
 use Rattle.tables.proofs.Queues.{length-queue}
-use Rattle.whole.specs.States.{book, stateOf, deskWith}
+use Rattle.desks.specs.States.{book, stateOf, deskWith}
 use Rattle.desks.specs.Fitting.{Fitting}
 use Rattle.desks.proofs.Says.{headFields, nobody, askerIn, recordFields, Says}
 use Rattle.desks.proofs.Desks.{bytes-desk, desk-says, desk-is}

@@ -18,7 +18,7 @@ use Rattle.tables.specs.Moves as M
 use Rattle.tables.specs.Moves.{markPut}
 use Rattle.tables.proofs.Frames.{place-beside, touches-mark, mark-head}
 use Rattle.tables.proofs.Records.{record-marked, record-unmarked}
-use Rattle.whole.specs.States.{markNumber}
+use Rattle.desks.specs.States.{markNumber}
 use Rattle.desks.specs.Fitting.{Fitting}
 use Rattle.desks.proofs.Says.{recordFields, Says}
 

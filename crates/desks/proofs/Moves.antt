@@ -19,7 +19,7 @@ use Rattle.rules.specs.Document.{document}
 use Rattle.tables.specs.Layout.{transactionsMost, nameNumber, slotsOf}
 use Rattle.tables.specs.Moves.{lockTaken, lockGiven, locksReleased, queueJoined, queueLeft, markPut}
 use Rattle.tables.proofs.Takes.{taken-is, refused-same}
-use Rattle.whole.specs.States.{deskWith}
+use Rattle.desks.specs.States.{deskWith}
 use Rattle.desks.specs.Fitting.{NameFits, AskFits, Fitting}
 use Rattle.desks.proofs.Says.{askerIn, Says}
 use Rattle.desks.proofs.Values.{name-small, name-read}

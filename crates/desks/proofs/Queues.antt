@@ -29,7 +29,7 @@ use Rattle.tables.proofs.Order.{InOrder}
 use Rattle.tables.proofs.Frames.{touches-ask}
 use Rattle.tables.proofs.Queues.{touches-joined, length-joined, head-joined, place-joined, last-joined, length-queue, touches-left, length-left, head-left, count-left, place-behind, place-last, queue-left}
 use Rattle.tables.proofs.Records.{withAsk, record-joined, record-joined-other, record-left, record-left-other}
-use Rattle.whole.specs.States.{waitingFields, markNumber}
+use Rattle.desks.specs.States.{waitingFields, markNumber}
 use Rattle.desks.specs.Fitting.{AskFits, Fitting}
 use Rattle.desks.proofs.Says.{headFields, nobody, askerIn, recordFields, Says}
 use Rattle.desks.proofs.Values.{ask-fits}

@@ -16,7 +16,7 @@ use Rattle.numbers.specs.Numbers.{numberAt, fieldsAt}
 use Rattle.rules.specs.Kinds.{Ask, read, insert, delete, Lock, Queued, Mark, idle, running}
 use Rattle.tables.specs.Layout.{deskSize, transactionsMost, locksMost, queued, inPlace, recordPlace, recordAt, markIn, isWaiting, askIn, askAt, askFields, slotIn, slotAt, slotsOf, queuedAt, queueOf, marksOf}
 use Rattle.tables.proofs.Order.{InOrder}
-use Rattle.whole.specs.States.{waitingFields, markNumber, deskWith}
+use Rattle.desks.specs.States.{waitingFields, markNumber, deskWith}
 use Rattle.desks.specs.Fitting.{Fitting}
 use Rattle.desks.proofs.Says.{nobody, askerIn, Says}
 use Rattle.desks.proofs.Values.{slot-of, slot-read, ask-read, asker-first, in-place}

@@ -15,7 +15,7 @@ use Rattle.numbers.proofs.Fields.{fields-inj}
 use Rattle.numbers.proofs.Rows.{rows-inj}
 use Rattle.rules.specs.Kinds.{Lock, Queued, delete, Mark, idle}
 use Rattle.tables.specs.Layout.{deskSize, transactionsMost, locksMost, headWidths, inPlace, recordWidths, recordPlace, recordAt, lockWidths, lockPlace, slotFields}
-use Rattle.whole.specs.States.{waitingFields, markNumber}
+use Rattle.desks.specs.States.{waitingFields, markNumber}
 
 -- the numbers of the head, by how many are queued
 abbrev pub headFields : ℕ → List ℕ

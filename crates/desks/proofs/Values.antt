@@ -20,7 +20,7 @@ use Rattle.rules.specs.Kinds.{Ask, read, insert, delete, Queued, Mark, idle, ru
 use Rattle.rules.specs.Locks.{inUse}
 use Rattle.tables.specs.Layout.{recordWidths, askWidths, askFields, askIn, lockWidths, nameIn, nameNumber, modeNumber, slotIn, slotFields}
 use Rattle.tables.proofs.Back.{name-there, slot-there}
-use Rattle.whole.specs.States.{waitingFields, markNumber}
+use Rattle.desks.specs.States.{waitingFields, markNumber}
 use Rattle.desks.specs.Fitting.{NameFits, AskFits, LockFits, QueuedFits}
 use Rattle.desks.proofs.Says.{nobody, recordFields}
 

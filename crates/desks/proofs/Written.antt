@@ -13,7 +13,7 @@ use Rattle.numbers.specs.Numbers.{widthOf, fieldsAt, Fits, Bytes}
 use Rattle.numbers.proofs.Agree.{Agree}
 use Rattle.numbers.proofs.Fields.{fieldsAt-ext, length-putFields, fields-same}
 use Rattle.numbers.proofs.Kept.{bytes-none, bytes-putFields}
-use Rattle.whole.specs.States.{written}
+use Rattle.desks.specs.States.{written}
 
 pub agree-itself : {n : ℕ} {s : List ℕ} {a : ℕ} → Agree n s a s a
 agree-itself = record { byte = λ k h. refl }

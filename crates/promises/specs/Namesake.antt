@@ -6,6 +6,7 @@ use mathlib.Core.List.{List, [], _∷_, _++_}
 use mathlib.Core.Option.{none, some}
 use Rattle.rules.specs.Kinds.{X, on, commit}
 use Rattle.rules.specs.Runs.{found, nothing, waiting, done}
+use Rattle.rules.specs.Document.{endless}
 use Rattle.rules.specs.Cases.{Over, Case, over, to, only, begins, reads, inserts, row, settling, lock, settledAs, entry, left, played, stated}
 
 -- "made of an upper half (pupil) and a lower half (delivery)"
@@ -46,4 +47,4 @@ namesake =
     }
 
 abbrev pub NamesakeWaits : Type 0
-NamesakeWaits = played namesake ≡ stated namesake
+NamesakeWaits = played endless namesake ≡ stated namesake

@@ -6,14 +6,11 @@ use Prim.Native.Nat.{ℕ}
 use mathlib.Core.Path.{_≡_}
 use mathlib.Core.List.{List, [], _∷_, _++_, map}
 use mathlib.Core.Option.{Option, none, some}
-use Rattle.rules.specs.Kinds.{Book, Paging, Entry, Mode, S, X, Name, on, end, Lock, Ask, read, insert, delete, Request, begin, commit, rollback, ask, Call, Queued, State}
+use Rattle.rules.specs.Kinds.{Paging, Entry, Mode, S, X, Name, on, end, Lock, Ask, read, insert, delete, Request, begin, commit, rollback, ask, Call, Queued, State}
 use Rattle.rules.specs.Locks.{inUse, wanted, Want}
 use Rattle.rules.specs.Runs.{Says, done, found, nothing, waiting, runsAlready, runsNot, waitsAlready, isPresent, locksShort, pagesShort, circle, Answer}
 use Rattle.rules.specs.Desk.{fresh, after, session}
-use Rattle.rules.specs.Document.{document, endless}
-
-abbrev pub D : Book
-D = document endless
+use Rattle.rules.specs.Document.{document}
 
 -- one call and what it is answered; none is number 12
 pub record Over : Type 0 where
@@ -292,22 +289,27 @@ pub record Outcome : Type 0 where
   pub answers : List (Option (List (Answer ℕ ℕ)))
   pub scene : Scene
 
-abbrev pub sceneOf : State ℕ ℕ (Unit {0}) → Scene
-sceneOf s =
-    record {
-      waiters = map (λ (q : Queued ℕ ℕ). record { asker = q .asker; name = (wanted D (s .entries) q) .name }) (s .queue);
-      locks = inUse (s .slots);
-      entries = s .entries;
-    }
+-- whatever keeps the pages
+module _ (P : Paging ℕ) where
+  abbrev pub sceneOf : State ℕ ℕ (P .Pages) → Scene
+  sceneOf s =
+      record {
+        waiters = map (λ (q : Queued ℕ ℕ). record { asker = q .asker; name = (wanted (document P) (s .entries) q) .name }) (s .queue);
+        locks = inUse (s .slots);
+        entries = s .entries;
+      }
 
-unfoldable pub played : Case → Outcome
-played c =
-    let calls = map (λ (o : Over). o .bowled) (c .overs) in
-    record { answers = session D (fresh D) calls; scene = sceneOf (after D (fresh D) calls) }
+  unfoldable pub played : Case → Outcome
+  played c =
+      let calls = map (λ (o : Over). o .bowled) (c .overs) in
+      record {
+        answers = session (document P) (fresh (document P)) calls;
+        scene = sceneOf (after (document P) (fresh (document P)) calls);
+      }
 
 unfoldable pub stated : Case → Outcome
 stated c = record { answers = map (λ (o : Over). o .answered) (c .overs); scene = c .scene }
 
 -- the one claim
-abbrev pub AllHold : Type 0
-AllHold = map played cases ≡ map stated cases
+abbrev pub AllHold : Paging ℕ → Type 0
+AllHold P = map (played P) cases ≡ map stated cases

@@ -21,7 +21,7 @@ use Rattle.tables.proofs.Values.{same-name}
 use Rattle.tables.proofs.Holders.{holders-none}
 use Rattle.tables.proofs.Takes.{holds-is}
 use Rattle.index.specs.Pictures.{entriesIn}
-use Rattle.whole.specs.States.{book}
+use Rattle.desks.specs.States.{book}
 use Rattle.waits.specs.declared.Want.{Want}
 use Rattle.waits.specs.Choices.{bookWant}
 use Rattle.waits.specs.Blocks.{ahead, blockersAt, isRival, isBehind}

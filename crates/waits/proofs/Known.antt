@@ -22,7 +22,7 @@ use Rattle.trees.specs.Shapes.{treePaging}
 use Rattle.tables.specs.Layout.{transactionsMost, locksMost, queued, inPlace, slotAt, slotsOf}
 use Rattle.tables.proofs.Order.{InOrder, in-order}
 use Rattle.index.specs.Pictures.{entriesIn}
-use Rattle.whole.specs.States.{book, stateOf}
+use Rattle.desks.specs.States.{book, stateOf}
 use Rattle.whole.specs.Whole.{Whole}
 use Rattle.waits.specs.Blocks.{HoldersKnown}
 

@@ -15,7 +15,7 @@ use Rattle.rules.specs.Queue.{Wait, waitsFrom, waits, oldest}
 use Rattle.tables.specs.Layout.{locksMost, queued, inPlace, queuedAt, queueOf, slotAt, slotsOf}
 use Rattle.tables.specs.Moves.{isSlotAgainst}
 use Rattle.index.specs.Pictures.{entriesIn}
-use Rattle.whole.specs.States.{book, stateOf}
+use Rattle.desks.specs.States.{book, stateOf}
 use Rattle.waits.specs.declared.Want.{Want}
 use Rattle.waits.specs.declared.Place.{Place}
 use Rattle.waits.specs.declared.Place.the-variants.{At, Nowhere}

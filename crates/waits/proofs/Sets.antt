@@ -21,7 +21,7 @@ use Rattle.tables.specs.Layout.{transactionsMost, locksMost, queued, inPlace, q
 use Rattle.tables.specs.Moves.{isSlotAgainst, heldIn}
 use Rattle.tables.proofs.Holders as H
 use Rattle.index.specs.Pictures.{entriesIn}
-use Rattle.whole.specs.States.{book}
+use Rattle.desks.specs.States.{book}
 use Rattle.whole.specs.Whole.{Whole}
 use Rattle.circles.specs.Sets.{has, SetOf}
 use Rattle.circles.specs.Search.{withOne}

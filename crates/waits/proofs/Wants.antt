@@ -26,7 +26,7 @@ use Rattle.tables.specs.Layout.{nameIn, nameNumber, bookMode, askAt, inPlace, q
 use Rattle.index.specs.declared.Found.{Found}
 use Rattle.index.specs.declared.Found.the-variants.{Here}
 use Rattle.index.specs.Searches.{seeks, bookFound}
-use Rattle.whole.specs.States.{book}
+use Rattle.desks.specs.States.{book}
 use Rattle.waits.specs.declared.Want.{Want}
 use Rattle.waits.specs.Choices.{bookWant}
 

@@ -13,7 +13,7 @@ use Rattle.rules.specs.Queue.{waits}
 use Rattle.tables.specs.Layout.{transactionsMost, locksMost, queuedAt, slotAt, slotsOf}
 use Rattle.tables.specs.Moves.{isSlotAgainst}
 use Rattle.index.specs.Pictures.{entriesIn}
-use Rattle.whole.specs.States.{book, stateOf}
+use Rattle.desks.specs.States.{book, stateOf}
 use Rattle.circles.specs.Sets.{RowOf}
 use Rattle.circles.specs.Search.{withOne}
 

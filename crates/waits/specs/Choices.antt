@@ -7,7 +7,7 @@ use Rattle.rules.specs.Kinds.{Queued}
 use Rattle.rules.specs.Locks as K
 use Rattle.rules.specs.Queue.{Wait, oldest, newest}
 use Rattle.tables.specs.Layout.{queued, queuedAt, nameIn, bookMode}
-use Rattle.whole.specs.States.{book, stateOf}
+use Rattle.desks.specs.States.{book, stateOf}
 use Rattle.waits.specs.declared.Want.{Want}
 use Rattle.waits.specs.declared.Place.{Place}
 use Rattle.waits.specs.declared.Place.the-variants.{At, Nowhere}

@@ -4,7 +4,7 @@ ghost use Prim.Native.Nat.{_<_, _≤_};
 ghost use Rattle.rules.specs.Locks.{holders, earlier};
 ghost use Rattle.tables.specs.Layout.{deskSize, locksMost, queued, queuedAt, slotAt, slotsOf};
 ghost use Rattle.index.specs.Pictures.{entriesIn};
-ghost use Rattle.whole.specs.States.{book};
+ghost use Rattle.desks.specs.States.{book};
 ghost use Rattle.whole.specs.Whole.{Whole};
 ghost use Rattle.circles.specs.Sets.{SetOf};
 ghost use Rattle.waits.specs.Choices.{bookWant, NewestAt};

@@ -22,7 +22,7 @@ use Rattle.pages.proofs.Splices.{part-append}
 use Rattle.rules.specs.Kinds.{Lock, Queued, idle}
 use Rattle.tables.specs.Layout.{headWidths, recordWidths, recordAt, lockWidths, lockPlace, slotFields, slotAt, slotsOf, queued, inPlace, queuedAt, queueOf, marksOf}
 use Rattle.whole_pages.proofs.Layouts.{zero-at, bytes-zero}
-use Rattle.whole.specs.States.{written, waitingFields, markNumber, recordOf, deskWith}
+use Rattle.desks.specs.States.{written, waitingFields, markNumber, recordOf, deskWith}
 
 pub length-written : (ws vs : List ℕ) → length (written ws vs) ≡ widthOf ws
 length-written ws vs = length-putFields ws (replicate (widthOf ws) 0) 0 vs ∙ length-replicate (widthOf ws) 0

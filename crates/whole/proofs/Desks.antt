@@ -33,7 +33,7 @@ use Rattle.whole_pages.proofs.Tabs.{in-tab, tab-in, all-of-tab}
 use Rattle.whole_pages.proofs.Bits.{bit, bit-is}
 use Rattle.whole_pages.proofs.Marks.{marks-went, marks-used, marks-go}
 use Rattle.whole_pages.proofs.Pages.{one-at, one-past}
-use Rattle.whole.specs.States.{book, deskWith}
+use Rattle.desks.specs.States.{book, deskWith}
 use Rattle.whole.specs.Checks.{headOk, askersIn, listed, recordOk, recordsOk, slotOk, deskOk}
 use Rattle.whole.proofs.DeskBytes.{desk-laid, laid-desk}
 use Rattle.whole.proofs.Slots.{use-in, slot-back-at, slot-there-at, slot-fits, slots-run}

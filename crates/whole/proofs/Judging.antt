@@ -35,7 +35,7 @@ use Rattle.whole_pages.proofs.Entries.{Rests}
 use Rattle.whole_pages.proofs.Leaves.{is-under}
 use Rattle.whole_pages.proofs.Trees.{kid}
 use Rattle.whole_pages.proofs.Pages.{PagesFacts, pages-sound, pages-complete}
-use Rattle.whole.specs.States.{book, stateOf, deskWith}
+use Rattle.desks.specs.States.{book, stateOf, deskWith}
 use Rattle.whole.specs.Whole.{Whole, Judged}
 use Rattle.whole.specs.Checks.{slotTogether, slotHolds, entryHeld, hasKey, findAt, ownersAt, named, slotNamed, deskOk, locksOk, wholeOk}
 use Rattle.whole.proofs.Slots.{in-use, use-in}

@@ -22,7 +22,7 @@ use Rattle.rules.specs.Document.{document, endless}
 use Rattle.tables.specs.Layout.{recordPlace, recordWidths, recordAt, markIn, isRunning, isWaiting, askBy, askIn, askAt, askFields, queued, inPlace, queueOf, marksOf}
 use Rattle.tables.proofs.Back.{isAsk, ask-back}
 use Rattle.tables.proofs.Marks.{length-marks}
-use Rattle.whole.specs.States.{waitingFields, markNumber}
+use Rattle.desks.specs.States.{waitingFields, markNumber}
 use Rattle.whole.specs.Checks.{formOk, plainOk, listed, recordOk}
 use Rattle.whole.proofs.Askers.{first-none, first-own}
 

@@ -23,7 +23,7 @@ use Rattle.index.specs.Pictures.{Item, keyOf, pageAt, treeOf, indexOf, entriesI
 use Rattle.tables.specs.Layout.{slotsOf, queueOf, marksOf}
 use Rattle.whole_pages.proofs.Marks.{reached}
 use Rattle.whole_pages.proofs.Trees.{kid, times-reached}
-use Rattle.whole.specs.States.{stateOf}
+use Rattle.desks.specs.States.{stateOf}
 use Rattle.whole.specs.Whole.{Whole}
 
 -- ---- a tree tells its pages

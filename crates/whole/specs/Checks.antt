@@ -20,7 +20,7 @@ use Rattle.index.specs.Pictures.{pageAt}
 use Rattle.whole_pages.specs.declared.Trail.{Trail}
 use Rattle.whole_pages.specs.declared.Trail.the-variants.{Went, Bad}
 use Rattle.whole_pages.specs.Walks.{marks, spanOf, treeOk, pagesOk}
-use Rattle.whole.specs.States.{book}
+use Rattle.desks.specs.States.{book}
 
 -- the head: length, kind, count, the 26 zeros, and nothing in the places of the queue that are not used
 unfoldable pub headOk : List ℕ → Bool

@@ -1,3 +1,2 @@
-pub mod States
 pub mod Whole
 pub mod Checks

@@ -7,7 +7,7 @@ use Rattle.lists.specs.Lists.{any, tab}
 use Rattle.rules.specs.Queue.{oldest}
 use Rattle.tables.specs.Layout.{slotAt, slotsOf}
 use Rattle.tables.specs.Moves.{isSlotAgainst}
-use Rattle.whole.specs.States.{book, stateOf}
+use Rattle.desks.specs.States.{book, stateOf}
 use Rattle.waits.specs.declared.Place.the-variants.{Nowhere}
 use Rattle.waits.specs.Choices.{bookWant}
 use Rattle.waits.proofs.Known.{place-under}

@@ -5,7 +5,7 @@ use Prim.Native.Nat.{_≤_, _-_}
 use Rattle.lists.specs.Lists.{tab}
 use Rattle.rules.specs.Locks.{holders}
 use Rattle.tables.specs.Layout.{slotAt}
-use Rattle.whole.specs.States.{book}
+use Rattle.desks.specs.States.{book}
 use Rattle.circles.specs.Sets.{SetOf}
 use Rattle.waits.specs.Choices.{bookWant}
 use Rattle.waits.proofs.Sets.{holders-start, holders-turn, holders-end}

@@ -4,7 +4,7 @@ use borrow.Author.Needs.{needs}
 use Prim.Native.Nat.{_≤_, _-_}
 use Rattle.rules.specs.Locks.{earlier}
 use Rattle.index.specs.Pictures.{entriesIn}
-use Rattle.whole.specs.States.{book}
+use Rattle.desks.specs.States.{book}
 use Rattle.circles.specs.Sets.{SetOf}
 use Rattle.waits.specs.Choices.{bookWant}
 use Rattle.waits.specs.Blocks.{ahead}

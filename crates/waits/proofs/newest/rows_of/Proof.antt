@@ -4,7 +4,7 @@ use borrow.Author.Needs.{needs}
 use Prim.Native.Nat.{_≤_, _-_}
 use mathlib.Core.Path.{_≡_}
 use lib.ListN.{length}
-use Rattle.whole.specs.States.{book}
+use Rattle.desks.specs.States.{book}
 use Rattle.circles.specs.Sets.{RowOf}
 use Rattle.waits.proofs.Known.{place-under, asker-under}
 use Rattle.waits.proofs.Rows.{waitsTo, rows-start, rows-turn, rows-end}
