@@ -4,7 +4,7 @@ use Prim.Native.Nat.{ℕ, _*_, _≤_}
 use mathlib.Core.Path.{_≡_, refl, sym, ap, ap₂, subst, _∙_}
 use mathlib.Core.Logic.{inl, inr}
 use mathlib.Core.Bool.{Bool, true, false, cond}
-use mathlib.Core.List.{List, [], _∷_}
+use mathlib.Core.List.{List, _∷_}
 use mathlib.Core.Option.{Option, none, some, Option·none-ne-some}
 use native.Mathlib.Omega.{arith}
 use lib.ListN.{length}
@@ -19,7 +19,7 @@ use Rattle.entries.specs.Records.{heard}
 use Rattle.entries.proofs.Number12.{heard-legal}
 use Rattle.desks.specs.States.{book, stateOf}
 use Rattle.whole.specs.Whole.{Whole}
-use Rattle.desk.specs.Promise.{Lent, Served, wrongSizes, shortSpace, returned}
+use Rattle.desk.specs.Promise.{Lent, Served, Freshened, wrongSizes, shortSpace, returned}
 use Rattle.desk.specs.Calls.{Sent, Back, lent, Runs, FromFresh, callIn, with, callsIn, refuses, backIf, backOf, onward, backsFrom}
 use Rattle.desk.proofs.Determined.{Refused, Granted, served-ten, served-twelve, served-good}
 
@@ -101,6 +101,11 @@ run-back {p} {d} w (Runs.next {p₁ = p₁} {d₁ = d₁} {a = a} {b = b} {as′
       more .1,
       more .2 ∙ ap (λ s. after book s (callsIn as′)) (one .2) ∙ sym (after-with (stateOf p d) (callIn a) (callsIn as′) (call-legal a)),
     )
+
+-- a picture that the other call has made is where a run from fresh begins
+pub made-fresh : {p d p₁ d₁ p′ d′ : List ℕ} {as′ : List Sent} {bs : List Back} → Freshened p d p₁ d₁ 0 → Runs p₁ d₁ as′ bs p′ d′ → FromFresh as′ bs p′ d′
+made-fresh (Freshened.sizes v a b n) r = absurd (omega arith)
+made-fresh {p₁ = p₁} {d₁ = d₁} (Freshened.made v w s n) r = record { pages = p₁; desk = d₁; whole = w; state = s; runs = r }
 
 pub run-from-fresh : {p d : List ℕ} {as′ : List Sent} {bs : List Back} → FromFresh as′ bs p d
     → (bs ≡ backsFrom (fresh book) as′) × Whole p d × (stateOf p d ≡ after book (fresh book) (callsIn as′))
