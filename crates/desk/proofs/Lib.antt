@@ -1,2 +1,5 @@
 pub mod Determined
 pub mod Runs
+pub mod Table
+pub mod Overs
+pub mod Idle

@@ -71,7 +71,7 @@ module _ (p d p′ d′ : List ℕ) (a : Sent) (b : Back) (w : Whole p d) where
       go false (some c) e k = granted-back c (served-good (a .request) lentThen leftNow (b .result) c (sizes ∙ e) w k h)
 
 -- ---- a run of calls
-call-legal : (a : Sent) (c : Call ℕ ℕ) → callIn a ≡ some c → legalCall book c ≡ true
+pub call-legal : (a : Sent) (c : Call ℕ ℕ) → callIn a ≡ some c → legalCall book c ≡ true
 unfolding callIn
 call-legal a c = go (shortSpace (a .space))
   where
@@ -84,7 +84,7 @@ pub legal-called : (s : St book) (c : Call ℕ ℕ) → legalCall book c ≡ tru
 unfolding call
 legal-called s c l = rw l
 
-after-with : (s : St book) (o : Option (Call ℕ ℕ)) (cs : List (Call ℕ ℕ)) → ((c : Call ℕ ℕ) → o ≡ some c → legalCall book c ≡ true)
+pub after-with : (s : St book) (o : Option (Call ℕ ℕ)) (cs : List (Call ℕ ℕ)) → ((c : Call ℕ ℕ) → o ≡ some c → legalCall book c ≡ true)
     → after book s (with o cs) ≡ after book (onward s o) cs
 unfolding after
 after-with s none cs l = refl
