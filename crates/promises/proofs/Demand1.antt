@@ -43,7 +43,7 @@ module _ (q : List ℕ) (x y : Lent) (r : ℕ) where
   twelve-cause (Served.good c m v f h a n) k = absurd (omega (arith, good-small c m f h a n))
 
   -- and without a cause it is answered
-  pub no-refusal : Served q x y r → wrongSizes x ≡ false → Whole (x .pages) (x .desk) → (heard q ≡ none → ⊥) → r ≤ 320
+  no-refusal : Served q x y r → wrongSizes x ≡ false → Whole (x .pages) (x .desk) → (heard q ≡ none → ⊥) → r ≤ 320
   no-refusal (Served.sizes v e n) w g k = absurd (true≢false (sym v ∙ w))
   no-refusal (Served.broken v f e n) w g k = absurd (f g)
   no-refusal (Served.bad v f h e n) w g k = absurd (k h)
@@ -108,6 +108,7 @@ module _ (q : List ℕ) (x y : Lent) (r : ℕ) where
         tenCause = ten-cause s;
         elevenCause = eleven-cause s;
         twelveCause = twelve-cause s;
+        answered = λ v w h. omega (arith, no-refusal s v w h);
         refused = unchanged o;
         most = most-bytes o;
         beyond = bytes-beyond o;

@@ -20,6 +20,8 @@ pub record Demand1 (q : List ℕ) (x y : Lent) (r : ℕ) : Type 0 where
   pub tenCause : r ≡ returned 10 0 → wrongSizes x ≡ true
   pub elevenCause : r ≡ returned 11 0 → (wrongSizes x ≡ false) × (Whole (x .pages) (x .desk) → ⊥)
   pub twelveCause : r ≡ returned 12 0 → (wrongSizes x ≡ false) × Whole (x .pages) (x .desk) × (heard q ≡ none)
+  -- where none of them holds, the request is answered
+  pub answered : wrongSizes x ≡ false → Whole (x .pages) (x .desk) → (heard q ≡ none → ⊥) → r < 4294967296
   -- a refusal changes nothing
   pub refused : 4294967296 ≤ r → y ≡ x
   -- otherwise r is the number of answer bytes, and those beyond keep their values
