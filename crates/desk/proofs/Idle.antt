@@ -1,15 +1,15 @@
 -- The idle desks are shut out: each breaks the promise at some call on a picture that was fresh. What a desk that keeps the promise gives
 -- back there is the rule book's, by the laws of runs, and that is computed. Assumes nothing.
-use Prim.Native.Nat.{ℕ, _*_}
+use Prim.Native.Nat.{ℕ}
 use mathlib.Core.Path.{_≡_, refl, sym, ap, ap₂, _∙_}
-use mathlib.Core.Bool.{true, false, true≢false, false≢true}
+use mathlib.Core.Bool.{true, false, true≢false}
 use mathlib.Core.List.{List, [], _∷_}
 use mathlib.Core.Option.{some}
 use native.Mathlib.Omega.{arith}
-use lib.ListN.{getD, length, replicate}
+use lib.ListN.{getD, replicate}
 use Rattle.lists.specs.Lists as L
 use Rattle.numbers.specs.Numbers as N
-use Rattle.rules.specs.Kinds.{read, insert, Request, begin, commit, ask, Call, idle}
+use Rattle.rules.specs.Kinds.{read, insert, Request, begin, commit, ask, Call}
 use Rattle.rules.specs.Entries as E
 use Rattle.rules.specs.Locks as K
 use Rattle.rules.specs.Queue as Q
@@ -17,7 +17,6 @@ use Rattle.rules.specs.Runs as R
 use Rattle.rules.specs.Desk as D
 use Rattle.trees.specs.Growth as G
 use Rattle.entries.specs.Records as W
-use Rattle.tables.specs.Layout.{queueOf}
 use Rattle.desks.specs.States.{book, stateOf}
 use Rattle.whole.specs.Whole.{Whole}
 use Rattle.whole.specs.Fresh.{freshPages, freshDesk}

@@ -1,42 +1,45 @@
 -- The table of cases on bytes: each call sent as its record to a picture that was fresh gives back what the case states, and leaves the
 -- picture that says its scene. The records are heard as their calls, by computation; what a run gives back is the rule book's, by the laws
 -- of runs; and the rule book gives what is stated, by the table over the tree of pages. Assumes nothing.
-use Prim.Native.Nat.{ℕ, compare}
+use Prim.Native.Nat.{ℕ, _≤_, compare}
 use mathlib.Core.Path.{_≡_, refl, sym, ap, ap₂, _∙_}
 use mathlib.Core.Bool.{Bool, true, false, cond, not, false≢true}
-use mathlib.Core.List.{List, [], _∷_, map}
+use mathlib.Core.List.{List, [], _∷_, _++_, map}
 use mathlib.Core.Option.{Option, none, some}
 use mathlib.Core.Logic.{inl, inr}
-use borrow.Author.Tests.{not-true}
-use lib.ListN.{getD, drop}
-use Rattle.lists.specs.Lists.{In, all, isNil}
+use native.Mathlib.Omega.{arith}
+use borrow.Author.Tests.{not-true, ltb-false, leb-true}
+use lib.Dec.{leb}
+use lib.ListN.{length, getD, drop}
+use Rattle.lists.specs.Lists.{In, all, join, isNil}
 use Rattle.lists.proofs.Tests.{and-left, and-right}
+use Rattle.lists.proofs.Elements.{all-in}
 use Rattle.numbers.specs.Numbers as N
 use Rattle.rules.specs.Kinds.{Call}
 use Rattle.rules.specs.Queue.{St}
 use Rattle.rules.specs.Runs.{Answer, Worked}
 use Rattle.rules.specs.Desk as D
 use Rattle.rules.specs.Cases as C
-use Rattle.entries.specs.Records as E
+use Rattle.entries.specs.Records as W
 use Rattle.trees.specs.Trees.{documentSizes}
 use Rattle.trees.specs.Shapes.{treePaging}
-use Rattle.desks.specs.States.{book, stateOf}
-use Rattle.whole.specs.Whole.{Whole}
+use Rattle.desks.specs.States.{book}
 use Rattle.desk.specs.Promise.{shortSpace}
-use Rattle.desk.specs.Calls.{Sent, Back, FromFresh, callIn, with, callsIn, gives, refuses, backIf, backOf, onward, backsFrom}
+use Rattle.desk.specs.Calls.{Sent, callIn, with, callsIn, refuses, backIf, backOf, onward, backsFrom, wrote, bytesOf}
 use Rattle.desk.specs.Overs as O
 use Rattle.desk.proofs.Table.{cases-hold-in-pages}
 use Rattle.desk.proofs.Runs.{run-from-fresh}
+use Rattle.desk.proofs.Bytes.{refusal-wrote, answers-wrote}
 
 -- ---- the records
 abbrev heardAs : C.Over → Option (Call ℕ ℕ)
-heardAs o = E.heard (O.requestRecord (o .bowled))
+heardAs o = W.heard (O.requestRecord (o .bowled))
 
 abbrev legally : C.Over → Option (Call ℕ ℕ)
 legally o = cond (D.legalCall book (o .bowled)) (some (o .bowled)) none
 
 pub records-heard : map (λ (c : C.Case). map heardAs (c .overs)) C.cases ≡ map (λ (c : C.Case). map legally (c .overs)) C.cases
-unfolding N.numberAt N.putNumber N.putFields N.fieldsAt E.forms E.requests E.callIn E.isBad E.heard D.legalAsk D.legalRequest O.requestRecord C.readerWaits C.nothingStaysNothing C.twoReaders C.circleAtCommit C.ghostComesBack C.lastKey C.emptyIndex C.soleHolder C.targetMoves C.joiningFrees C.presentStaysPresent C.cases N.widthOf
+unfolding N.numberAt N.putNumber N.putFields N.fieldsAt W.forms W.requests W.callIn W.isBad W.heard D.legalAsk D.legalRequest O.requestRecord C.readerWaits C.nothingStaysNothing C.twoReaders C.circleAtCommit C.ghostComesBack C.lastKey C.emptyIndex C.soleHolder C.targetMoves C.joiningFrees C.presentStaysPresent C.cases N.widthOf
 records-heard = refl
 
 -- ---- what holds of every element of a list, as an equation of two lists, holds of each
@@ -50,16 +53,16 @@ module _ (s : St book) (a : Sent) (o : C.Over) (sent : a .request ≡ O.requestR
   abbrev called : Option (Worked book)
   called = D.call book s (o .bowled)
 
-  heard-one : E.heard (a .request) ≡ legally o
-  heard-one = ap E.heard sent ∙ right
+  heard-one : W.heard (a .request) ≡ legally o
+  heard-one = ap W.heard sent ∙ right
 
   called-in : callIn a ≡ legally o
   unfolding callIn
-  called-in = ap (λ b. cond b none (E.heard (a .request))) room ∙ heard-one
+  called-in = ap (λ b. cond b none (W.heard (a .request))) room ∙ heard-one
 
   back-one : backOf s a ≡ O.statedBack (a .space) (D.answersOf book called)
   unfolding backOf D.call
-  back-one = ap (λ b. cond b (refuses (a .space) 10) (backIf s (a .space) (E.heard (a .request)))) room ∙ ap (backIf s (a .space)) heard-one
+  back-one = ap (λ b. cond b (refuses (a .space) 10) (backIf s (a .space) (W.heard (a .request)))) room ∙ ap (backIf s (a .space)) heard-one
       ∙ go (D.legalCall book (o .bowled))
     where
       go : (b : Bool) → backIf s (a .space) (cond b (some (o .bowled)) none)
@@ -127,6 +130,37 @@ calls-sent (o ∷ os) (a ∷ as′) s h r g =
     go true l = refl
     go false l = ap (λ x. D.after book x (callsIn as′)) (sym (uncalled s (o .bowled) l))
 
+-- ---- in bytes
+abbrev fewIn : C.Over → Bool
+fewIn o = leb (length (O.answersIn (o .answered))) 16
+
+back-bytes : (o : List ℕ) (x : Option (List (Answer ℕ ℕ))) → shortSpace o ≡ false → leb (length (O.answersIn x)) 16 ≡ true
+    → wrote (O.statedBack o x) ≡ join bytesOf (O.answersIn x)
+unfolding join
+back-bytes o none r f = refusal-wrote o 12 (omega arith)
+back-bytes o (some xs) r f =
+    let room : 320 ≤ length o = ltb-false (length o) 320 r in
+    let few : length xs ≤ 16 = leb-true (length xs) 16 f in answers-wrote o xs room (omega arith)
+
+backs-bytes : (os : List C.Over) (as′ : List Sent) → Sends os as′ → Roomy as′ → all fewIn os ≡ true
+    → join wrote (O.statedBacks os as′) ≡ O.statedBytes os
+unfolding O.statedBacks all join
+backs-bytes [] [] h r f = refl
+backs-bytes [] (a ∷ as′) h r f = refl
+backs-bytes (o ∷ os) [] h r f = absurd (false≢true (sym (ap isNil h)))
+backs-bytes (o ∷ os) (a ∷ as′) h r f =
+    ap₂ _++_
+    (back-bytes (a .space) (o .answered) (not-true _ (and-left (not (shortSpace (a .space))) _ r)) (and-left (fewIn o) _ f))
+    (backs-bytes os as′ (ap (drop 1) h) (and-right (not (shortSpace (a .space))) _ r) (and-right (fewIn o) _ f))
+
+cases-few : all (λ (c : C.Case). all fewIn (c .overs)) C.cases ≡ true
+unfolding all C.readerWaits C.nothingStaysNothing C.twoReaders C.circleAtCommit C.ghostComesBack C.lastKey C.emptyIndex C.soleHolder C.targetMoves C.joiningFrees C.presentStaysPresent C.cases
+cases-few = refl
+
+pub first-bytes : O.FirstBytes
+unfolding join W.putAnswer W.answerFields N.putFields N.putNumber C.readerWaits
+first-bytes = refl
+
 -- ---- the claim
 module _ (c : C.Case) (i : In c C.cases) where
   case-holds : C.played (treePaging compare 0 documentSizes) c ≡ C.stated c
@@ -139,8 +173,11 @@ pub all-hold-on-bytes : O.AllHoldOnBytes
 unfolding C.played C.stated
 all-hold-on-bytes c i as′ bs p d b =
     let r = run-from-fresh (b .run) in
+    let h = case-heard c i in
+    let e = r .0 ∙ backs-stated (c .overs) as′ (D.fresh book) (b .records) (b .room) h (ap (λ (x : C.Outcome). x .answers) (case-holds c i)) in
     record {
-      backs = r .0 ∙ backs-stated (c .overs) as′ (D.fresh book) (b .records) (b .room) (case-heard c i) (ap (λ (x : C.Outcome). x .answers) (case-holds c i));
-      scene = ap (C.sceneOf (treePaging compare 0 documentSizes)) (r .2 ∙ calls-sent (c .overs) as′ (D.fresh book) (b .records) (b .room) (case-heard c i))
+      backs = e;
+      bytes = ap (join wrote) e ∙ backs-bytes (c .overs) as′ (b .records) (b .room) (all-in _ C.cases c cases-few i);
+      scene = ap (C.sceneOf (treePaging compare 0 documentSizes)) (r .2 ∙ calls-sent (c .overs) as′ (D.fresh book) (b .records) (b .room) h)
           ∙ ap (λ (x : C.Outcome). x .scene) (case-holds c i);
     }

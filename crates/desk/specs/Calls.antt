@@ -5,15 +5,16 @@ use mathlib.Core.Path.{_≡_}
 use mathlib.Core.Bool.{cond}
 use mathlib.Core.List.{List, [], _∷_}
 use mathlib.Core.Option.{Option, none, some}
-use lib.ListN.{length}
+use lib.Dec.{ltb}
+use lib.ListN.{length, take, replicate}
 use Rattle.rules.specs.Kinds.{Call}
 use Rattle.rules.specs.Queue.{St}
-use Rattle.rules.specs.Runs.{Answer, Worked}
-use Rattle.rules.specs.Desk.{step, fresh, call, stateAfter}
-use Rattle.entries.specs.Records.{heard, written}
+use Rattle.rules.specs.Runs.{Answer}
+use Rattle.rules.specs.Desk.{step, fresh}
+use Rattle.entries.specs.Records.{heard, putAnswer, written}
 use Rattle.desks.specs.States.{book, stateOf}
 use Rattle.whole.specs.Whole.{Whole}
-use Rattle.desk.specs.Promise.{Lent, Served, Freshened, shortSpace, returned}
+use Rattle.desk.specs.Promise.{Lent, Served, shortSpace, returned}
 
 -- a call as it is sent: the request, and the space lent for its answers
 pub record Sent : Type 0 where
@@ -76,3 +77,10 @@ onward s (some c) = step book s (c .asker) (c .request) .state
 unfoldable pub backsFrom : St book → List Sent → List Back
 backsFrom s [] = []
 backsFrom s (a ∷ as′) = backOf s a ∷ backsFrom (onward s (callIn a)) as′
+
+-- the bytes that a call wrote, and those of an answer
+abbrev pub wrote : Back → List ℕ
+wrote b = cond (ltb (b .result) 4294967296) (take (b .result) (b .space)) []
+
+abbrev pub bytesOf : Answer ℕ ℕ → List ℕ
+bytesOf a = putAnswer (replicate 20 0) 0 a

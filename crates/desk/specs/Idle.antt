@@ -7,7 +7,7 @@ use mathlib.Core.List.{List, [], _∷_}
 use mathlib.Core.Option.{some}
 use lib.ListN.{length}
 use Rattle.rules.specs.Kinds.{Call}
-use Rattle.rules.specs.Runs.{Says, waiting, done}
+use Rattle.rules.specs.Runs.{Says}
 use Rattle.rules.specs.Desk.{says}
 use Rattle.entries.specs.Records.{heard, written}
 use Rattle.tables.specs.Layout.{queueOf}

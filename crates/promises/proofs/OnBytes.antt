@@ -1,68 +1,36 @@
 -- Demand 3 on bytes, proved of every run of calls from fresh: the one theorem is `demand3-on-bytes`. The run goes as the rule book says, and
 -- of that the demand is proved; the bytes that the calls wrote are the story's answers, one after the other. Assumes nothing.
-use Prim.Native.Nat.{ℕ, suc, _+_, _*_, _≤_}
+use Prim.Native.Nat.{ℕ}
 use mathlib.Core.Path.{_≡_, refl, sym, ap, ap₂, subst, _∙_}
 use mathlib.Core.Bool.{Bool, true, false, cond}
 use mathlib.Core.List.{List, [], _∷_, _++_}
 use mathlib.Core.Option.{Option, none, some}
 use native.Mathlib.Omega.{arith}
-use borrow.Author.Tests.{ltb-false, lt-ltb, le-ltb}
+use borrow.Author.Tests.{ltb-false}
 use lib.ListN.{length}
 use Rattle.lists.specs.Lists.{join, In}
 use Rattle.lists.proofs.Rows.{join-append}
-use Rattle.numbers.specs.Numbers.{widthOf, part}
-use Rattle.numbers.proofs.Parts.{part-same, part-apart}
 use Rattle.rules.specs.Kinds.{Call, Lock}
 use Rattle.rules.specs.Locks.{inUse, sameName, conflict}
 use Rattle.rules.specs.Queue.{St}
-use Rattle.rules.specs.Runs.{Answer}
 use Rattle.rules.specs.Desk.{step, stateAfter, answersOf, fresh, session}
 use Rattle.rules.specs.Good.{Good}
 use Rattle.rules.specs.Chains.{ChainsEnd}
 use Rattle.rules.proofs.Orders.{numbers-ordered}
 use Rattle.rules.proofs.GoodKept.{step-good, fresh-good}
-use Rattle.entries.specs.Records.{answerWidths, answerFields, putAnswer, written, heard}
+use Rattle.entries.specs.Records.{heard}
 use Rattle.entries.proofs.Number12.{heard-legal}
-use Rattle.entries.proofs.Answers.{length-putAnswer}
-use Rattle.entries.proofs.Written.{touches-written}
-use Rattle.pages.proofs.Splices.{part-append, put-row}
 use Rattle.desks.specs.States.{book, stateOf}
-use Rattle.desk.specs.Promise.{shortSpace, returned}
-use Rattle.desk.specs.Calls.{Sent, callIn, with, callsIn, gives, refuses, backIf, backOf, onward, backsFrom}
+use Rattle.desk.specs.Promise.{shortSpace}
+use Rattle.desk.specs.Calls.{Sent, callIn, with, callsIn, refuses, backIf, backOf, onward, backsFrom, wrote, bytesOf}
+use Rattle.desk.proofs.Bytes.{refusal-wrote, answers-wrote}
 use Rattle.desk.proofs.Runs.{legal-called, run-from-fresh, few-bytes, never-eleven}
 use Rattle.promises.specs.Story.{given, story, Seamless}
-use Rattle.promises.specs.OnBytes.{wrote, bytesOf, Demand3OnBytes}
+use Rattle.promises.specs.OnBytes.{Demand3OnBytes}
 use Rattle.promises.proofs.Faithful.{faithful}
 use Rattle.promises.proofs.Demand3.{demand3-of-document}
 
--- ---- answers written one after the other are their bytes, one after the other
-answer-bytes : (s : List ℕ) (at : ℕ) (x : Answer ℕ ℕ) → at + 20 ≤ length s → part at 20 (putAnswer s at x) ≡ bytesOf x
-unfolding putAnswer widthOf
-answer-bytes s at x h =
-    ap (part at 20) (put-row answerWidths s at (answerFields x) 20 refl h) ∙ part-same at 20 (bytesOf x) s (length-putAnswer _ 0 x) h
-
-pub written-bytes : (s : List ℕ) (at : ℕ) (xs : List (Answer ℕ ℕ)) → at + 20 * length xs ≤ length s → part at (20 * length xs) (written s at xs) ≡ join bytesOf xs
-unfolding written join part
-written-bytes s at [] h = refl
-written-bytes s at (x ∷ xs) h =
-    let l = length-putAnswer s at x in
-    let w = written (putAnswer s at x) (at + 20) xs in
-    let n : 20 * suc (length xs) ≡ 20 + 20 * length xs = omega arith in
-    ap (λ m. part at m w) n
-    ∙ part-append at 20 (20 * length xs) w
-    ∙ ap₂ (λ a b. a ++ b) (part-apart at 20 (touches-written (putAnswer s at x) (at + 20) xs) (omega arith) (omega arith) ∙ answer-bytes s at x (omega arith))
-    (written-bytes (putAnswer s at x) (at + 20) xs (omega arith))
-
 -- ---- the bytes that the calls wrote are the answers that the rule book gives
-refusal-wrote : (o : List ℕ) (number : ℕ) → 1 ≤ number → wrote (refuses o number) ≡ []
-refusal-wrote o number h = rw (le-ltb (returned number 0) 4294967296 (omega arith))
-
-answers-wrote : (o : List ℕ) (xs : List (Answer ℕ ℕ)) → 320 ≤ length o → 20 * length xs ≤ 320 → wrote (gives o xs) ≡ join bytesOf xs
-unfolding part
-answers-wrote o xs h l =
-    let n : returned 0 (20 * length xs) ≡ 20 * length xs = omega arith in
-    rw (n, lt-ltb (20 * length xs) 4294967296 (omega arith)) (written-bytes o 0 xs (omega arith))
-
 abbrev Wrote : St book → List Sent → Type 0
 Wrote s as′ = join wrote (backsFrom s as′) ≡ join bytesOf (join (given book) (session book s (callsIn as′)))
 

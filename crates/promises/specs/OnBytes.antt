@@ -2,32 +2,21 @@
 -- answer, the bytes that the calls wrote. Assumes nothing.
 use Prim.Native.Nat.{ℕ}
 use mathlib.Core.Path.{_≡_}
-use mathlib.Core.Bool.{true, false, cond}
+use mathlib.Core.Bool.{true, false}
 use mathlib.Core.List.{List, [], map}
-use lib.Dec.{ltb}
-use lib.ListN.{take, replicate}
 use Rattle.lists.specs.Lists.{In, join}
 use Rattle.rules.specs.Kinds.{Lock}
 use Rattle.rules.specs.Locks.{inUse, sameName, conflict}
-use Rattle.rules.specs.Runs.{Answer}
 use Rattle.rules.specs.Desk.{fresh, after}
 use Rattle.rules.specs.Chains.{ChainsEnd}
-use Rattle.entries.specs.Records.{putAnswer}
 use Rattle.tables.specs.Layout.{slotsOf}
 use Rattle.index.specs.Pictures.{entriesIn}
 use Rattle.desks.specs.States.{book, stateOf}
 use Rattle.whole.specs.Whole.{Whole}
 use Rattle.desk.specs.Promise.{returned}
-use Rattle.desk.specs.Calls.{Sent, Back, FromFresh, callsIn, backsFrom}
-use Rattle.promises.specs.Story.{Deed, story, answerOf, Seamless}
+use Rattle.desk.specs.Calls.{Sent, Back, FromFresh, callsIn, backsFrom, wrote, bytesOf}
+use Rattle.promises.specs.Story.{story, answerOf, Seamless}
 use Rattle.promises.specs.Demand3.{Demand3}
-
--- the bytes that a call wrote, and those of an answer
-abbrev pub wrote : Back → List ℕ
-wrote b = cond (ltb (b .result) 4294967296) (take (b .result) (b .space)) []
-
-abbrev pub bytesOf : Answer ℕ ℕ → List ℕ
-bytesOf a = putAnswer (replicate 20 0) 0 a
 
 -- what was sent, what came back, and the picture that it left
 pub record OnBytes (as′ : List Sent) (bs : List Back) (p d : List ℕ) : Type 0 where
