@@ -13,10 +13,12 @@ use Rattle.lists.proofs.Rows.{join-append}
 use Rattle.rules.specs.Kinds.{Call, Lock}
 use Rattle.rules.specs.Locks.{inUse, sameName, conflict}
 use Rattle.rules.specs.Queue.{St}
+use Rattle.rules.specs.Runs.{AtRest}
 use Rattle.rules.specs.Desk.{step, stateAfter, answersOf, fresh, session}
 use Rattle.rules.specs.Good.{Good}
 use Rattle.rules.specs.Chains.{ChainsEnd}
 use Rattle.rules.proofs.Orders.{numbers-ordered}
+use Rattle.rules.proofs.Rest.{after-rests}
 use Rattle.rules.proofs.GoodKept.{step-good, fresh-good}
 use Rattle.entries.specs.Records.{heard}
 use Rattle.entries.proofs.Number12.{heard-legal}
@@ -74,6 +76,7 @@ demand3-on-bytes as′ bs p d f =
     record {
       whole = run .1;
       state = run .2;
+      rest = subst (AtRest book) (sym (run .2)) (after-rests book cs);
       backs = run .0;
       never11 = never-eleven f;
       bytes = ap (join wrote) (run .0) ∙ calls-wrote (fresh book) (fresh-good book numbers-ordered) as′ ∙ ap (join bytesOf) (sym (faithful book cs));

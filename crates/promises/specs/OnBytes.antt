@@ -7,6 +7,7 @@ use mathlib.Core.List.{List, [], map}
 use Rattle.lists.specs.Lists.{In, join}
 use Rattle.rules.specs.Kinds.{Lock}
 use Rattle.rules.specs.Locks.{inUse, sameName, conflict}
+use Rattle.rules.specs.Runs.{AtRest}
 use Rattle.rules.specs.Desk.{fresh, after}
 use Rattle.rules.specs.Chains.{ChainsEnd}
 use Rattle.tables.specs.Layout.{slotsOf}
@@ -23,6 +24,8 @@ pub record OnBytes (as′ : List Sent) (bs : List Back) (p d : List ℕ) : Type 
   -- the picture is whole, and says what the rule book says of the calls
   pub whole : Whole p d
   pub state : stateOf p d ≡ after book (fresh book) (callsIn as′)
+  -- "at rest"
+  pub rest : AtRest book (stateOf p d)
   -- what came back is what the rule book says, and never 11
   pub backs : bs ≡ backsFrom (fresh book) as′
   pub never11 : (b : Back) → In b bs → b .result ≡ returned 11 0 → ⊥
