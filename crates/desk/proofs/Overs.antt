@@ -25,20 +25,20 @@ use Rattle.trees.specs.Trees.{documentSizes}
 use Rattle.trees.specs.Shapes.{treePaging}
 use Rattle.desks.specs.States.{book}
 use Rattle.desk.specs.Promise.{shortSpace}
-use Rattle.desk.specs.Calls.{Sent, callIn, with, callsIn, refuses, backIf, backOf, onward, backsFrom, wrote, bytesOf}
+use Rattle.desk.specs.Calls.{Sent, Back, callIn, with, callsIn, refuses, backIf, backOf, onward, backsFrom, wrote, bytesOf}
 use Rattle.desk.specs.Overs as O
 use Rattle.desk.proofs.Table.{cases-hold-in-pages}
 use Rattle.desk.proofs.Runs.{run-from-fresh}
 use Rattle.desk.proofs.Bytes.{refusal-wrote, answers-wrote}
 
 -- ---- the records
-abbrev heardAs : C.Over → Option (Call ℕ ℕ)
+abbrev pub heardAs : C.Over → Option (Call ℕ ℕ)
 heardAs o = W.heard (O.requestRecord (o .bowled))
 
-abbrev legally : C.Over → Option (Call ℕ ℕ)
+abbrev pub legally : C.Over → Option (Call ℕ ℕ)
 legally o = cond (D.legalCall book (o .bowled)) (some (o .bowled)) none
 
-pub records-heard : map (λ (c : C.Case). map heardAs (c .overs)) C.cases ≡ map (λ (c : C.Case). map legally (c .overs)) C.cases
+records-heard : map (λ (c : C.Case). map heardAs (c .overs)) C.cases ≡ map (λ (c : C.Case). map legally (c .overs)) C.cases
 unfolding N.numberAt N.putNumber N.putFields N.fieldsAt W.forms W.requests W.callIn W.isBad W.heard D.legalAsk D.legalRequest O.requestRecord C.readerWaits C.nothingStaysNothing C.twoReaders C.circleAtCommit C.ghostComesBack C.lastKey C.emptyIndex C.soleHolder C.targetMoves C.joiningFrees C.presentStaysPresent C.cases N.widthOf
 records-heard = refl
 
@@ -131,7 +131,7 @@ calls-sent (o ∷ os) (a ∷ as′) s h r g =
     go false l = ap (λ x. D.after book x (callsIn as′)) (sym (uncalled s (o .bowled) l))
 
 -- ---- in bytes
-abbrev fewIn : C.Over → Bool
+abbrev pub fewIn : C.Over → Bool
 fewIn o = leb (length (O.answersIn (o .answered))) 16
 
 back-bytes : (o : List ℕ) (x : Option (List (Answer ℕ ℕ))) → shortSpace o ≡ false → leb (length (O.answersIn x)) 16 ≡ true
@@ -161,23 +161,28 @@ pub first-bytes : O.FirstBytes
 unfolding join W.putAnswer W.answerFields N.putFields N.putNumber C.readerWaits
 first-bytes = refl
 
--- ---- the claim
-module _ (c : C.Case) (i : In c C.cases) where
-  case-holds : C.played (treePaging compare 0 documentSizes) c ≡ C.stated c
-  case-holds = map-each (C.played (treePaging compare 0 documentSizes)) C.stated C.cases c i cases-hold-in-pages
+-- ---- a case holds on bytes, if the rule book plays it as stated, its records are heard as its calls, and its answers are few
+pub record Plays (c : C.Case) : Type 0 where
+  pub holds : C.played (treePaging compare 0 documentSizes) c ≡ C.stated c
+  pub heard : map heardAs (c .overs) ≡ map legally (c .overs)
+  pub few : all fewIn (c .overs) ≡ true
 
-  case-heard : map heardAs (c .overs) ≡ map legally (c .overs)
-  case-heard = map-each (λ (c : C.Case). map heardAs (c .overs)) (λ (c : C.Case). map legally (c .overs)) C.cases c i records-heard
-
-pub all-hold-on-bytes : O.AllHoldOnBytes
+pub plays-on-bytes : (c : C.Case) → Plays c → (as′ : List Sent) (bs : List Back) (p d : List ℕ) → O.Bowled c as′ bs p d → O.Holds c as′ bs p d
 unfolding C.played C.stated
-all-hold-on-bytes c i as′ bs p d b =
+plays-on-bytes c y as′ bs p d b =
     let r = run-from-fresh (b .run) in
-    let h = case-heard c i in
-    let e = r .0 ∙ backs-stated (c .overs) as′ (D.fresh book) (b .records) (b .room) h (ap (λ (x : C.Outcome). x .answers) (case-holds c i)) in
+    let e = r .0 ∙ backs-stated (c .overs) as′ (D.fresh book) (b .records) (b .room) (y .heard) (ap (λ (x : C.Outcome). x .answers) (y .holds)) in
     record {
       backs = e;
-      bytes = ap (join wrote) e ∙ backs-bytes (c .overs) as′ (b .records) (b .room) (all-in _ C.cases c cases-few i);
-      scene = ap (C.sceneOf (treePaging compare 0 documentSizes)) (r .2 ∙ calls-sent (c .overs) as′ (D.fresh book) (b .records) (b .room) h)
-          ∙ ap (λ (x : C.Outcome). x .scene) (case-holds c i);
+      bytes = ap (join wrote) e ∙ backs-bytes (c .overs) as′ (b .records) (b .room) (y .few);
+      scene = ap (C.sceneOf (treePaging compare 0 documentSizes)) (r .2 ∙ calls-sent (c .overs) as′ (D.fresh book) (b .records) (b .room) (y .heard))
+          ∙ ap (λ (x : C.Outcome). x .scene) (y .holds);
     }
+
+-- ---- the claim
+pub all-hold-on-bytes : O.AllHoldOnBytes
+all-hold-on-bytes c i = plays-on-bytes c (record {
+  holds = map-each (C.played (treePaging compare 0 documentSizes)) C.stated C.cases c i cases-hold-in-pages;
+  heard = map-each (λ (c : C.Case). map heardAs (c .overs)) (λ (c : C.Case). map legally (c .overs)) C.cases c i records-heard;
+  few = all-in _ C.cases c cases-few i;
+})
