@@ -122,12 +122,16 @@ fn locked(held: &Option<Held>) -> String {
         .map_or(String::new(), |held| format!("{} by {}", held.mode, numbers(&held.holders)))
 }
 
+/// Those who wait at a name; what they ask stands with the transactions.
 fn waiting_here(standing: &Standing, name: Key) -> String {
-    let here = waiters(standing, name);
-    let words = here.iter().map(|(waiting, target)| {
-        format!("<- {} waits for {} ({})", waiting.transaction, target.mode, waiting.asks)
-    });
-    words.collect::<Vec<String>>().join("  ")
+    let mut here: Vec<u16> =
+        waiters(standing, name).iter().map(|(waiting, _)| waiting.transaction).collect();
+    here.sort();
+    match here.len() {
+        0 => String::new(),
+        1 => format!("<- {} waits", here[0]),
+        _ => format!("<- {} wait", numbers(&here)),
+    }
 }
 
 /// Who holds what. Locks of one holder and mode that lie side by side are said together: they cover
