@@ -1,9 +1,10 @@
-//! What a drawing says of the index, row by row: an entry with its state, who holds it and who waits
-//! at it. In a large index entries that look alike stand together in one row.
+//! What both drawings say. Of the index, row by row: an entry with its state, who holds it and who
+//! waits at it; in a large index entries that look alike stand together in one row. And the words for
+//! how large things are and what a waiting request wants.
 
 use crate::behind::{Target, target};
 use crate::keys::Key;
-use crate::picture::{Entry, Mode, Standing, Waiting};
+use crate::picture::{Entry, LOCK_COUNT, Mode, PAGE_COUNT, Standing, Waiting};
 
 /// The place in a session that is drawn.
 pub struct Place<'a> {
@@ -16,10 +17,9 @@ pub struct Place<'a> {
 impl Place<'_> {
     /// The place in words.
     pub fn title(&self) -> String {
-        let name = self.name;
         match self.played {
-            None => format!("Before the first request of {name}"),
-            Some((line, text)) => format!("After line {line} of {name}: {text}"),
+            None => "Before the first request".to_string(),
+            Some((line, text)) => format!("After line {line}: {text}"),
         }
     }
 }
@@ -120,6 +120,25 @@ pub fn numbers(ascending: &[u16]) -> String {
         _ => format!("{}-{}", run[0], run[run.len() - 1]),
     };
     runs.map(run).collect::<Vec<String>>().join(", ")
+}
+
+/// How large the index is.
+pub fn size(standing: &Standing) -> String {
+    let entries = counted(standing.entries().len(), "entry", "entries");
+    let levels = counted(usize::from(standing.height), "level", "levels");
+    format!("{entries}, {levels}, {} of {PAGE_COUNT} pages used", standing.used)
+}
+
+/// How many locks are in use.
+pub fn locks_in_use(standing: &Standing) -> String {
+    format!("{} of {LOCK_COUNT} locks in use", standing.locks.len())
+}
+
+/// What a waiting request wants.
+pub fn wants(standing: &Standing, waiting: &Waiting) -> String {
+    let Target { name, mode, instant } = target(standing, waiting);
+    let instant = if instant { " for the instant" } else { "" };
+    format!("wants {mode} on {}{instant}", standing.name(name))
 }
 
 /// A count with its noun.

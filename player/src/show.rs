@@ -1,28 +1,23 @@
 //! Where things stand, drawn as text: the tree of pages with its entries, who holds which lock on
 //! what, who waits behind whom.
 
-use crate::behind::{Target, behind, target};
+use crate::behind::behind;
 use crate::keys::Key;
-use crate::picture::{
-    Entry, Holds, INNER_FULL, LEAF_FULL, LOCK_COUNT, Lock, PAGE_COUNT, Page, Standing, Waiting,
+use crate::picture::{Entry, Holds, INNER_FULL, LEAF_FULL, Lock, Page, Standing, Waiting};
+use crate::rows::{
+    Held, Place, Row, State, counted, held, locks_in_use, numbers, rows, size, waiters, wants,
 };
-use crate::rows::{Held, Place, Row, State, counted, held, numbers, rows, waiters};
 
 /// The drawing, with the place in the session as its title.
 pub fn show(standing: &Standing, place: &Place) -> String {
-    let mut lines = vec![place.title(), String::new(), index(standing)];
+    let mut lines = vec![place.title(), format!("{}: {}", place.name, size(standing))];
+    lines.push(String::new());
     tree(standing, &standing.root, Key::LOWEST, 0, &mut lines);
     lines.push(String::new());
     locks(standing, &mut lines);
     lines.push(String::new());
     transactions(standing, &mut lines);
     lines.iter().map(|line| format!("{}\n", line.trim_end())).collect()
-}
-
-fn index(standing: &Standing) -> String {
-    let entries = counted(standing.entries().len(), "entry", "entries");
-    let levels = counted(usize::from(standing.height), "level", "levels");
-    format!("Index: {entries}, {levels}, {} of {PAGE_COUNT} pages used", standing.used)
 }
 
 /// A page and everything below it, each level further in. `low` is where the page's range starts.
@@ -137,8 +132,8 @@ fn waiting_here(standing: &Standing, name: Key) -> String {
 /// Who holds what. Locks of one holder and mode that lie side by side are said together: they cover
 /// one range.
 fn locks(standing: &Standing, lines: &mut Vec<String>) {
-    let count = standing.locks.len();
-    lines.push(format!("Locks: {count} of {LOCK_COUNT} in use, each with the gap below its key"));
+    let in_use = locks_in_use(standing);
+    lines.push(format!("{in_use}, each covers its key and the gap below it"));
     let names: Vec<Key> =
         standing.entries().iter().map(|entry| entry.key).chain([Key::END]).collect();
     let place = |lock: &Lock| names.iter().position(|name| *name == lock.name);
@@ -167,7 +162,7 @@ fn lock_run(standing: &Standing, run: &[Lock]) -> String {
 fn transactions(standing: &Standing, lines: &mut Vec<String>) {
     let running = counted(standing.running.len(), "transaction runs", "transactions run");
     let waiting = counted(standing.queue.len(), "waits", "wait");
-    lines.push(format!("Transactions: {running}, {waiting}"));
+    lines.push(format!("{running}, {waiting}"));
     for transaction in &standing.running {
         let queued = standing.queue.iter().find(|waiting| waiting.transaction == *transaction);
         lines.push(match queued {
@@ -179,8 +174,6 @@ fn transactions(standing: &Standing, lines: &mut Vec<String>) {
 
 /// Behind whom a request waits, and for what.
 fn wait(standing: &Standing, waiting: &Waiting) -> String {
-    let behind = numbers(&behind(standing, waiting));
-    let Target { name, mode, instant } = target(standing, waiting);
-    let instant = if instant { " for the instant" } else { "" };
-    format!("behind {behind}: {} wants {mode} on {}{instant}", waiting.asks, standing.name(name))
+    let (behind, asks) = (numbers(&behind(standing, waiting)), waiting.asks);
+    format!("behind {behind}: {asks} {}", wants(standing, waiting))
 }

@@ -55,7 +55,8 @@ pub enum Slip {
     NothingAsked,
     UnknownRequest(String),
     NoRange,
-    NoKey(&'static str),
+    NoKeyToInsert,
+    NoKeyToDelete,
     NoRecord,
     BadKey(String),
     BadRecord(String),
@@ -74,10 +75,10 @@ impl fmt::Display for Slip {
             Slip::NothingAsked => write!(to, "a request is missing: {REQUESTS}"),
             Slip::UnknownRequest(text) => write!(to, "'{text}' is no request: {REQUESTS}"),
             Slip::NoRange => write!(to, "a read names its range, as in: 1 read 50..150"),
-            Slip::NoKey("insert") => {
+            Slip::NoKeyToInsert => {
                 write!(to, "an insert names its key and record, as in: 2 insert 100 record 7")
             }
-            Slip::NoKey(_) => write!(to, "a delete names its key, as in: 2 delete 100"),
+            Slip::NoKeyToDelete => write!(to, "a delete names its key, as in: 2 delete 100"),
             Slip::NoRecord => {
                 write!(to, "an insert names its record, as in: 2 insert 100 record 7")
             }
@@ -147,7 +148,7 @@ fn read(rest: &str) -> Result<Asks, Slip> {
 fn insert(rest: &str) -> Result<Asks, Slip> {
     let (named, rest) = first_word(rest);
     if named.is_empty() {
-        return Err(Slip::NoKey("insert"));
+        return Err(Slip::NoKeyToInsert);
     }
     let key = key(named)?;
     let (word, rest) = first_word(rest);
@@ -163,7 +164,7 @@ fn insert(rest: &str) -> Result<Asks, Slip> {
 fn delete(rest: &str) -> Result<Asks, Slip> {
     let (named, rest) = first_word(rest);
     if named.is_empty() {
-        return Err(Slip::NoKey("delete"));
+        return Err(Slip::NoKeyToDelete);
     }
     ended(Asks::Delete { key: key(named)? }, rest)
 }

@@ -27,9 +27,10 @@ fn wants(name: u64, mode: Mode, instant: bool) -> Target {
 
 #[test]
 fn a_read_waits_for_s_behind_the_holder_of_x() {
-    let expected = (2, wants(20, Mode::S, false), vec![1]);
-    assert_eq!(waits("1 delete 20\n2 read 11..15"), [expected.clone()]);
-    assert_eq!(waits("1 delete 20\n2 read 11..25"), [expected]);
+    for read in ["read 11..15", "read 11..25"] {
+        let expected = (2, wants(20, Mode::S, false), vec![1]);
+        assert_eq!(waits(&format!("1 delete 20\n2 {read}")), [expected]);
+    }
 }
 
 #[test]

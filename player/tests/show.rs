@@ -28,15 +28,15 @@ fn settled(keys: &[u64]) -> String {
 #[test]
 fn a_fresh_desk() {
     let expected = "\
-Before the first request of the test
+Before the first request
+the test: 0 entries, 1 level, 2 of 64 pages used
 
-Index: 0 entries, 1 level, 2 of 64 pages used
 page 1, leaf, from the start: 0 of 24 entries
     end
 
-Locks: 0 of 256 in use, each with the gap below its key
+0 of 256 locks in use, each covers its key and the gap below it
 
-Transactions: 0 transactions run, 0 wait
+0 transactions run, 0 wait
 ";
     assert_eq!(drawn(""), expected);
 }
@@ -46,19 +46,19 @@ fn the_story_while_the_enrolment_waits() {
     let story = include_str!("../../examples/namesake.txt");
     let lines: Vec<&str> = story.lines().take(23).collect();
     let expected = "\
-After line 23 of the test: 2 insert 7/3 record 104
+After line 23: 2 insert 7/3 record 104
+the test: 3 entries, 1 level, 2 of 64 pages used
 
-Index: 3 entries, 1 level, 2 of 64 pages used
 page 1, leaf, from the start: 3 of 24 entries
     7/1  record 101  settled  S by 1
     7/2  record 102  settled  S by 1
     9/1  record 103  settled  S by 1  <- 2 waits
     end
 
-Locks: 3 of 256 in use, each with the gap below its key
+3 of 256 locks in use, each covers its key and the gap below it
     1 holds S on 7/1 to 9/1 (3 locks), covering 0/0 to 9/1
 
-Transactions: 2 transactions run, 1 waits
+2 transactions run, 1 waits
     1 runs
     2 waits behind 1: insert 7/3 record 104 wants X on 9/1 for the instant
 ";
@@ -71,9 +71,9 @@ fn a_chain_of_waits_with_a_ghost() {
     let asked = "1 begin\n2 begin\n3 begin\n1 delete 20\n2 read 50..50\n3 read 30..30\n\
                  2 insert 15 record 8\n3 delete 50";
     let expected = "\
-After line 14 of the test: 3 delete 50
+After line 14: 3 delete 50
+the test: 4 entries, 1 level, 2 of 64 pages used
 
-Index: 4 entries, 1 level, 2 of 64 pages used
 page 1, leaf, from the start: 4 of 24 entries
     10   record 1  settled
     20   absent    ghost of 1, before: record 2  X by 1  <- 2 waits
@@ -81,12 +81,12 @@ page 1, leaf, from the start: 4 of 24 entries
     50   record 5  settled                       S by 2  <- 3 waits
     end
 
-Locks: 3 of 256 in use, each with the gap below its key
+3 of 256 locks in use, each covers its key and the gap below it
     1 holds X on 20, covering 11 to 20
     2 holds S on 50, covering 31 to 50
     3 holds S on 30, covering 21 to 30
 
-Transactions: 3 transactions run, 2 wait
+3 transactions run, 2 wait
     1 runs
     2 waits behind 1: insert 15 record 8 wants X on 20 for the instant
     3 waits behind 2: delete 50 wants X on 50
@@ -109,13 +109,13 @@ page 1, leaf, from the start: 5 of 24 entries
     30   absent    ghost of 1, before: record 3  X by 1
     end                                          S by 1
 
-Locks: 7 of 256 in use, each with the gap below its key
+7 of 256 locks in use, each covers its key and the gap below it
     1 holds S on 10, covering 0 to 10
     1 holds X on 20 to 30 (4 locks), covering 11 to 30
     1 holds S on the end, covering 31 to the end
     2 holds S on 10, covering 0 to 10
 
-Transactions: 2 transactions run, 1 waits
+2 transactions run, 1 waits
     1 runs
     2 waits behind 1: insert 5 record 1 wants X on 10 for the instant
 ";
@@ -135,7 +135,7 @@ fn a_split() {
         "  page 2, leaf, from 14: 12 of 24 entries",
     ];
     assert_eq!(pages, expected);
-    assert!(drawn.contains("Index: 25 entries, 2 levels, 4 of 64 pages used\n"));
+    assert!(drawn.contains("the test: 25 entries, 2 levels, 4 of 64 pages used\n"));
     assert!(drawn.contains("      13  record 13  settled\n  page 2"));
     assert!(drawn.contains("      25   record 25  settled\n      end\n"));
 }

@@ -122,8 +122,8 @@ fn a_read_without_its_range() {
 
 #[test]
 fn an_insert_or_a_delete_without_its_key_or_record() {
-    assert_eq!(slip("1 insert"), Slip::NoKey("insert"));
-    assert_eq!(slip("1 delete"), Slip::NoKey("delete"));
+    assert_eq!(slip("1 insert"), Slip::NoKeyToInsert);
+    assert_eq!(slip("1 delete"), Slip::NoKeyToDelete);
     for line in ["1 insert 100", "1 insert 100 record", "1 insert 100 7", "1 insert 100 with 7"] {
         assert_eq!(slip(line), Slip::NoRecord, "{line}");
     }

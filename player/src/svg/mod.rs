@@ -7,8 +7,8 @@ mod legend;
 mod transactions;
 mod tree;
 
-use crate::picture::{LOCK_COUNT, PAGE_COUNT, Standing};
-use crate::rows::{Place, counted};
+use crate::picture::Standing;
+use crate::rows::{Place, locks_in_use, size};
 use canvas::Canvas;
 
 const LEFT: i32 = 24;
@@ -23,25 +23,10 @@ pub fn svg(standing: &Standing, place: &Place) -> String {
     tree::draw(standing, &mut canvas, LEFT, TOP);
     let (right, _) = canvas.extent();
     transactions::draw(standing, &mut canvas, right + 40, TOP);
-    canvas.text("title", LEFT, 40, &title(place));
-    canvas.text("note", LEFT, 66, &summary(standing, place));
+    canvas.text("title", LEFT, 40, &place.title());
+    let (size, locks) = (size(standing), locks_in_use(standing));
+    canvas.text("note", LEFT, 66, &format!("{}: {size}, {locks}", place.name));
     let (right, bottom) = canvas.extent();
     legend::draw(&mut canvas, LEFT, bottom + 36, (right - LEFT).max(LEGEND));
     canvas.finished(&place.title())
-}
-
-fn title(place: &Place) -> String {
-    match place.played {
-        None => "Before the first request".to_string(),
-        Some((line, text)) => format!("After line {line}: {text}"),
-    }
-}
-
-fn summary(standing: &Standing, place: &Place) -> String {
-    let entries = counted(standing.entries().len(), "entry", "entries");
-    let levels = counted(usize::from(standing.height), "level", "levels");
-    let (name, used, locks) = (place.name, standing.used, standing.locks.len());
-    format!(
-        "{name}: {entries}, {levels}, {used} of {PAGE_COUNT} pages, {locks} of {LOCK_COUNT} locks"
-    )
 }

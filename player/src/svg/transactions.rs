@@ -2,10 +2,10 @@
 //! behind.
 
 use super::canvas::{Area, Canvas, Tip, wide};
-use crate::behind::{Target, behind, target};
+use crate::behind::behind;
 use crate::keys::Key;
 use crate::picture::{Mode, Standing, Waiting};
-use crate::rows::numbers;
+use crate::rows::{numbers, wants};
 
 /// A card ready to be drawn.
 struct Card {
@@ -77,15 +77,13 @@ fn cards(standing: &Standing) -> Vec<Card> {
 }
 
 fn waiting_card(standing: &Standing, waiting: &Waiting) -> Card {
-    let Target { name, mode, instant } = target(standing, waiting);
-    let instant = if instant { " for the instant" } else { "" };
     let behind = behind(standing, waiting);
     Card {
         transaction: waiting.transaction,
         waits: true,
         lines: vec![
             format!("waits behind {}: {}", numbers(&behind), waiting.asks),
-            format!("wants {mode} on {}{instant}", standing.name(name)),
+            wants(standing, waiting),
             holds(standing, waiting.transaction),
         ],
         behind,
