@@ -90,11 +90,11 @@ fn an_empty_session_and_one_without_its_last_line_end() {
 #[test]
 fn a_picture_is_written_to_its_file() {
     let svg = file("picture.svg");
-    let output = play(&["--show", "23", "--svg", path(&svg)]);
+    let output = play(&["--show", "29", "--svg", path(&svg)]);
     assert_eq!(output.status.code(), Some(0));
     assert_eq!(printed(&output), format!("{} is drawn\n", path(&svg)));
     let drawn = fs::read_to_string(&svg).expect("the picture is there");
-    assert!(drawn.contains("After line 23: 2 insert 7/3 record 104"));
+    assert!(drawn.contains("After line 29: 2 insert 7/25 record 777"));
     fs::remove_file(svg).expect("the picture is there");
 }
 
@@ -104,7 +104,7 @@ fn what_cannot_be_carried_out_is_2() {
         (&["--shows"], "play: --shows is not known; ./play --help says what is\n"),
         (&["no such file"], "play: no such file can't be read: "),
         (&["--svg"], "play: --svg needs a file to write; "),
-        (&["--show", "33"], "play: the story has 32 lines, and 33 is beyond\n"),
+        (&["--show", "40"], "play: the story has 39 lines, and 40 is beyond\n"),
         (&["one", "two"], "play: one session at a time, and two is a second; "),
         (&["--bytes", "--show"], "play: --bytes goes with playing a session, not with a drawing; "),
         (

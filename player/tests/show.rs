@@ -44,23 +44,25 @@ page 1, leaf, from the start: 0 of 24 entries
 #[test]
 fn the_story_while_the_enrolment_waits() {
     let story = include_str!("../../examples/namesake.txt");
-    let lines: Vec<&str> = story.lines().take(23).collect();
+    let lines: Vec<&str> = story.lines().take(29).collect();
     let expected = "\
-After line 23: 2 insert 7/3 record 104
-the test: 3 entries, 1 level, 2 of 64 pages used
+After line 29: 2 insert 7/25 record 777
+the test: 5 entries, 1 level, 2 of 64 pages used
 
-page 1, leaf, from the start: 3 of 24 entries
-    7/1  record 101  settled  S by 1
-    7/2  record 102  settled  S by 1
-    9/1  record 103  settled  S by 1  <- 2 waits
+page 1, leaf, from the start: 5 of 24 entries
+    6/90  record 400  settled
+    7/10  record 501  settled  S by 1
+    7/20  record 502  settled  S by 1
+    7/30  record 503  settled  S by 1  <- 2 waits
+    8/10  record 600  settled  S by 1
     end
 
-3 of 256 locks in use, each covers its key and the gap below it
-    1 holds S on 7/1 to 9/1 (3 locks), covering 0/0 to 9/1
+4 of 256 locks in use, each covers its key and the gap below it
+    1 holds S on 7/10 to 8/10 (4 locks), covering 6/91 to 8/10
 
 2 transactions run, 1 waits
     1 runs
-    2 waits behind 1: insert 7/3 record 104 wants X on 9/1 for the instant
+    2 waits behind 1: insert 7/25 record 777 wants X on 7/30 for the instant
 ";
     assert_eq!(drawn(&lines.join("\n")), expected);
 }
