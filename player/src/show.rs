@@ -67,7 +67,7 @@ fn leaf(standing: &Standing, entries: &[Entry], last: bool, margin: &str, lines:
     }
 }
 
-/// Key, now, before or state, locks, waiters.
+/// Key, now, state and before, locks, waiters.
 fn cells(standing: &Standing, row: &Row) -> Vec<String> {
     let [first, .., last] = row.entries else {
         return cells_of_entry(standing, &row.entries[0], row);
