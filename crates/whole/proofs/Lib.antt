@@ -1,5 +1,4 @@
 pub mod DeskTurns
-pub mod DeskBytes
 pub mod Slots
 pub mod Askers
 pub mod Records
@@ -8,3 +7,4 @@ pub mod LockTurns
 pub mod Fines
 pub mod Judging
 pub mod Tell
+pub mod Fresh
