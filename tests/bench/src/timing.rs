@@ -11,8 +11,9 @@ pub const PLAIN: UnderTest = UnderTest { fresh: plain::fresh, serve: plain::serv
 
 /// How many rounds; an odd number, so that the median is one of them.
 pub const ROUNDS: usize = 301;
-/// A round of the same call goes on until it has taken about so long.
-const ROUND_MICROSECONDS: f64 = 200.0;
+/// A round of the same call goes on for about so long, by the time of its first.
+const ROUND_MICROSECONDS: f64 = 300.0;
+const MOST_CALLS: f64 = 200.0;
 
 /// How often a session is played. Each of its calls has a median of its own.
 pub const SESSION_ROUNDS: usize = 21;
@@ -45,8 +46,11 @@ pub fn median(mut times: Vec<f64>) -> f64 {
 /// as it is.
 pub fn single_calls<const N: usize>(picture: &Picture, requests: [(&[u8], u32); N]) -> [Times; N] {
     let works = requests.map(|(request, number)| {
-        let calls = ROUND_MICROSECONDS / round(PLAIN, picture, request, number, 100);
-        move |desk| round(desk, picture, request, number, calls.max(1.0) as usize)
+        move |desk| {
+            let one = round(desk, picture, request, number, 1);
+            let calls = (ROUND_MICROSECONDS / one).clamp(1.0, MOST_CALLS);
+            round(desk, picture, request, number, calls as usize)
+        }
     });
     medians(works)
 }
