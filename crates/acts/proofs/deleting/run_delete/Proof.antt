@@ -47,7 +47,7 @@ same-length-2 : tie.Need-same-length-2
 same-length-2 c = search needs
 
 returns : tie.Need-returns
-returns c = search (needs, delete-missing)
+returns c = search delete-missing
 
 lock-and-leave-requires-2 : tie.Need-lock-and-leave-requires-2
 lock-and-leave-requires-2 c κs = (search needs, (search needs, (search (needs, whole-few), search (needs, clear-high))))
@@ -62,7 +62,7 @@ same-length-4 : tie.Need-same-length-4
 same-length-4 c = search needs
 
 returns-2 : tie.Need-returns-2
-returns-2 c = search (needs, delete-there)
+returns-2 c = search delete-there
 
 pub run-delete-spec : {M : Type 1} → statement M
 run-delete-spec =

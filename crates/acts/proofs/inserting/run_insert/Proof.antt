@@ -51,7 +51,7 @@ same-length-4 : tie.Need-same-length-4
 same-length-4 c = search needs
 
 returns-2 : tie.Need-returns-2
-returns-2 c = search (needs, insert-there)
+returns-2 c = search insert-there
 
 pub run-insert-spec : {M : Type 1} → statement M
 run-insert-spec =
