@@ -8,3 +8,4 @@ pub mod LockTurns
 pub mod Fines
 pub mod Judging
 pub mod Tell
+pub mod Fresh
