@@ -26,6 +26,7 @@ use Rattle.rules.specs.Desk as D
 use Rattle.rules.specs.Document.{document, endless}
 use Rattle.tables.specs.Layout.{headWidths, isRunning, askAt, slotAt, slotsOf, queued, inPlace, queuedAt, queueOf, marksOf}
 use Rattle.tables.proofs.Marks.{running-is}
+use Rattle.tables.proofs.Queues.{length-queue}
 use Rattle.whole_pages.specs.declared.Trail.{Trail}
 use Rattle.whole_pages.specs.declared.Trail.the-variants.{Went, Bad}
 use Rattle.whole_pages.specs.Walks.{marks}
@@ -34,11 +35,12 @@ use Rattle.whole_pages.proofs.Bits.{bit, bit-is}
 use Rattle.whole_pages.proofs.Marks.{marks-went, marks-used, marks-go}
 use Rattle.whole_pages.proofs.Pages.{one-at, one-past}
 use Rattle.desks.specs.States.{book, deskWith}
+use Rattle.desks.specs.Fitting.{Fitting}
+use Rattle.desks.proofs.Itself.{reads-desk, itself-reads}
 use Rattle.whole.specs.Checks.{headOk, askersIn, listed, recordOk, recordsOk, slotOk, deskOk}
-use Rattle.whole.proofs.DeskBytes.{desk-laid, laid-desk}
-use Rattle.whole.proofs.Slots.{use-in, slot-back-at, slot-there-at, slot-fits, slots-run}
+use Rattle.whole.proofs.Slots.{use-in, slot-back-at, slot-there-at, slots-run}
 use Rattle.whole.proofs.Askers.{there-counts, counts-there, apart-once, once-apart}
-use Rattle.whole.proofs.Records.{mark-only, record-told, record-stands, told-record, told-fits}
+use Rattle.whole.proofs.Records.{mark-only, record-told, record-stands, told-record}
 
 -- a request in the queue: its asker runs, and it is legal
 abbrev pub stands : List ℕ → Queued ℕ ℕ → Bool
@@ -83,6 +85,23 @@ module _ (d : List ℕ) where
 
   zero-field : (w i : ℕ) → i + w ≤ 26 → Agree 26 d 6 [] 0 → numberAt w d (6 + i) ≡ 0
   zero-field w i h a = numberAt-ext w (agree-within i w h a) ∙ number-none w (0 + i)
+
+  -- the places of the queue that are not used
+  spare-zero : Agree (32 - 2 * queued d) d (32 + 2 * queued d) [] 0 → (i : ℕ) → queued d ≤ i → i < 16 → inPlace d i ≡ 0
+  spare-zero a i l h =
+      let e : 32 + 2 * queued d + 2 * (i - queued d) ≡ 32 + 2 * i = omega arith in
+      ap (numberAt 2 d) (sym e) ∙ numberAt-ext 2 (agree-within (2 * (i - queued d)) 2 (omega arith) a) ∙ number-none 2 (0 + 2 * (i - queued d))
+
+  zero-spare : Bytes d → ((i : ℕ) → queued d ≤ i → i < 16 → inPlace d i ≡ 0) → Agree (32 - 2 * queued d) d (32 + 2 * queued d) [] 0
+  unfolding fieldsAt widthOf
+  zero-spare g z =
+      record {
+        byte = λ k h.
+            let i = queued d + k / 2 in
+            let a : Agree 2 d (32 + 2 * i) [] 0 = fields-inj (2 ∷ []) g bytes-none (ap (λ v. v ∷ []) (z i (omega arith) (omega arith) ∙ sym (number-none 2 0))) in
+            let e : 32 + 2 * queued d + k ≡ 32 + 2 * i + k % 2 = omega arith in
+            ap (λ x. getD d x 0) e ∙ a .byte (k % 2) (omega arith);
+      }
 
 module _ (d : List ℕ) (g : Bytes d) (size : length d ≡ 4672) where
   abbrev queue : List ℕ
@@ -148,15 +167,13 @@ module _ (d : List ℕ) (g : Bytes d) (size : length d ≡ 4672) where
       let z = zeroAt-true 26 6 d (f .3) (omega arith) in
       let few : queued d ≤ 16 = f .2 in
       let y = zeroAt-true (32 - 2 * queued d) (32 + 2 * queued d) d (f .4) (omega arith) in
-      let same : 32 - 2 * queued d ≡ 2 * (16 - queued d) = omega arith in
       record {
-        laid = desk-laid d size g
+        laid = reads-desk d size g few
             (record {
-              few = few;
               head = fields f z;
-              spare = subst (λ k. Agree k d (32 + 2 * queued d) [] 0) same y;
+              spare = spare-zero d y;
               records = λ t x u. record-told d t x u (w .0) (each t x u) (listed-there (w .0) (w .1) t x) (unlisted-none (w .0) (w .1) t x);
-              locks = λ i l. slot-back-at d i (all-tab (slotOk d) 256 0 (λ i. i) i (a .1) (omega arith) (omega arith));
+              rows = λ i l. slot-back-at d i (all-tab (slotOk d) 256 0 (λ i. i) i (a .1) (omega arith) (omega arith));
             });
         queue = in-all (stands d) (tab (queued d) 0 (queuedAt d))
             (λ q n.
@@ -189,13 +206,12 @@ module _ (d : List ℕ) (g : Bytes d) (size : length d ≡ 4672) where
       let z : fieldsAt (2 ∷ 8 ∷ 8 ∷ 8 ∷ []) d 6 ≡ fieldsAt (2 ∷ 8 ∷ 8 ∷ 8 ∷ []) [] 0 = cc (fields-none (2 ∷ 8 ∷ 8 ∷ 8 ∷ []) 0) in
       (ap (λ vs. getD vs 0 0) e, ap (λ vs. getD vs 1 0) e, fields-inj (2 ∷ 8 ∷ 8 ∷ 8 ∷ []) g bytes-none z)
 
-  pub desk-complete : DeskGood d → deskOk d ≡ true
+  pub desk-complete : Fitting (slotsOf d) (queueOf d) (marksOf d) → DeskGood d → deskOk d ≡ true
   unfolding deskOk askersIn queueOf slotsOf
-  desk-complete k =
-      let f = laid-desk d size g (λ t a b. told-fits d t a b g) (slot-fits d g) (k .laid) in
-      let few : queued d ≤ 16 = f .few in
+  desk-complete fit k =
+      let f = itself-reads d (k .laid) fit in
+      let few : queued d ≤ 16 = omega (arith, fit .few, length-queue d) in
       let h = fields-head (f .head) in
-      let same : 2 * (16 - queued d) ≡ 32 - 2 * queued d = omega arith in
       let own : (t : ℕ) → 0 < times t queue → (D.isRunning (getD (marksOf d) t idle) ≡ true) × (D.legalAsk book (askAt d t) ≡ true) =
       (λ t l. both (D.isRunning (getD (marksOf d) t idle)) (D.legalAsk book (askAt d t)) (all-in (stands d) (tab (queued d) 0 (queuedAt d)) (record { asker = t; asks = askAt d t }) (k .queue) (counts-there d t (queued d) 0 l))) in
       let one = apart-once d (queued d) 0 (k .askers) in
@@ -211,12 +227,12 @@ module _ (d : List ℕ) (g : Bytes d) (size : length d ≡ 4672) where
       and-both (headOk d && recordsOk d (askersIn d)) (all (slotOk d) (tab 256 0 (λ i. i)))
       (and-both (headOk d) (recordsOk d (askersIn d))
       (front-head d (h .0) (h .1) few (zeroAt-is 26 6 d (omega arith) (h .2))
-      (zeroAt-is (32 - 2 * queued d) (32 + 2 * queued d) d (omega arith) (subst (λ n. Agree n d (32 + 2 * queued d) [] 0) same (f .spare))))
+      (zeroAt-is (32 - 2 * queued d) (32 + 2 * queued d) d (omega arith) (zero-spare d g (f .spare))))
       (ap (recordsOk d) (w .1)
       ∙ all-of-tab (recordOk d (w .0)) 16 1 (λ t. t)
       (λ t a b. told-record d t a (omega arith) (w .0) (f .records t a (omega arith)) (way (w .0) (w .1) t a (omega arith) own (times t queue) refl))))
       (all-of-tab (slotOk d) 256 0 (λ i. i)
-      (λ i a b. slot-there-at d i (f .locks i (omega arith))
+      (λ i a b. slot-there-at d i (f .rows i (omega arith))
       (λ l e.
       let r = k .holders l (use-in (slotsOf d) l (subst (λ x. In x (slotsOf d)) e (tab-in 256 0 (slotAt d) i a b))) in
       let m = mark-only d (l .holder) r in

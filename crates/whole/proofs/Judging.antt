@@ -36,6 +36,7 @@ use Rattle.whole_pages.proofs.Leaves.{is-under}
 use Rattle.whole_pages.proofs.Trees.{kid}
 use Rattle.whole_pages.proofs.Pages.{PagesFacts, pages-sound, pages-complete}
 use Rattle.desks.specs.States.{book, stateOf, deskWith}
+use Rattle.desks.proofs.Itself.{itself-fits}
 use Rattle.whole.specs.Whole.{Whole, Judged}
 use Rattle.whole.specs.Checks.{slotTogether, slotHolds, entryHeld, hasKey, findAt, ownersAt, named, slotNamed, deskOk, locksOk, wholeOk}
 use Rattle.whole.proofs.Slots.{in-use, use-in}
@@ -225,7 +226,7 @@ module _ (p d : List ℕ) where
     complete w =
         let f : PagesFacts p = record { whole = w .pages; rests = good-rests (w .values) } in
         and-both (pagesOk p && deskOk d) (locksOk n p d root)
-        (and-both (pagesOk p) (deskOk d) (pages-complete p g f) (desk-complete d h long (good-desk (w .desk) (w .values))))
+        (and-both (pagesOk p) (deskOk d) (pages-complete p g f) (desk-complete d h long (itself-fits d (w .desk) p (w .values)) (good-desk (w .desk) (w .values))))
         (good-locks f (w .values))
 
     pub judged : (r : Bool) → r ≡ wholeOk p d → Judged p d r

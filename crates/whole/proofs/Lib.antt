@@ -1,5 +1,4 @@
 pub mod DeskTurns
-pub mod DeskBytes
 pub mod Slots
 pub mod Askers
 pub mod Records

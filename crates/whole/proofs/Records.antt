@@ -1,25 +1,24 @@
 -- A transaction's record passes its test exactly where it is written as it is read, and one that is in the queue runs with a legal request.
 -- By whether the transaction is in the queue. Assumes nothing.
-use mathlib.Core.Path.{_≡_, refl, sym, ap, ap₂, subst, _∙_}
+use mathlib.Core.Path.{_≡_, refl, sym, ap, ap₂, _∙_}
 use mathlib.Core.Logic.{_⊎_, inl, inr, ⊎-elim}
 use mathlib.Core.Bool.{Bool, true, false, cond, not, _&&_, _||_, false≢true, true≢false}
 use mathlib.Core.List.{List, [], _∷_, _++_}
 use mathlib.Core.Option.{Option, none, some}
-use Prim.Native.Nat.{ℕ, zero, suc, _+_, _≤_, _<_, _^_}
+use Prim.Native.Nat.{ℕ, zero, suc, _+_, _≤_, _<_}
 use native.Mathlib.Decide.{decLt}
 use native.Mathlib.Omega.{arith}
 use borrow.Author.Tests.{eqb-true, eq-eqb, ne-eqb, eqb-false, leb-true, le-leb, not-true}
-use lib.Dec.{eqb, leb, lit<, lit≤}
+use lib.Dec.{eqb, leb, lit≤}
 use lib.ListN.{getD, List·getD-eq-default}
 use Rattle.lists.specs.Lists.{tab, first, times}
 use Rattle.lists.proofs.Tests.{both, and-both, either, or-left, or-right}
 use Rattle.lists.proofs.Tables.{getD-tab}
-use Rattle.numbers.specs.Numbers.{numberAt, fieldsAt, Bytes, Fits}
-use Rattle.numbers.proofs.Numbers.{number-below}
+use Rattle.numbers.specs.Numbers.{numberAt, fieldsAt}
 use Rattle.rules.specs.Kinds.{Ask, read, insert, delete, Queued, Mark, idle, running}
 use Rattle.rules.specs.Desk as D
 use Rattle.rules.specs.Document.{document, endless}
-use Rattle.tables.specs.Layout.{recordPlace, recordWidths, recordAt, markIn, isRunning, isWaiting, askBy, askIn, askAt, askFields, queued, inPlace, queueOf, marksOf}
+use Rattle.tables.specs.Layout.{recordPlace, recordAt, markIn, isRunning, isWaiting, askBy, askIn, askAt, askFields, queued, inPlace, queueOf, marksOf}
 use Rattle.tables.proofs.Back.{isAsk, ask-back}
 use Rattle.tables.proofs.Marks.{length-marks}
 use Rattle.desks.specs.States.{waitingFields, markNumber}
@@ -116,15 +115,6 @@ module _ (k r lo hi : ℕ) where
             or-right ((none-part || read-part) || insert-part) delete-part (and-both (eqb k 6 && eqb r 0) (eqb hi 0) (and-both (eqb k 6) (eqb r 0) (eq-eqb k 6 a) (eq-eqb r 0 (sym (ap (λ vs. getD vs 1 0) e)))) (eq-eqb hi 0 (sym (ap (λ vs. getD vs 3 0) e)))),
             ne-eqb k 0 (λ z. omega arith),
           )
-
-  ask-fits : k < 256 ^ 2 → r < 256 ^ 4 → lo < 256 ^ 8 → hi < 256 ^ 8 → (m : ℕ) → m ≤ 1 → Fits recordWidths (m ∷ (askFields (askBy k r lo hi) ++ (0 ∷ [])))
-  unfolding askFields
-  ask-fits a b c e m h = go (eqb k 4) (eqb k 5)
-    where
-      go : (x y : Bool) → Fits recordWidths (m ∷ (askFields (cond x (read lo hi) (cond y (insert lo r) (delete lo))) ++ (0 ∷ [])))
-      go true y = (omega arith, (lit< tt, (lit< tt, (c, (e, (lit< tt, tt))))))
-      go false true = (omega arith, (lit< tt, (b, (c, (lit< tt, (lit< tt, tt))))))
-      go false false = (omega arith, (lit< tt, (lit< tt, (c, (lit< tt, (lit< tt, tt))))))
 
 fields-split : (a : Ask ℕ ℕ) (k r lo hi f : ℕ) → k ∷ r ∷ lo ∷ hi ∷ f ∷ [] ≡ askFields a ++ (0 ∷ []) → (askFields a ≡ k ∷ r ∷ lo ∷ hi ∷ []) × (f ≡ 0)
 unfolding askFields
@@ -233,21 +223,3 @@ module _ (d : List ℕ) (t : ℕ) (low : 1 ≤ t) (high : t ≤ 16) where
       (told-plain e (none-form (numberAt 2 d (at + 2)) (numberAt 4 d (at + 2 + 2)) (numberAt 8 d (at + 2 + 2 + 4)) (numberAt 8 d (at + 2 + 2 + 4 + 8)) k (ap (λ vs. getD vs 1 0) z) (ap (λ vs. getD vs 2 0) z) (ap (λ vs. getD vs 3 0) z)) (ap (λ vs. getD vs 4 0) z))
       (or-right (((listed m t && isWaiting d t) && isRunning d t) && D.legalAsk (document endless) (askAt d t)) (not (listed m t) && not (isWaiting d t))
       (and-both (not (listed m t)) (not (isWaiting d t)) (ap not (x .0)) (ap (λ b. not (not b)) (eq-eqb (numberAt 2 d (at + 2)) 0 k))))
-
-  -- what is written fits
-  pub told-fits : Bytes d → Fits recordWidths told
-  unfolding recordAt fieldsAt askIn
-  told-fits g = go (times t (tab (queued d) 0 (inPlace d))) refl
-    where
-      small : markNumber (getD (marksOf d) t idle) ≤ 1
-      small = number-small (getD (marksOf d) t idle)
-
-      go : (n : ℕ) → times t (tab (queued d) 0 (inPlace d)) ≡ n → Fits recordWidths told
-      go zero e =
-          subst (λ o. Fits recordWidths (markNumber (getD (marksOf d) t idle) ∷ (waitingFields o ++ (0 ∷ [])))) (sym (own-none e))
-          (omega (arith, small), (lit< tt, (lit< tt, (lit< tt, (lit< tt, (lit< tt, tt))))))
-      go (suc n) e =
-          subst (λ o. Fits recordWidths (markNumber (getD (marksOf d) t idle) ∷ (waitingFields o ++ (0 ∷ [])))) (sym (own-some (omega arith)))
-          (ask-fits (numberAt 2 d (at + 2)) (numberAt 4 d (at + 2 + 2)) (numberAt 8 d (at + 2 + 2 + 4)) (numberAt 8 d (at + 2 + 2 + 4 + 8))
-          (number-below 2 d (at + 2) g) (number-below 4 d (at + 2 + 2) g) (number-below 8 d (at + 2 + 2 + 4) g) (number-below 8 d (at + 2 + 2 + 4 + 8) g)
-          (markNumber (getD (marksOf d) t idle)) small)

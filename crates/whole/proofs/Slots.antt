@@ -5,21 +5,19 @@ use mathlib.Core.Logic.{inl, inr}
 use mathlib.Core.Bool.{Bool, true, false, cond, _&&_, _||_}
 use mathlib.Core.List.{List, [], _∷_}
 use mathlib.Core.Option.{Option, none, some}
-use Prim.Native.Nat.{ℕ, _+_, _≤_, _<_, _^_}
+use Prim.Native.Nat.{ℕ, _+_, _≤_}
 use native.Mathlib.Omega.{arith}
 use borrow.Author.Tests.{eqb-true, eq-eqb, leb-true, le-leb, eqb-false, ne-eqb}
-use lib.Dec.{eqb, leb, lit<}
+use lib.Dec.{eqb, leb}
 use lib.ListN.{getD}
 use Rattle.lists.specs.Lists.{tab, all, In}
 use Rattle.lists.proofs.Tests.{both, and-both, or-left, or-right}
 use Rattle.lists.proofs.Tables.{all-tab}
-use Rattle.numbers.specs.Numbers.{numberAt, fieldsAt, Bytes, Fits}
-use Rattle.numbers.proofs.Numbers.{number-below}
-use Rattle.rules.specs.Kinds.{Lock, Mode, S, X}
+use Rattle.numbers.specs.Numbers.{numberAt, fieldsAt}
+use Rattle.rules.specs.Kinds.{Lock, S, X}
 use Rattle.rules.specs.Locks.{inUse}
 use Rattle.tables.specs.Layout.{lockWidths, lockPlace, nameIn, modeIn, modeNumber, slotIn, slotFields, slotAt, slotsOf, isRunning}
 use Rattle.tables.proofs.Back.{isMode, isRow, slot-back}
-use Rattle.tables.proofs.Values.{name-back}
 use Rattle.whole_pages.proofs.Tabs.{in-tab}
 use Rattle.whole.specs.Checks.{fieldsOk, slotOk}
 
@@ -96,18 +94,6 @@ module _ (d : List ℕ) (k h m f : ℕ) where
           let y : record { name = nameIn k; holder = h; mode = modeIn m } ≡ l = cc in
           (eqb-false h 0 q, sym (ap (λ x. x .holder) y))
 
-  mode-small : (x : Mode) → modeNumber x < 256 ^ 2
-  mode-small S = lit< tt
-  mode-small X = lit< tt
-
-  fields-fit : k < 256 ^ 8 → h < 256 ^ 2 → Fits lockWidths (slotFields (slotIn four))
-  unfolding slotFields slotIn
-  fields-fit a b = go (eqb h 0)
-    where
-      go : (x : Bool) → Fits lockWidths (slotFields (cond x none (some (record { name = nameIn k; holder = h; mode = modeIn m }))))
-      go true = (lit< tt, (lit< tt, (lit< tt, (lit< tt, tt))))
-      go false = (rw (name-back k) a, (b, (mode-small (modeIn m), (lit< tt, tt))))
-
 module _ (d : List ℕ) where
   abbrev at : ℕ → List ℕ
   at i = fieldsAt lockWidths d (lockPlace i)
@@ -134,12 +120,6 @@ module _ (d : List ℕ) where
       row-fields d (numberAt 8 d (lockPlace i)) (numberAt 2 d (lockPlace i + 8)) (numberAt 2 d (lockPlace i + 8 + 2)) (numberAt 4 d (lockPlace i + 8 + 2 + 2)) e
       (λ z. r (record { name = nameIn (numberAt 8 d (lockPlace i)); holder = numberAt 2 d (lockPlace i + 8); mode = modeIn (numberAt 2 d (lockPlace i + 8 + 2)) })
       (ap (λ b. cond b none (some (record { name = nameIn (numberAt 8 d (lockPlace i)); holder = numberAt 2 d (lockPlace i + 8); mode = modeIn (numberAt 2 d (lockPlace i + 8 + 2)) }))) (ne-eqb (numberAt 2 d (lockPlace i + 8)) 0 z)))
-
-  pub slot-fits : Bytes d → (i : ℕ) → Fits lockWidths (slotFields (slotAt d i))
-  unfolding slotAt fieldsAt
-  slot-fits g i =
-      fields-fit d (numberAt 8 d (lockPlace i)) (numberAt 2 d (lockPlace i + 8)) (numberAt 2 d (lockPlace i + 8 + 2)) (numberAt 4 d (lockPlace i + 8 + 2 + 2))
-      (number-below 8 d (lockPlace i) g) (number-below 2 d (lockPlace i + 8) g)
 
   -- all of them
   pub slots-run : all (slotOk d) (tab 256 0 (λ i. i)) ≡ true → (l : Lock ℕ) → In l (inUse (slotsOf d)) → (1 ≤ l .holder) × (l .holder ≤ 16) × (isRunning d (l .holder) ≡ true)
