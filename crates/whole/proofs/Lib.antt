@@ -8,3 +8,5 @@ pub mod Fines
 pub mod Judging
 pub mod Tell
 pub mod Fresh
+pub mod Ascending
+pub mod Passing

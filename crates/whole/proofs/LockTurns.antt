@@ -38,6 +38,7 @@ use Rattle.pages.specs.Layout.{countOf, entryAt, entriesOf, rootOf, usedOf, hei
 use Rattle.index.specs.Pictures.{pageAt}
 use Rattle.whole_pages.proofs.Fronts.{lent-page}
 use Rattle.whole.specs.Checks.{slotTogether, slotHasX, slotHolds, entryHeld, hasKey, findAt, ownersAt, named, slotNamed, locksOk, wholeOk, deskOk, Fine}
+use Rattle.whole.specs.Orders.{Sure}
 
 -- ---- two slots
 module _ (a b : Sl.Slot) where
@@ -207,3 +208,6 @@ module _ (s d : List ℕ) (a : Bool) (e : a ≡ pagesOk s) where
           z
           ∙ ap₂ (λ k m. locksOk (k - 1) s d m) w u
           ∙ sym (ap₂ (λ x y. (x && y) && locksOk (heightOf (pageAt s 0) - 1) s d (rootOf (pageAt s 0))) good-pages (sym f ∙ not-false b v))
+
+      pub order-done : (r h : ℕ) (c : Bool) → not b ≡ false → r ≡ numberAt 2 s 16 → h ≡ numberAt 2 s 20 → Sure c (locksOk (h - 1) s d r) → c ≡ true → true ≡ wholeOk s d
+      order-done r h c v x y z t = whole-done r h true v x y (sym (z .yes t))

@@ -90,7 +90,7 @@ fn has_x(a: Slot) -> bool
 }
 
 // Whether slot i is t's X on a key.
-fn is_x_of(d: &[u8], i: usize, t: u16, key: Key) -> bool
+pub fn is_x_of(d: &[u8], i: usize, t: u16, key: Key) -> bool
     requires { ⌜ length (now d) ≡ 4672 ⌝ }
     requires { ⌜ i < 256 ⌝ }
     ensures { λ r. ⌜ r ≡ slotHolds t (key .0) (slotAt (now (d .entry)) i) ⌝ }
