@@ -4,3 +4,4 @@ pub mod Moves
 pub mod Ended
 pub mod Runs
 pub mod Looks
+pub mod Missing

@@ -36,7 +36,7 @@ module _ (p d : List ℕ) (w : Whole p d) (q : ℕ) (c : A.Clear p d q) where
   fit : Fitting (slotsOf d) (queueOf d) (marksOf d)
   fit = whole-fits p d w
 
-  asker-fits : QueuedFits (queuedAt d q)
+  pub asker-fits : QueuedFits (queuedAt d q)
   unfolding queueOf
   asker-fits = fit .queued (queuedAt d q) (in-tab (queued d) 0 (queuedAt d) q (omega arith) (let h = c .inside in omega arith))
 
@@ -74,7 +74,7 @@ module _ (p d : List ℕ) (w : Whole p d) (q : ℕ) (c : A.Clear p d q) where
           omega (arith, s, clear-high)
 
   -- ---- the state that a run leaves
-  ran-says : (p′ : List ℕ) → WholePages p′ → (r : Ran book) → run book (stateOf p d) (queuedAt d q) ≡ r
+  pub ran-says : (p′ : List ℕ) → WholePages p′ → (r : Ran book) → run book (stateOf p d) (queuedAt d q) ≡ r
       → entriesIn p′ ≡ r .entries → shape keyOf (indexOf p′) ≡ r .pages → Fitting (r .slots) (queueOf d) (marksOf d)
       → (d₁ d₂ : List ℕ) → d₁ ≡ deskWith (r .slots) (queueOf d) (marksOf d) → d₂ ≡ queueLeft d₁ q → A.Says p′ d₂ (A.ranAt p d q .state)
   unfolding A.ranAt stateOf
@@ -94,18 +94,18 @@ module _ (p d : List ℕ) (w : Whole p d) (q : ℕ) (c : A.Clear p d q) where
   module _ (t : ℕ) (a : t ≡ inPlace d q) (n : Name ℕ) (m : Mode) (name : NameFits n) (f : Slots book → Ran book)
       (goes : run book (stateOf p d) (queuedAt d q) ≡ taking book (stateOf p d) t n m f) (d₁ d₂ : List ℕ) (e₁ : d₁ ≡ lockTaken d t n m)
       (e₂ : d₂ ≡ queueLeft d₁ q) where
-    goes-if : (o : Option (Slots book)) → taken book (slotsOf d) t n m ≡ o → run book (stateOf p d) (queuedAt d q) ≡ given book (stateOf p d) f o
+    pub goes-if : (o : Option (Slots book)) → taken book (slotsOf d) t n m ≡ o → run book (stateOf p d) (queuedAt d q) ≡ given book (stateOf p d) f o
     unfolding stateOf
     goes-if o h = goes ∙ ap (given book (stateOf p d) f) h
 
-    given-if : (o : Option (Slots book)) → taken book (slotsOf d) t n m ≡ o → lockGiven d t n ≡ isThere o
+    pub given-if : (o : Option (Slots book)) → taken book (slotsOf d) t n m ≡ o → lockGiven d t n ≡ isThere o
     unfolding stateOf
     given-if o h =
         ap (λ x. lockGiven x t n) (w .desk)
         ∙ lock-given (slotsOf d) (queueOf d) (marksOf d) fit (book .paging) t n m (clear-low t a) (clear-high t a) name (w .values .modes) ∙ ap isThere h
 
     -- no lock: 17, and nothing changed
-    refused : (x : S.Says) → taken book (slotsOf d) t n m ≡ none → bookSays x ≡ locksShort → A.Ran p d p d₂ q (record { asker = t; says = x })
+    pub refused : (x : S.Says) → taken book (slotsOf d) t n m ≡ none → bookSays x ≡ locksShort → A.Ran p d p d₂ q (record { asker = t; says = x })
     unfolding A.ranAt stateOf queuedAt
     refused x h e =
         let r = goes-if none h in
@@ -118,7 +118,7 @@ module _ (p d : List ℕ) (w : Whole p d) (q : ℕ) (c : A.Clear p d q) where
         }
 
     -- the lock given, and the pages those that the run makes
-    granted : (ks : Slots book) (p′ : List ℕ) (x : S.Says) → taken book (slotsOf d) t n m ≡ some ks → WholePages p′ → f ks .slots ≡ ks
+    pub granted : (ks : Slots book) (p′ : List ℕ) (x : S.Says) → taken book (slotsOf d) t n m ≡ some ks → WholePages p′ → f ks .slots ≡ ks
         → entriesIn p′ ≡ f ks .entries → shape keyOf (indexOf p′) ≡ f ks .pages → bookSays x ≡ f ks .says
         → A.Ran p d p′ d₂ q (record { asker = t; says = x })
     unfolding A.ranAt stateOf queuedAt

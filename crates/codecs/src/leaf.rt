@@ -4,7 +4,7 @@ use crate::records;
 use entries::Entry;
 use entries::Key;
 
-fn entry_of(key: u64, owner: u16, now: u64, before: u64) -> Entry {
+pub fn entry_of(key: u64, owner: u16, now: u64, before: u64) -> Entry {
     let is = records::value_of(now);
     let was = records::value_of(before);
     Entry {
@@ -16,7 +16,7 @@ fn entry_of(key: u64, owner: u16, now: u64, before: u64) -> Entry {
 }
 
 // Writes key, owner, now and before, 8 bytes each.
-fn put_fields(out: &mut [u8], e: Entry) -> bool {
+pub fn put_fields(out: &mut [u8], e: Entry) -> bool {
     if out.len() != 32 {
         return false;
     }

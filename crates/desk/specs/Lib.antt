@@ -1,1 +1,5 @@
 pub mod Promise
+pub mod Calls
+pub mod Idle
+pub mod Overs
+pub mod Working

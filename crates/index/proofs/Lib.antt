@@ -17,3 +17,5 @@ pub mod Adds
 pub mod Same
 pub mod Entries
 pub mod Blanks
+pub mod Belongs
+pub mod Replaces

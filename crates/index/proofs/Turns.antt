@@ -202,6 +202,11 @@ found-all s t w r h e =
     e ∙ ap (λ q. first (seeks w) (flat ℕ Item (t .level) (treeOf (t .level) s q))) (h .root)
     ∙ ap (λ n. first (seeks w) (flat ℕ Item n (treeOf n s (rootOf (pageAt s 0))))) (h .level)
 
+-- two trees with the same list answer every search alike
+pub same-list-same-search : (p q : List ℕ) → entriesIn p ≡ entriesIn q → (w : Sought) (a b : Found) → bookFound a ≡ first (seeks w) (entriesIn p)
+    → bookFound b ≡ first (seeks w) (entriesIn q) → bookFound a ≡ bookFound b
+same-list-same-search p q e w a b f g = f ∙ ap (first (seeks w)) e ∙ sym g
+
 -- ---- a tree of level 0 is a leaf
 pub at-leaf : (s : List ℕ) (n pg u : ℕ) → Subtree s n pg u → n ≡ 0 → Subtree s 0 pg u
 at-leaf s n pg u t e = subst (λ m. Subtree s m pg u) e t

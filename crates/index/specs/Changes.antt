@@ -10,6 +10,10 @@ use Rattle.trees.specs.Growth.{withItem, fits, inLeaves}
 use Rattle.pages.specs.Rows.{endOf}
 use Rattle.index.specs.Pictures.{Item, keyOf, indexOf, WholePages}
 
+-- an entry, or the one that is put in its place if it has the same key
+abbrev pub putOver : Item → Item → Item
+putOver e y = cond (eqb (y .key) (e .key)) e y
+
 -- the index with an entry put in; with the entry of its key put in the place of the one there; with one transaction's entries settled
 unfoldable pub withEntry : Item → Index ℕ Item → Index ℕ Item
 withEntry e x = withItem compare keyOf 0 documentSizes e x
@@ -18,7 +22,7 @@ unfoldable pub entryFits : ℕ → Index ℕ Item → Bool
 entryFits k x = fits compare keyOf 0 documentSizes k x
 
 unfoldable pub replaced : Item → Index ℕ Item → Index ℕ Item
-replaced e x = inLeaves ℕ Item Item (map (λ (y : Item). cond (eqb (y .key) (e .key)) e y)) x
+replaced e x = inLeaves ℕ Item Item (map (λ (y : Item). putOver e y)) x
 
 unfoldable pub settledIn : Bool → ℕ → Index ℕ Item → Index ℕ Item
 settledIn commits t x = inLeaves ℕ Item Item (settled (endOf commits) t) x

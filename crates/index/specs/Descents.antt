@@ -2,20 +2,22 @@
 -- key belongs. Not for readers of the promises. Assumes nothing.
 use Prim.Native.Nat.{ℕ, _+_, _-_, _≤_, _<_, compare}
 use mathlib.Core.Path.{_≡_}
+use mathlib.Core.Logic.{_≢_}
 use mathlib.Core.Bool.{Bool, true, cond}
-use mathlib.Core.List.{List}
+use mathlib.Core.List.{List, map}
 use mathlib.Core.Option.{Option}
 use lib.Dec.{eqb}
 use lib.ListN.{length}
-use Rattle.pages.specs.Layout.{kindOf, countOf, rootOf, usedOf, heightOf, childAt}
-use Rattle.pages.specs.Places.{ChildPlace}
+use Rattle.pages.specs.Layout.{kindOf, countOf, rootOf, usedOf, heightOf, entriesOf, childAt}
+use Rattle.pages.specs.Places.{keysAscend, ChildPlace}
 use Rattle.pages.specs.Rows.{leafSettled}
 use Rattle.trees.specs.Trees.{documentSizes, above, times, counted, ranged}
-use Rattle.trees.specs.Growth.{fullRun}
+use Rattle.trees.specs.Growth.{missing, fullRun}
 use Rattle.index.specs.declared.Top.{Top}
 use Rattle.index.specs.declared.Step.{Step}
 use Rattle.index.specs.declared.Way.{Way}
-use Rattle.index.specs.Pictures.{Item, keyOf, pageAt, treeOf, Laid}
+use Rattle.index.specs.Pictures.{Item, keyOf, pageAt, treeOf, leafPage, Laid}
+use Rattle.index.specs.Changes.{putOver}
 
 -- the tree of level n at page pg, in an index that uses u pages
 pub record Subtree (s : List ℕ) (n pg u : ℕ) : Type 0 where
@@ -57,6 +59,29 @@ pub record TopOf (s : List ℕ) (r : Top) : Type 0 where
   pub level : r .level ≡ heightOf (pageAt s 0) - 1
   pub low : r .level < 65535
   pub few : r .used ≤ 64
+
+-- a leaf of a tree by itself, and in the buffer
+pub record OwnLeaf (p : List ℕ) : Type 0 where
+  pub size : length p ≡ 512
+  pub few : countOf p ≤ 24
+  pub order : keysAscend (entriesOf p) ≡ true
+  pub laid : p ≡ leafPage (entriesOf p)
+
+pub record LeafAt (s : List ℕ) (pg : ℕ) : Type 0 where
+  pub size : length s ≡ 32768
+  pub which : pg < 64
+  pub leaf : OwnLeaf (pageAt s pg)
+
+-- the leaf that k belongs to, in the tree of level n at page pg: no other leaf of the tree has k
+pub record LeafFor (s : List ℕ) (n pg k r : ℕ) : Type 0 where
+  pub at : LeafAt s r
+  pub inside : 0 < times ℕ Item n r (treeOf n s pg)
+  pub others : (q : ℕ) → 0 < times ℕ Item n q (treeOf n s pg) → q ≢ r → kindOf (pageAt s q) ≡ 2
+      → missing compare keyOf k (entriesOf (pageAt s q)) ≡ true
+
+-- the entries of a leaf with one put in the place of that with its key
+unfoldable pub overwritten : Item → List Item → List Item
+overwritten e es = map (λ (y : Item). putOver e y) es
 
 -- a page of the buffer that may be a leaf
 pub record LeafIn (s : List ℕ) (pg : ℕ) : Type 0 where

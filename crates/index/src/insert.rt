@@ -50,7 +50,7 @@ pub fn add(pages: &mut [u8], e: Entry) -> bool
 }
 
 // What an entry's type says, as a fact for the promises: its numbers fit their places in a page. There is nothing to do.
-fn fits_page(e: Entry)
+pub fn fits_page(e: Entry)
     ensures { λ _. ⌜ SmallEntry (bookEntry e) ⌝ }
 {
     let now = e.now;

@@ -2,6 +2,7 @@
 mod descent;
 mod fresh;
 mod insert;
+mod replacing;
 mod room;
 mod search;
 mod settling;
@@ -10,6 +11,7 @@ use entries::Entry;
 use entries::Key;
 pub use fresh::fresh_pages;
 pub use insert::add;
+pub use replacing::replace;
 pub use room::room_for;
 pub use search::find;
 pub use settling::settle;

@@ -5,3 +5,5 @@ pub mod Ranges
 pub mod Again
 pub mod Demand3
 pub mod Namesake
+pub mod Demand1
+pub mod OnBytes

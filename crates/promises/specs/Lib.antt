@@ -1,3 +1,5 @@
 pub mod Story
 pub mod Demand3
 pub mod Namesake
+pub mod Demand1
+pub mod OnBytes

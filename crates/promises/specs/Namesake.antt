@@ -7,6 +7,8 @@ use mathlib.Core.Option.{none, some}
 use Rattle.rules.specs.Kinds.{X, on, commit}
 use Rattle.rules.specs.Runs.{found, nothing, waiting, done}
 use Rattle.rules.specs.Document.{endless}
+use Rattle.desk.specs.Calls.{Sent, Back}
+use Rattle.desk.specs.Overs.{Bowled, Holds}
 use Rattle.rules.specs.Cases.{Over, Case, over, to, only, begins, reads, inserts, row, settling, lock, settledAs, entry, left, played, stated}
 
 -- "made of an upper half (pupil) and a lower half (delivery)"
@@ -48,3 +50,7 @@ namesake =
 
 abbrev pub NamesakeWaits : Type 0
 NamesakeWaits = played endless namesake ≡ stated namesake
+
+-- and on bytes: whoever sends the story's calls as their records, to a picture that was fresh, gets back what it states
+abbrev pub NamesakeOnBytes : Type 0
+NamesakeOnBytes = (as′ : List Sent) (bs : List Back) (p d : List ℕ) → Bowled namesake as′ bs p d → Holds namesake as′ bs p d

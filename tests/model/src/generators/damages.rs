@@ -55,19 +55,28 @@ impl Damage {
     /// A whole picture with this damage done to it, or nothing where there is nothing to damage
     /// (no lock to duplicate, no inner page) or nothing has changed.
     pub fn to(self, random: &mut Random, picture: &Picture) -> Option<Picture> {
-        let tables = picture.decode()?;
+        self.to_decoded(random, picture, &picture.decode()?)
+    }
+
+    /// The same for a picture whose plain values are at hand: for many damages to one picture.
+    pub fn to_decoded(
+        self,
+        random: &mut Random,
+        picture: &Picture,
+        tables: &Tables,
+    ) -> Option<Picture> {
         let mut damaged = picture.clone();
         match self {
             Damage::Bit => bit(random, &mut damaged),
             Damage::Byte => byte(random, &mut damaged),
-            Damage::PageHead => page_head(random, &tables, &mut damaged),
-            Damage::SwappedPages => swap_pages(random, &tables, &mut damaged),
-            Damage::CopiedPage => copy_page(random, &tables, &mut damaged),
-            Damage::MovedSeparator => move_separator(random, &tables, &mut damaged)?,
-            Damage::MovedChild => move_child(random, &tables, &mut damaged)?,
-            Damage::DuplicatedLock => duplicate_lock(random, &tables, &mut damaged)?,
-            Damage::ChangedLock => change_lock(random, &tables, &mut damaged)?,
-            Damage::StaleOwner => change_owner(random, &tables, &mut damaged)?,
+            Damage::PageHead => page_head(random, tables, &mut damaged),
+            Damage::SwappedPages => swap_pages(random, tables, &mut damaged),
+            Damage::CopiedPage => copy_page(random, tables, &mut damaged),
+            Damage::MovedSeparator => move_separator(random, tables, &mut damaged)?,
+            Damage::MovedChild => move_child(random, tables, &mut damaged)?,
+            Damage::DuplicatedLock => duplicate_lock(random, tables, &mut damaged)?,
+            Damage::ChangedLock => change_lock(random, tables, &mut damaged)?,
+            Damage::StaleOwner => change_owner(random, tables, &mut damaged)?,
             Damage::Queue => change_queue(random, &mut damaged),
             Damage::Transaction => change_transaction(random, &mut damaged),
         }

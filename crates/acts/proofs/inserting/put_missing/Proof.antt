@@ -1,0 +1,68 @@
+-- `acts::inserting::put_missing` meets its contract: where the pages are short the desk is as it was; otherwise the lock is taken.
+-- Assumes nothing.
+use borrow.Author.Needs.{needs}
+use Rattle.acts.proofs.Tables.{whole-few}
+use Rattle.acts.proofs.Runs.{clear-place, clear-high, taken-inside, taken-few, taken-asker}
+use Rattle.acts.proofs.Missing.{entry-fits, entry-missing, pages-short, put-in}
+use Rattle.acts.proofs.inserting.put_missing.Statement.{statement}
+use Rattle.acts.proofs.inserting.put_missing.Tie as tie
+use Rattle.acts.proofs.inserting.put_missing.Reads as reads
+use Rattle.acts.proofs.inserting.put_missing.Lts as lts
+use Rattle.entries.proofs.Entry.inserted.Reads as inserted-reads
+use Rattle.index.proofs.add.Reads as add-reads
+use Rattle.tables.proofs.locks.take_lock.Reads as take-lock-reads
+use Rattle.tables.proofs.queue.in_place.Reads as in-place-reads
+use Rattle.tables.proofs.queue.leave_queue.Reads as leave-queue-reads
+
+in-place-requires : tie.Need-in-place-requires
+in-place-requires c κs = search (needs, clear-place)
+
+inserted-requires : tie.Need-inserted-requires
+inserted-requires c κs = search needs
+
+add-requires : tie.Need-add-requires
+add-requires c κs = (search needs, (search (needs, entry-fits), search (needs, entry-missing)))
+
+take-lock-requires : tie.Need-take-lock-requires
+take-lock-requires c κs = search needs
+
+leave-queue-requires : tie.Need-leave-queue-requires
+leave-queue-requires c κs = (search needs, (search (needs, taken-inside), (search (needs, taken-few), search (needs, taken-asker))))
+
+same-length : tie.Need-same-length
+same-length c = search needs
+
+same-length-2 : tie.Need-same-length-2
+same-length-2 c = search needs
+
+returns : tie.Need-returns
+returns c = search (needs, put-in)
+
+leave-queue-requires-2 : tie.Need-leave-queue-requires-2
+leave-queue-requires-2 c κs = (search needs, (search needs, (search (needs, whole-few), search (needs, clear-high))))
+
+same-length-3 : tie.Need-same-length-3
+same-length-3 c = search needs
+
+same-length-4 : tie.Need-same-length-4
+same-length-4 c = search needs
+
+returns-2 : tie.Need-returns-2
+returns-2 c = search (needs, pages-short)
+
+pub put-missing-spec : {M : Type 1} → statement M
+put-missing-spec =
+    tie.close
+    (tie.spec
+    in-place-requires
+    inserted-requires
+    add-requires
+    take-lock-requires
+    leave-queue-requires
+    same-length
+    same-length-2
+    returns
+    leave-queue-requires-2
+    same-length-3
+    same-length-4
+    returns-2)

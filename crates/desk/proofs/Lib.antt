@@ -1,0 +1,6 @@
+pub mod Determined
+pub mod Runs
+pub mod Bytes
+pub mod Table
+pub mod Overs
+pub mod Idle

@@ -1,0 +1,42 @@
+-- `index::replacing::replace` meets its contract: one leaf is changed, and no other has the key.
+-- Assumes nothing.
+use borrow.Author.Needs.{needs}
+use Rattle.index.proofs.Turns.{find-from}
+use Rattle.index.proofs.Replaces.{replaced-all}
+use Rattle.index.proofs.replacing.replace.Statement.{statement}
+use Rattle.index.proofs.replacing.replace.Tie as tie
+use Rattle.index.proofs.replacing.replace.Reads as reads
+use Rattle.index.proofs.replacing.replace.Lts as lts
+use Rattle.index.proofs.descent.top.Reads as top-reads
+use Rattle.index.proofs.insert.fits_page.Reads as fits-page-reads
+use Rattle.index.proofs.replacing.leaf_for.Reads as leaf-for-reads
+use Rattle.index.proofs.replacing.replace_in.Reads as replace-in-reads
+
+fits-page-requires : tie.Need-fits-page-requires
+fits-page-requires c κs = search needs
+
+top-requires : tie.Need-top-requires
+top-requires c κs = search needs
+
+leaf-for-requires : tie.Need-leaf-for-requires
+leaf-for-requires c κs = search (needs, find-from)
+
+replace-in-requires : tie.Need-replace-in-requires
+replace-in-requires c κs = search needs
+
+same-length : tie.Need-same-length
+same-length c = search needs
+
+returns : tie.Need-returns
+returns c = search (needs, replaced-all)
+
+pub replace-spec : {M : Type 1} → statement M
+replace-spec =
+    tie.close
+    (tie.spec
+    fits-page-requires
+    top-requires
+    leaf-for-requires
+    replace-in-requires
+    same-length
+    returns)

@@ -1,0 +1,64 @@
+// An entry put in the place of the one with its key.
+ghost use mathlib.Core.Path.{_≡_};
+ghost use Rattle.entries.specs.Meaning.{bookEntry};
+ghost use Rattle.pages.specs.Layout.{entriesOf};
+ghost use Rattle.index.specs.Pictures.{pageAt, putPage, indexOf, leafPage, WholePages};
+ghost use Rattle.index.specs.Changes.{replaced, Becomes};
+ghost use Rattle.index.specs.Descents.{Subtree, OwnLeaf, LeafAt, LeafFor, overwritten};
+use super::descent;
+use super::insert;
+use entries::Entry;
+use entries::Key;
+use pages::head;
+use pages::leaf;
+
+// Puts an entry in the place of the one with its key, where it stands; where there is none, nothing changes.
+pub fn replace(pages: &mut [u8], e: Entry)
+    requires { ⌜ WholePages (now pages) ⌝ }
+    ensures { λ _. ⌜ Becomes (now (pages .exit)) (replaced (bookEntry e) (indexOf (now (pages .entry)))) ⌝ }
+{
+    insert::fits_page(e);
+    let t = descent::top(pages);
+    let key = e.key;
+    let pg = leaf_for(pages, t.level, t.root, key);
+    replace_in(pages, pg, e);
+}
+
+// The page of the leaf that a key belongs to, in the tree of this level at this page. No other leaf of the tree has the key.
+fn leaf_for(pages: &[u8], level: usize, pg: usize, key: Key) -> usize
+    requires { ⌜ Subtree (now pages) level pg 64 ⌝ }
+    ensures { λ r. ⌜ LeafFor (now (pages .entry)) level pg (key .0) r ⌝ }
+{
+    if level == 0 {
+        return pg;
+    }
+    let way = descent::way_to(pages, pg, key);
+    leaf_for(pages, level - 1, way.page, key)
+}
+
+// Puts an entry in the place of the one with its key in a leaf of the buffer.
+fn replace_in(pages: &mut [u8], pg: usize, e: Entry)
+    requires { ⌜ LeafAt (now pages) pg ⌝ }
+    ensures { λ _. ⌜ now (pages .exit) ≡ putPage (now (pages .entry)) pg (leafPage (overwritten (bookEntry e) (entriesOf (pageAt (now (pages .entry)) pg)))) ⌝ }
+{
+    let a = 512 * pg;
+    put_over(&mut pages[a..a + 512], e);
+}
+
+// Puts an entry over the first one at or above its key in a leaf, if that one has the key.
+fn put_over(p: &mut [u8], e: Entry)
+    requires { ⌜ OwnLeaf (now p) ⌝ }
+    ensures { λ _. ⌜ now (p .exit) ≡ leafPage (overwritten (bookEntry e) (entriesOf (now (p .entry)))) ⌝ }
+{
+    let key = e.key;
+    let i = leaf::first_at_or_above(p, key);
+    let n = head::count_of(p);
+    if i >= n {
+        return;
+    }
+    let there = leaf::key_at(p, i);
+    if !there.same(key) {
+        return;
+    }
+    leaf::put_entry(p, i, e);
+}

@@ -1,0 +1,90 @@
+-- Demand 3 on bytes, proved of every run of calls from fresh: the one theorem is `demand3-on-bytes`. The run goes as the rule book says, and
+-- of that the demand is proved; the bytes that the calls wrote are the story's answers, one after the other. Assumes nothing.
+use Prim.Native.Nat.{ℕ}
+use mathlib.Core.Path.{_≡_, refl, sym, ap, ap₂, subst, _∙_}
+use mathlib.Core.Bool.{Bool, true, false, cond}
+use mathlib.Core.List.{List, [], _∷_, _++_}
+use mathlib.Core.Option.{Option, none, some}
+use native.Mathlib.Omega.{arith}
+use borrow.Author.Tests.{ltb-false}
+use lib.ListN.{length}
+use Rattle.lists.specs.Lists.{join, In}
+use Rattle.lists.proofs.Rows.{join-append}
+use Rattle.rules.specs.Kinds.{Call, Lock}
+use Rattle.rules.specs.Locks.{inUse, sameName, conflict}
+use Rattle.rules.specs.Queue.{St}
+use Rattle.rules.specs.Runs.{AtRest}
+use Rattle.rules.specs.Desk.{step, stateAfter, answersOf, fresh, session}
+use Rattle.rules.specs.Good.{Good}
+use Rattle.rules.specs.Chains.{ChainsEnd}
+use Rattle.rules.proofs.Orders.{numbers-ordered}
+use Rattle.rules.proofs.Rest.{after-rests}
+use Rattle.rules.proofs.GoodKept.{step-good, fresh-good}
+use Rattle.entries.specs.Records.{heard}
+use Rattle.entries.proofs.Number12.{heard-legal}
+use Rattle.desks.specs.States.{book, stateOf}
+use Rattle.desk.specs.Promise.{shortSpace}
+use Rattle.desk.specs.Calls.{Sent, callIn, with, callsIn, refuses, backIf, backOf, onward, backsFrom, wrote, bytesOf}
+use Rattle.desk.proofs.Bytes.{refusal-wrote, answers-wrote}
+use Rattle.desk.proofs.Runs.{legal-called, run-from-fresh, few-bytes, never-eleven}
+use Rattle.promises.specs.Story.{given, story, Seamless}
+use Rattle.promises.specs.OnBytes.{Demand3OnBytes}
+use Rattle.promises.proofs.Faithful.{faithful}
+use Rattle.promises.proofs.Demand3.{demand3-of-document}
+
+-- ---- the bytes that the calls wrote are the answers that the rule book gives
+abbrev Wrote : St book → List Sent → Type 0
+Wrote s as′ = join wrote (backsFrom s as′) ≡ join bytesOf (join (given book) (session book s (callsIn as′)))
+
+call-wrote : (s : St book) → Good book s → (a : Sent) (as′ : List Sent) → ((u : St book) → Good book u → Wrote u as′) → Wrote s (a ∷ as′)
+unfolding join backsFrom backOf callsIn callIn session
+call-wrote s g a as′ more = go (shortSpace (a .space)) (heard (a .request)) refl refl
+  where
+    cs : List (Call ℕ ℕ)
+    cs = callsIn as′
+
+    go : (short : Bool) (o : Option (Call ℕ ℕ)) → shortSpace (a .space) ≡ short → heard (a .request) ≡ o
+        → wrote (cond short (refuses (a .space) 10) (backIf s (a .space) o)) ++ join wrote (backsFrom (onward s (cond short none o)) as′)
+        ≡ join bytesOf (join (given book) (session book s (with (cond short none o) cs)))
+    go true o e k = ap (λ b. b ++ join wrote (backsFrom s as′)) (refusal-wrote (a .space) 10 (omega arith)) ∙ more s g
+    go false none e k = ap (λ b. b ++ join wrote (backsFrom s as′)) (refusal-wrote (a .space) 12 (omega arith)) ∙ more s g
+    go false (some c) e k =
+        let l = heard-legal (book .paging) (a .request) c k in
+        let w = step book s (c .asker) (c .request) in
+        ap₂ (λ b bs. b ++ bs)
+        (answers-wrote (a .space) (w .answers) (ltb-false (length (a .space)) 320 e) (few-bytes s g (a .request) c k))
+        (more (w .state) (step-good book numbers-ordered s c l g))
+        ∙ sym (join-append bytesOf (w .answers) (join (given book) (session book (w .state) cs)))
+        ∙ ap (λ o. join bytesOf (given book (answersOf book o) ++ join (given book) (session book (stateAfter book s o) cs))) (sym (legal-called s c l))
+
+calls-wrote : (s : St book) → Good book s → (as′ : List Sent) → Wrote s as′
+unfolding join backsFrom callsIn session
+calls-wrote s g [] = refl
+calls-wrote s g (a ∷ as′) = call-wrote s g a as′ (λ u h. calls-wrote u h as′)
+
+-- ---- and so demand 3, of the bytes as they stand
+abbrev HoldersApart : St book → Type 0
+HoldersApart s =
+    (k l : Lock ℕ) → In k (inUse (s .slots)) → In l (inUse (s .slots))
+    → (k .holder ≡ l .holder → ⊥) → sameName book (k .name) (l .name) ≡ true → conflict (k .mode) (l .mode) ≡ false
+
+pub demand3-on-bytes : Demand3OnBytes
+unfolding fresh stateOf
+demand3-on-bytes as′ bs p d f =
+    let run = run-from-fresh f in
+    let demand = demand3-of-document (book .paging) cs in
+    record {
+      whole = run .1;
+      state = run .2;
+      rest = subst (AtRest book) (sym (run .2)) (after-rests book cs);
+      backs = run .0;
+      never11 = never-eleven f;
+      bytes = ap (join wrote) (run .0) ∙ calls-wrote (fresh book) (fresh-good book numbers-ordered) as′ ∙ ap (join bytesOf) (sym (faithful book cs));
+      seamless = subst (λ (s : St book). Seamless book [] (story book cs) (s .entries)) (sym (run .2)) (demand .seamless);
+      demand = demand;
+      locks = subst HoldersApart (sym (run .2)) (demand .locks .apart);
+      chains = subst (ChainsEnd book) (sym (run .2)) (demand .chains);
+    }
+  where
+    cs : List (Call ℕ ℕ)
+    cs = callsIn as′

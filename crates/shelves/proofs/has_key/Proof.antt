@@ -1,0 +1,32 @@
+-- `shelves::has_key` meets its contract: the first entry at or above the key has it, or none has.
+-- Assumes nothing.
+use borrow.Author.Needs.{needs}
+use Rattle.shelves.proofs.Judges.{one-there, none-there}
+use Rattle.shelves.proofs.has_key.Statement.{statement}
+use Rattle.shelves.proofs.has_key.Tie as tie
+use Rattle.shelves.proofs.has_key.Reads as reads
+use Rattle.shelves.proofs.has_key.Lts as lts
+use Rattle.entries.proofs.Key.same.Reads as same-reads
+use Rattle.index.proofs.find.Reads as find-reads
+
+find-requires : tie.Need-find-requires
+find-requires c κs = search needs
+
+enum-known-f : tie.Need-enum-known-f
+enum-known-f c = search needs
+
+same-requires : tie.Need-same-requires
+same-requires c κs = search needs
+
+returns : tie.Need-returns
+returns c = search (needs, one-there)
+
+enum-told : tie.Need-enum-told
+enum-told c = search needs
+
+returns-2 : tie.Need-returns-2
+returns-2 c = search (needs, none-there)
+
+pub has-key-spec : {M : Type 1} → statement M
+has-key-spec =
+    tie.close (tie.spec find-requires enum-known-f same-requires returns enum-told returns-2)

@@ -1,0 +1,134 @@
+// For the tests: the index through C linkage, on a page buffer of any bytes. Each door judges the buffer itself and does nothing where it is
+// not whole. An entry passes as key, owner, now and before; a record that is absent passes as a number above every record.
+ghost use mathlib.Core.Path.{_≡_};
+ghost use Rattle.index.specs.Pictures.{WholePages};
+ghost use Rattle.shelves.specs.Judging.{Held, Sees};
+use codecs::leaf;
+use entries::Entry;
+use entries::Key;
+use index::Found;
+use index::Sought;
+
+// What a door that returns a number returns where it refuses.
+pub const REFUSED: u64 = 18446744073709551615;
+
+// Whether the bytes are those of a whole page buffer.
+fn is_whole(pages: &[u8]) -> bool
+    ensures { λ r. ⌜ Held (now (pages .entry)) r ⌝ }
+{
+    if pages.len() != 32768 {
+        return false;
+    }
+    whole_pages::are_pages(pages)
+}
+
+// Whether the index has a key.
+fn has_key(pages: &[u8], key: Key) -> bool
+    requires { ⌜ WholePages (now pages) ⌝ }
+    ensures { λ r. ⌜ Sees (now (pages .entry)) (key .0) r ⌝ }
+{
+    let w = Sought {
+        lo: key,
+        hi: key,
+        asker: 0,
+    };
+    let f = index::find(pages, w);
+    match f {
+        Found::Here(e) => {
+            let there = e.key;
+            return there.same(key);
+        }
+        Found::Nothing => {
+            return false;
+        }
+    }
+}
+
+#[no_mangle]
+pub extern "C" fn shelf_is_whole(pages: &[u8]) -> bool {
+    is_whole(pages)
+}
+
+// Makes a buffer of the right length that of an empty index, whatever its bytes are.
+#[no_mangle]
+pub extern "C" fn shelf_fresh(pages: &mut [u8]) -> bool {
+    if pages.len() != 32768 {
+        return false;
+    }
+    index::fresh_pages(pages);
+    true
+}
+
+// 1 and the first entry sought in `out`, or 0 where there is none.
+#[no_mangle]
+pub extern "C" fn shelf_find(pages: &[u8], lo: u64, hi: u64, asker: u16, out: &mut [u8]) -> u64 {
+    if !is_whole(pages) {
+        return REFUSED;
+    }
+    if out.len() != 32 {
+        return REFUSED;
+    }
+    let w = Sought {
+        lo: Key(lo),
+        hi: Key(hi),
+        asker: asker,
+    };
+    let f = index::find(pages, w);
+    match f {
+        Found::Here(e) => {
+            leaf::put_fields(out, e);
+            return 1;
+        }
+        Found::Nothing => {
+            return 0;
+        }
+    }
+}
+
+// 1 where a missing key was put in, 0 where the pages have no room for it. The end and a key that is there are refused.
+#[no_mangle]
+pub extern "C" fn shelf_add(pages: &mut [u8], key: u64, owner: u16, now: u64, before: u64) -> u64 {
+    if !is_whole(pages) {
+        return REFUSED;
+    }
+    let k = Key(key);
+    if !k.is_key() {
+        return REFUSED;
+    }
+    if has_key(pages, k) {
+        return REFUSED;
+    }
+    let is = codecs::records::value_of(now);
+    let was = codecs::records::value_of(before);
+    let e = Entry {
+        key: k,
+        owner: owner,
+        now: is,
+        before: was,
+    };
+    if index::add(pages, e) { 1 } else { 0 }
+}
+
+#[no_mangle]
+pub extern "C" fn shelf_replace(
+    pages: &mut [u8],
+    key: u64,
+    owner: u16,
+    now: u64,
+    before: u64,
+) -> bool {
+    if !is_whole(pages) {
+        return false;
+    }
+    index::replace(pages, leaf::entry_of(key, owner, now, before));
+    true
+}
+
+#[no_mangle]
+pub extern "C" fn shelf_settle(pages: &mut [u8], owner: u16, commits: bool) -> bool {
+    if !is_whole(pages) {
+        return false;
+    }
+    index::settle(pages, owner, commits);
+    true
+}

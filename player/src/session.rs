@@ -1,0 +1,123 @@
+//! A session: lines played one after another on a fresh picture.
+
+use crate::keys::Forms;
+use crate::picture::Standing;
+use crate::records;
+use crate::text::{self, Asks, Request, Slip};
+use crate::words;
+use keydesk::{ANSWERS, Picture, number};
+use std::collections::BTreeMap;
+
+/// What came of a line.
+#[derive(Clone, Debug, PartialEq, Eq)]
+pub enum Outcome {
+    /// The line has no request.
+    Nothing,
+    /// The line can't be read, and nothing was asked.
+    Slip(Slip),
+    /// The call was made with this record, and said this.
+    Called { record: Vec<u8>, said: Vec<Said> },
+}
+
+/// One thing that the desk says in a call.
+#[derive(Clone, Debug, PartialEq, Eq)]
+pub struct Said {
+    /// Whom it is said to.
+    pub transaction: u16,
+    pub number: u32,
+    pub words: String,
+    /// The line that asked, where it is an earlier one.
+    pub asked_in: Option<usize>,
+    /// The answer record; empty where the call itself refused.
+    pub record: Vec<u8>,
+}
+
+/// A request that waits, and the line that asked it.
+#[derive(Clone, Copy)]
+struct Asked {
+    line: usize,
+    asks: Asks,
+}
+
+pub struct Session {
+    picture: Picture,
+    waiting: BTreeMap<u16, Asked>,
+    forms: Forms,
+}
+
+impl Session {
+    /// A session on a fresh picture.
+    pub fn fresh() -> Session {
+        Session { picture: Picture::fresh(), waiting: BTreeMap::new(), forms: Forms::default() }
+    }
+
+    /// Where things stand now.
+    pub fn standing(&self) -> Standing {
+        Standing::of(&self.picture, &self.forms)
+    }
+
+    /// Plays the line of this number.
+    pub fn play(&mut self, line: usize, text: &str) -> Outcome {
+        match text::parse(text) {
+            Ok(None) => Outcome::Nothing,
+            Err(slip) => Outcome::Slip(slip),
+            Ok(Some(request)) => {
+                request.asks.keys().into_iter().for_each(|written| self.forms.note(written));
+                self.call(line, request)
+            }
+        }
+    }
+
+    fn call(&mut self, line: usize, request: Request) -> Outcome {
+        let record = records::request(&request);
+        let mut answers = [0; ANSWERS];
+        let returned = self.picture.serve(&record, &mut answers);
+        if returned.number != number::DONE {
+            let words = words::refusal(returned.number, &request);
+            return Outcome::Called {
+                record,
+                said: vec![refused(&request, returned.number, words)],
+            };
+        }
+        let answers = records::answers(&answers[..returned.bytes as usize]);
+        let said = answers.iter().map(|answer| self.said(line, &request, answer)).collect();
+        Outcome::Called { record, said }
+    }
+
+    /// An answer in words, with the request that it answers: the asker's is this line's, any other's
+    /// the one that it waited with. A transaction gets at most one answer in a call.
+    fn said(&mut self, line: usize, request: &Request, answer: &records::Answer) -> Said {
+        let this = Asked { line, asks: request.asks };
+        let asked = if answer.transaction == request.transaction {
+            self.keep_waiting(request.transaction, this, answer.number);
+            this
+        } else {
+            self.waiting.remove(&answer.transaction).unwrap_or(this)
+        };
+        Said {
+            transaction: answer.transaction,
+            number: answer.number,
+            words: words::answer(answer, &asked.asks),
+            asked_in: (asked.line != line).then_some(asked.line),
+            record: answer.bytes.clone(),
+        }
+    }
+
+    /// Remembers a request that waits. One refused 13 to 15 leaves an earlier one waiting; whatever
+    /// else is answered ends it.
+    fn keep_waiting(&mut self, asker: u16, asked: Asked, said: u32) {
+        match said {
+            number::STILL_QUEUED => {
+                self.waiting.insert(asker, asked);
+            }
+            number::ALREADY_RUNNING | number::NOT_RUNNING | number::IS_WAITING => {}
+            _ => {
+                self.waiting.remove(&asker);
+            }
+        }
+    }
+}
+
+fn refused(request: &Request, number: u32, words: String) -> Said {
+    Said { transaction: request.transaction, number, words, asked_in: None, record: vec![] }
+}

@@ -1,0 +1,65 @@
+//! A played session as text: each line as it was written, with what the desk says under it.
+
+use crate::records::hex;
+use crate::session::{Outcome, Said, Session};
+
+/// What was played, and how many lines could not be read.
+pub struct Transcript {
+    pub text: String,
+    pub slips: usize,
+}
+
+/// Plays a session from fresh. With `bytes` the records are shown in hex.
+pub fn transcript(session: &str, bytes: bool) -> Transcript {
+    let mut played = Session::fresh();
+    let mut transcript = Transcript { text: String::new(), slips: 0 };
+    for (number, line) in (1..).zip(session.lines()) {
+        let outcome = played.play(number, line);
+        transcript.line(number, line, &outcome);
+        match outcome {
+            Outcome::Nothing => {}
+            Outcome::Slip(slip) => {
+                transcript.slips += 1;
+                transcript.under(&format!("line {number} can't be read: {slip}"));
+            }
+            Outcome::Called { record, said } => transcript.called(&record, &said, bytes),
+        }
+    }
+    transcript
+}
+
+impl Transcript {
+    /// The line itself, with its number if it asks something.
+    fn line(&mut self, number: usize, line: &str, outcome: &Outcome) {
+        let margin = match outcome {
+            Outcome::Nothing => String::new(),
+            _ => number.to_string(),
+        };
+        let written = format!("{margin:>4}  {}", line.trim());
+        self.text += written.trim_end();
+        self.text += "\n";
+    }
+
+    fn under(&mut self, words: &str) {
+        self.text += &format!("          {words}\n");
+    }
+
+    fn called(&mut self, record: &[u8], said: &[Said], bytes: bool) {
+        if bytes {
+            self.under(&format!("request {}", hex(record)));
+        }
+        for said in said {
+            self.under(&sentence(said));
+            if bytes && !said.record.is_empty() {
+                self.under(&format!("answer  {}", hex(&said.record)));
+            }
+        }
+    }
+}
+
+/// To whom, what, and document 01's number for it.
+fn sentence(said: &Said) -> String {
+    let Said { transaction, words, number, .. } = said;
+    let asked = said.asked_in.map_or(String::new(), |line| format!(" (asked in line {line})"));
+    format!("{transaction}{asked}: {words} ({number})")
+}

@@ -1,0 +1,71 @@
+//! What the desk says, in words (document 01, What the desk says).
+
+use crate::keys::{Form, Key, Written};
+use crate::records::Answer;
+use crate::text::{Asks, Request};
+use keydesk::number;
+
+/// An answer in words, by the request that it answers. A key in it is written as that request
+/// writes keys.
+pub fn answer(answer: &Answer, asks: &Asks) -> String {
+    let form = asks.keys().first().map_or(Form::Number, |written| written.form);
+    let key = Written { key: answer.key, form };
+    let record = answer.record;
+    match answer.number {
+        number::DONE => done(asks),
+        number::FOUND => format!("found {key} with record {record}"),
+        number::NOTHING => nothing(asks),
+        number::STILL_QUEUED => "waits".to_string(),
+        number::ALREADY_RUNNING => "has begun already".to_string(),
+        number::NOT_RUNNING => "isn't running: begin comes first".to_string(),
+        number::IS_WAITING => "is waiting, and can only roll back".to_string(),
+        number::KEY_PRESENT => format!("{key} is there already, with record {record}"),
+        number::LOCKS_IN_USE => "turned away: all 256 locks are in use".to_string(),
+        number::PAGES_SHORT => "turned away: no page is left for another key".to_string(),
+        number::CIRCLE => "turned away: it was the newest in a circle of waits".to_string(),
+        other => format!("a number that document 01 doesn't have: {other}"),
+    }
+}
+
+fn done(asks: &Asks) -> String {
+    match asks {
+        Asks::Begin => "begun".to_string(),
+        Asks::Commit => "committed".to_string(),
+        Asks::Rollback => "rolled back".to_string(),
+        Asks::Read { .. } => "done".to_string(),
+        Asks::Insert { key, record } => format!("inserted {key} with record {record}"),
+        Asks::Delete { key } => format!("deleted {key}"),
+    }
+}
+
+fn nothing(asks: &Asks) -> String {
+    match asks {
+        Asks::Read { lo, hi } => format!("found nothing from {lo} to {hi}"),
+        Asks::Delete { key } => format!("found no {key} to delete"),
+        _ => "found nothing".to_string(),
+    }
+}
+
+/// A call that returned 10, 11 or 12, in words.
+pub fn refusal(returned: u32, request: &Request) -> String {
+    match returned {
+        number::WRONG_LENGTHS => "refused: a buffer has the wrong length".to_string(),
+        number::NOT_WHOLE => "refused: the picture isn't whole".to_string(),
+        number::BAD_REQUEST => format!("refused: {}", bad_record(request)),
+        other => format!("refused with a number that document 01 doesn't have: {other}"),
+    }
+}
+
+/// What is wrong with a record that the desk refused. The desk has judged; this only says why.
+fn bad_record(request: &Request) -> &'static str {
+    if !(1..=16).contains(&request.transaction) {
+        return "a transaction is 1 to 16";
+    }
+    if request.asks.keys().iter().any(|written| written.key == Key::END) {
+        return "that number is the end of the index, and no key";
+    }
+    match request.asks {
+        Asks::Read { lo, hi } if lo.key > hi.key => "the range ends before it starts",
+        _ => "a bad request record",
+    }
+}

@@ -1,0 +1,92 @@
+//! The words for every number of document 01, What the desk says.
+
+use play::keys::{Key, Written};
+use play::records::Answer;
+use play::text::{Asks, Request};
+use play::words::{answer, refusal};
+
+fn key(text: &str) -> Written {
+    Written::parse(text).expect(text)
+}
+
+fn read() -> Asks {
+    Asks::Read { lo: key("50"), hi: key("150") }
+}
+
+fn insert() -> Asks {
+    Asks::Insert { key: key("100"), record: 7 }
+}
+
+fn delete() -> Asks {
+    Asks::Delete { key: key("100") }
+}
+
+/// The words for a number in answer to a request; the answer carries key 100 and record 9.
+fn said(number: u32, asks: Asks) -> String {
+    let record = Answer { transaction: 1, number, key: Key(100), record: 9, bytes: vec![] };
+    answer(&record, &asks)
+}
+
+#[test]
+fn done_says_what_was_done() {
+    assert_eq!(said(0, Asks::Begin), "begun");
+    assert_eq!(said(0, Asks::Commit), "committed");
+    assert_eq!(said(0, Asks::Rollback), "rolled back");
+    assert_eq!(said(0, insert()), "inserted 100 with record 7");
+    assert_eq!(said(0, delete()), "deleted 100");
+}
+
+#[test]
+fn a_read_is_told_what_it_found() {
+    assert_eq!(said(1, read()), "found 100 with record 9");
+    assert_eq!(said(2, read()), "found nothing from 50 to 150");
+}
+
+#[test]
+fn keys_are_written_as_the_request_writes_them() {
+    let read = Asks::Read { lo: key("0/50"), hi: key("0/150") };
+    assert_eq!(said(1, read), "found 0/100 with record 9");
+    assert_eq!(said(2, read), "found nothing from 0/50 to 0/150");
+    let insert = Asks::Insert { key: key("0/100"), record: 7 };
+    assert_eq!(said(0, insert), "inserted 0/100 with record 7");
+    assert_eq!(said(16, insert), "0/100 is there already, with record 9");
+}
+
+#[test]
+fn a_delete_of_an_absent_key() {
+    assert_eq!(said(2, delete()), "found no 100 to delete");
+}
+
+#[test]
+fn waiting() {
+    for asks in [read(), insert(), delete()] {
+        assert_eq!(said(3, asks), "waits");
+    }
+}
+
+#[test]
+fn refused_by_an_answer() {
+    assert_eq!(said(13, Asks::Begin), "has begun already");
+    assert_eq!(said(14, Asks::Commit), "isn't running: begin comes first");
+    assert_eq!(said(15, read()), "is waiting, and can only roll back");
+    assert_eq!(said(16, insert()), "100 is there already, with record 9");
+    assert_eq!(said(17, read()), "turned away: all 256 locks are in use");
+    assert_eq!(said(18, insert()), "turned away: no page is left for another key");
+    assert_eq!(said(19, delete()), "turned away: it was the newest in a circle of waits");
+}
+
+#[test]
+fn refused_by_the_call() {
+    let request = |transaction, asks| Request { transaction, asks };
+    let begin = request(1, Asks::Begin);
+    assert_eq!(refusal(10, &begin), "refused: a buffer has the wrong length");
+    assert_eq!(refusal(11, &begin), "refused: the picture isn't whole");
+    let crossed = Asks::Read { lo: key("5"), hi: key("4") };
+    let ended = Asks::Read { lo: key("5"), hi: key("18446744073709551615") };
+    let why = |transaction, asks| refusal(12, &request(transaction, asks));
+    assert_eq!(why(1, crossed), "refused: the range ends before it starts");
+    assert_eq!(why(1, ended), "refused: that number is the end of the index, and no key");
+    assert_eq!(why(0, Asks::Begin), "refused: a transaction is 1 to 16");
+    assert_eq!(why(17, crossed), "refused: a transaction is 1 to 16");
+    assert_eq!(why(1, Asks::Begin), "refused: a bad request record");
+}

@@ -1,0 +1,166 @@
+//! What runs have met, counted from the answers and from the model's picture before and after each
+//! call.
+
+use model::demand3::waits::Waits;
+use model::layout::answer::{Answer, number};
+use model::layout::desk::{Lock, Mode, Slot, Transaction};
+use model::layout::pages::PAGE_COUNT;
+use model::layout::request::{KeyRequest, Request, RequestKind};
+use model::picture::Tables;
+use std::collections::BTreeMap;
+
+/// How often each thing was met.
+#[derive(Debug, Default)]
+pub struct Met {
+    pub requests: usize,
+    /// Answers by their number.
+    pub numbers: BTreeMap<u16, usize>,
+    /// Refused circles by the length of the shortest that the joining request closed.
+    pub circles: BTreeMap<usize, usize>,
+    /// Slots that went from S to X.
+    pub upgrades: usize,
+    /// Deletes that made a ghost.
+    pub ghosts: usize,
+    pub inserts_over_own_ghosts: usize,
+    /// Reads that went past a ghost of their own.
+    pub own_ghosts_skipped: usize,
+    /// Runs right after which an older request ran that had been blocked.
+    pub older_freed: usize,
+    /// Entries that commit or rollback settled or took out.
+    pub settlings: usize,
+    pub splits: usize,
+    /// Calls that left an index with all its pages in use.
+    pub full_index: usize,
+    /// Calls that left an index of three levels.
+    pub height_3: usize,
+    pub calls_with_16_answers: usize,
+}
+
+impl Met {
+    /// How often an answer had this number.
+    pub fn count(&self, number: u16) -> usize {
+        self.numbers.get(&number).copied().unwrap_or(0)
+    }
+
+    /// Takes in one call: its request, its answers, and where the desk stood before and after.
+    pub fn take_in(
+        &mut self,
+        request: Request,
+        answers: &[Answer],
+        before: &Tables,
+        after: &Tables,
+    ) {
+        self.requests += 1;
+        for answer in answers {
+            *self.numbers.entry(answer.number).or_default() += 1;
+        }
+        self.upgrades += upgraded_slots(before, after);
+        self.older_freed += older_freed(request, answers, before);
+        self.splits += usize::from(after.index.used() > before.index.used());
+        self.full_index += usize::from(after.index.used() == PAGE_COUNT);
+        self.height_3 += usize::from(after.index.height == 3);
+        self.calls_with_16_answers += usize::from(answers.len() == 16);
+        match request.kind {
+            RequestKind::Commit | RequestKind::Rollback => {
+                let owned = |tables: &Tables| owned_entries(tables, request.transaction);
+                self.settlings += owned(before) - owned(after);
+            }
+            RequestKind::Keys(keys) => {
+                self.take_in_keys(request.transaction, keys, answers, before)
+            }
+            RequestKind::Begin => {}
+        }
+    }
+
+    /// The same for what a read, insert or delete meets when it runs or is refused at once.
+    fn take_in_keys(
+        &mut self,
+        asker: u16,
+        request: KeyRequest,
+        answers: &[Answer],
+        before: &Tables,
+    ) {
+        let Some(first) = answers.iter().find(|answer| answer.transaction == asker) else { return };
+        let is_own_ghost =
+            |key| before.index.entry(key).is_some_and(|e| e.owner == asker && e.is_ghost());
+        match (request, first.number) {
+            (_, number::CIRCLE) => {
+                if let Some(length) = circle_closed_by(asker, request, before) {
+                    *self.circles.entry(length).or_default() += 1;
+                }
+            }
+            (KeyRequest::Insert { key, .. }, number::DONE) => {
+                self.inserts_over_own_ghosts += usize::from(is_own_ghost(key));
+            }
+            (KeyRequest::Delete { .. }, number::DONE) => self.ghosts += 1,
+            (KeyRequest::Read { lo, hi }, number::FOUND | number::NOTHING) => {
+                let first = before.index.first_at_or_above(lo).filter(|entry| entry.key <= hi);
+                let skipped = first.is_some_and(|entry| is_own_ghost(entry.key));
+                self.own_ghosts_skipped += usize::from(skipped);
+            }
+            _ => {}
+        }
+    }
+
+    /// Both counts together.
+    pub fn and(mut self, other: Met) -> Met {
+        for (number, times) in other.numbers {
+            *self.numbers.entry(number).or_default() += times;
+        }
+        for (length, times) in other.circles {
+            *self.circles.entry(length).or_default() += times;
+        }
+        self.requests += other.requests;
+        self.upgrades += other.upgrades;
+        self.ghosts += other.ghosts;
+        self.inserts_over_own_ghosts += other.inserts_over_own_ghosts;
+        self.own_ghosts_skipped += other.own_ghosts_skipped;
+        self.older_freed += other.older_freed;
+        self.settlings += other.settlings;
+        self.splits += other.splits;
+        self.full_index += other.full_index;
+        self.height_3 += other.height_3;
+        self.calls_with_16_answers += other.calls_with_16_answers;
+        self
+    }
+}
+
+/// How many slots hold X where they held S for the same transaction and name.
+fn upgraded_slots(before: &Tables, after: &Tables) -> usize {
+    let is_upgrade = |slots: &(&Slot, &Slot)| match slots {
+        (Slot::Taken(was), Slot::Taken(is)) => {
+            was.mode == Mode::S && *is == Lock { mode: Mode::X, ..*was }
+        }
+        _ => false,
+    };
+    before.desk.slots.iter().zip(&after.desk.slots).filter(is_upgrade).count()
+}
+
+/// How many answers stand for a run that freed an older request: the scan starts at the oldest
+/// after each run, so one that runs next and is older was blocked before.
+fn older_freed(request: Request, answers: &[Answer], before: &Tables) -> usize {
+    let mut queue = before.desk.queue.clone();
+    if matches!(request.kind, RequestKind::Keys(_)) {
+        queue.push(request.transaction);
+    }
+    let place = |answer: &Answer| queue.iter().position(|waiter| *waiter == answer.transaction);
+    let ran = |answer: &Answer| !matches!(answer.number, number::CIRCLE | number::STILL_QUEUED);
+    let freed = answers.windows(2).filter(|pair| {
+        let [run, next] = pair else { return false };
+        let is_older = place(run).zip(place(next)).is_some_and(|(run, next)| next < run);
+        ran(run) && ran(next) && is_older
+    });
+    freed.count()
+}
+
+fn owned_entries(tables: &Tables, owner: u16) -> usize {
+    tables.index.entries().filter(|entry| entry.owner == owner).count()
+}
+
+/// The length of the shortest circle that a request closes by joining the queue.
+fn circle_closed_by(asker: u16, request: KeyRequest, before: &Tables) -> Option<usize> {
+    let mut joined = before.clone();
+    joined.desk.set_transaction(asker, Transaction::Waiting(request));
+    joined.desk.queue.push(asker);
+    Waits::of(&joined).shortest_circle(asker)
+}

@@ -1,0 +1,81 @@
+//! Whole pictures to start from: those of the model's generator, most of them not at rest, and
+//! those that the model's own sessions come to, small and full, all at rest.
+
+use model::entry::Entry;
+use model::generators::pictures::picture;
+use model::generators::random::Random;
+use model::generators::requests::{Bias, Requests};
+use model::key::Key;
+use model::layout::desk::{LOCK_COUNT, Lock, Mode, Slot, TRANSACTION_COUNT, Transaction};
+use model::layout::request::{KeyRequest, Request, RequestKind};
+use model::picture::Tables;
+
+/// So many pictures of the model's generator: any page numbering, holes in the lock table, X on the
+/// end and on settled entries, up to sixteen waiting, unblocked or in circles.
+pub fn not_at_rest(seed: u64, count: usize) -> Vec<Tables> {
+    let mut random = Random::new(seed);
+    (0..count).map(|_| decoded(&picture(&mut random))).collect()
+}
+
+fn decoded(picture: &model::desk::Picture) -> Tables {
+    picture.decode().expect("a whole picture follows the layouts")
+}
+
+/// Where sessions from fresh stand after few, some and many requests, under every bias.
+pub fn at_rest() -> Vec<Tables> {
+    let mut pictures = vec![Tables::fresh()];
+    for bias in Bias::ALL {
+        let mut tables = Tables::fresh();
+        let mut requests = Requests::new(1, bias);
+        for count in [30, 60, 120, 300, 600, 900] {
+            for _ in 0..count {
+                let request = requests.next(&tables);
+                tables.answer(request);
+            }
+            pictures.push(tables.clone());
+        }
+    }
+    pictures
+}
+
+/// So many ascending keys from 1 on, each settled: 778 fill the pages (document 01, Overs).
+pub fn settled(keys: u64) -> Tables {
+    let mut tables = Tables::fresh();
+    for key in 1..=keys {
+        tables.index.add(Entry::settled(Key(key), key as u32));
+    }
+    tables
+}
+
+/// All slots in use by S locks: sixteen transactions have each read the same sixteen keys of an
+/// index with so many.
+pub fn all_locks_s(keys: u64) -> Tables {
+    let mut tables = settled(keys);
+    run_all(&mut tables);
+    for slot in 0..LOCK_COUNT {
+        let name = Key(1 + (slot / 16) as u64 * (keys / 16));
+        let holder = (slot % 16) as u16 + 1;
+        tables.desk.slots[slot] = Slot::Taken(Lock { name, holder, mode: Mode::S });
+    }
+    tables
+}
+
+/// All slots in use by X locks on as many entries, of an index with so many, that sixteen
+/// transactions have deleted.
+pub fn all_locks_x(keys: u64) -> Tables {
+    let mut tables = settled(keys);
+    run_all(&mut tables);
+    for place in 0..LOCK_COUNT as u64 {
+        let key = Key(1 + place * (keys / LOCK_COUNT as u64));
+        let transaction = (place % 16) as u16 + 1;
+        let kind = RequestKind::Keys(KeyRequest::Delete { key });
+        tables.answer(Request { transaction, kind });
+    }
+    tables
+}
+
+fn run_all(tables: &mut Tables) {
+    for transaction in 1..=TRANSACTION_COUNT {
+        tables.desk.set_transaction(transaction, Transaction::Running);
+    }
+}
