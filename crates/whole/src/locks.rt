@@ -261,5 +261,11 @@ pub fn are_locks(pages: &[u8], d: &[u8], level: usize, root: usize) -> bool
     requires { ⌜ length (now d) ≡ 4672 ⌝ }
     ensures { λ r. ⌜ r ≡ locksOk level (now (pages .entry)) (now (d .entry)) root ⌝ }
 {
-    are_together(d) & are_named(pages, d, level, root) & owners_hold(pages, d, level, root)
+    if !are_together(d) {
+        return false;
+    }
+    if !are_named(pages, d, level, root) {
+        return false;
+    }
+    owners_hold(pages, d, level, root)
 }
