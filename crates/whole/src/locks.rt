@@ -90,7 +90,7 @@ fn has_x(a: Slot) -> bool
 }
 
 // Whether slot i is t's X on a key.
-fn is_x_of(d: &[u8], i: usize, t: u16, key: Key) -> bool
+pub fn is_x_of(d: &[u8], i: usize, t: u16, key: Key) -> bool
     requires { ⌜ length (now d) ≡ 4672 ⌝ }
     requires { ⌜ i < 256 ⌝ }
     ensures { λ r. ⌜ r ≡ slotHolds t (key .0) (slotAt (now (d .entry)) i) ⌝ }
@@ -261,5 +261,11 @@ pub fn are_locks(pages: &[u8], d: &[u8], level: usize, root: usize) -> bool
     requires { ⌜ length (now d) ≡ 4672 ⌝ }
     ensures { λ r. ⌜ r ≡ locksOk level (now (pages .entry)) (now (d .entry)) root ⌝ }
 {
-    are_together(d) & are_named(pages, d, level, root) & owners_hold(pages, d, level, root)
+    if !are_together(d) {
+        return false;
+    }
+    if !are_named(pages, d, level, root) {
+        return false;
+    }
+    owners_hold(pages, d, level, root)
 }
