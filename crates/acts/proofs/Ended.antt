@@ -103,24 +103,26 @@ module _ (d : List ℕ) (t q n : ℕ) (a : q ≡ waitsIn d t) (b : n ≡ queued 
       let z : ltb (waitsIn d t) (queued d) ≡ false = le-ltb (waitsIn d t) (queued d) (omega arith) in
       ap (λ x. cond x (queueLeft d (waitsIn d t)) d) (sym z)
 
--- ---- the desk, move by move, and the whole
-module _ (p d : List ℕ) (w : Whole p d) (t : ℕ) (d₁ : List ℕ) (e₁ : d₁ ≡ dropped t d) where
+-- ---- the desk, move by move
+pub stopped : (d d₁ d₂ : List ℕ) (t : ℕ) → d₁ ≡ locksReleased t d → d₂ ≡ markPut d₁ t false → d₂ ≡ markPut (locksReleased t d) t false
+stopped d d₁ d₂ t e₁ e₂ = e₂ ∙ ap (λ x. markPut x t false) e₁
+
+-- ---- the whole
+module _ (p d : List ℕ) (w : Whole p d) (t : ℕ) where
   fit : Fitting (slotsOf d) (leave book t (queueOf d)) (marksOf d)
   fit = fit-left (whole-fits p d w) (book .paging) t
 
-  module _ (d₂ : List ℕ) (e₂ : d₂ ≡ locksReleased t d₁) where
-    pub end-says : (p′ d₃ : List ℕ) (commits : Bool) → 1 ≤ t → t ≤ transactionsMost → Becomes p′ (settledIn commits t (indexOf p)) → d₃ ≡ markPut d₂ t false
-        → Says p′ d₃ (ended book (endOf commits) (stateOf p d) t)
-    unfolding ended stateOf
-    end-says p′ d₃ commits low high b e₃ =
-        let s = stateOf p d in
-        let ls = released book t (slotsOf d) in
-        let qs = leave book t (queueOf d) in
-        let ms = set (marksOf d) t idle in
-        tables-say p′ (b .whole) ls qs ms (fit-marked (fit-released fit (book .paging) t) t idle low) d₃
-        (e₃ ∙ ap (λ x. markPut x t false) e₂ ∙ ap (λ x. markPut (locksReleased t x) t false) e₁
-        ∙ ap (λ x. markPut (locksReleased t (dropped t x)) t false) (w .desk)
-        ∙ desk-ended (book .paging) (slotsOf d) (queueOf d) (marksOf d) (whole-fits p d w) t low high)
-        (ended book (endOf commits) s t) (ended-good s t (w .values) low (endOf commits) (end-settles commits))
-        (ap₂ (λ es ps. record { entries = es; pages = ps; slots = ls; queue = qs; marks = ms })
-        (sym (entries-settled p p′ t commits b)) (sym (pages-settled p p′ t commits b (w .values .keys))))
+  pub end-says : (p′ d₁ d′ : List ℕ) (commits : Bool) → 1 ≤ t → t ≤ transactionsMost → Becomes p′ (settledIn commits t (indexOf p))
+      → d₁ ≡ dropped t d → d′ ≡ markPut (locksReleased t d₁) t false → Says p′ d′ (ended book (endOf commits) (stateOf p d) t)
+  unfolding ended stateOf
+  end-says p′ d₁ d′ commits low high b e₁ e =
+      let s = stateOf p d in
+      let ls = released book t (slotsOf d) in
+      let qs = leave book t (queueOf d) in
+      let ms = set (marksOf d) t idle in
+      tables-say p′ (b .whole) ls qs ms (fit-marked (fit-released fit (book .paging) t) t idle low) d′
+      (e ∙ ap (λ x. markPut (locksReleased t x) t false) e₁ ∙ ap (λ x. markPut (locksReleased t (dropped t x)) t false) (w .desk)
+      ∙ desk-ended (book .paging) (slotsOf d) (queueOf d) (marksOf d) (whole-fits p d w) t low high)
+      (ended book (endOf commits) s t) (ended-good s t (w .values) low (endOf commits) (end-settles commits))
+      (ap₂ (λ es ps. record { entries = es; pages = ps; slots = ls; queue = qs; marks = ms })
+      (sym (entries-settled p p′ t commits b)) (sym (pages-settled p p′ t commits b (w .values .keys))))

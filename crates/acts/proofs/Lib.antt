@@ -5,3 +5,7 @@ pub mod Ended
 pub mod Runs
 pub mod Looks
 pub mod Missing
+pub mod Changes
+pub mod Deletes
+pub mod Inserts
+pub mod Asked

@@ -47,12 +47,12 @@ use Rattle.acts.proofs.Runs.{asker-fits, ran-says, goes-if, given-if, r
 -- ---- a missing key: no lock stands on it, and it is not its insert's target
 module _ (p d : List ℕ) (w : Whole p d) (k : ℕ) where
   -- where the target is not the key it is missing
-  pub is-missing : (t rec : ℕ) (found : Found) → bookFound found ≡ target book (entriesIn p) t (insert k rec) → (there : Found)
-      → bookFound there ≡ itself book k (bookFound found) → there ≡ FV.Nothing → missing compare keyOf k (entriesIn p) ≡ true
+  pub is-missing : (t rec : ℕ) (there : Found) → bookFound there ≡ itself book k (target book (entriesIn p) t (insert k rec)) → there ≡ FV.Nothing
+      → missing compare keyOf k (entriesIn p) ≡ true
   unfolding target stateOf
-  is-missing t rec found f there i h =
+  is-missing t rec there i h =
       in-all (λ e. not (same book (e .key) k)) (entriesIn p) (λ e j.
-      ap not (I.missing book numbers-ordered (entriesIn p) k (w .values .keys) (ap (itself book k) (sym f) ∙ sym i ∙ ap bookFound h) e j))
+      ap not (I.missing book numbers-ordered (entriesIn p) k (w .values .keys) (sym i ∙ ap bookFound h) e j))
 
   module _ (m : missing compare keyOf k (entriesIn p) ≡ true) where
     no-lock : (t : ℕ) → holds book (slotsOf d) t (on k) ≡ false

@@ -1,12 +1,12 @@
 // The end of a transaction. (Document 01, "Keys and entries", "Locks".)
 ghost use mathlib.Core.Path.{_≡_};
-ghost use mathlib.Core.Bool.{cond, true};
+ghost use mathlib.Core.Bool.{cond, false};
 ghost use Prim.Native.Nat.{_≤_};
 ghost use lib.Dec.{ltb};
 ghost use Rattle.rules.specs.Desk.{ended, runs};
 ghost use Rattle.pages.specs.Rows.{endOf};
 ghost use Rattle.tables.specs.Layout.{deskSize, transactionsMost, queued};
-ghost use Rattle.tables.specs.Moves.{waitsIn, queueLeft};
+ghost use Rattle.tables.specs.Moves.{locksReleased, waitsIn, queueLeft, markPut};
 ghost use Rattle.desks.specs.States.{book, stateOf};
 ghost use Rattle.whole.specs.Whole.{Whole};
 ghost use Rattle.acts.specs.Acts.{Says};
@@ -28,6 +28,16 @@ fn drop_request(desk: &mut [u8], t: u16)
     }
 }
 
+// Releases t's locks, and marks that it runs no more.
+fn stop(desk: &mut [u8], t: u16)
+    requires { do ⌜ (← ⟦desk.len()⟧) ≡ deskSize ⌝ }
+    requires { ⌜ t ≤ transactionsMost ⌝ }
+    ensures { λ _. ⌜ now (desk .exit) ≡ markPut (locksReleased t (now (desk .entry))) t false ⌝ }
+{
+    locks::release_locks(desk, t);
+    transactions::put_running(desk, t, false);
+}
+
 // Ends t: its entries are settled, its request is dropped, its locks are released, and it runs no more.
 pub fn end(pages: &mut [u8], desk: &mut [u8], t: u16, commits: bool)
     requires { ⌜ Whole (now pages) (now desk) ⌝ }
@@ -37,6 +47,5 @@ pub fn end(pages: &mut [u8], desk: &mut [u8], t: u16, commits: bool)
 {
     index::settle(pages, t, commits);
     drop_request(desk, t);
-    locks::release_locks(desk, t);
-    transactions::put_running(desk, t, false);
+    stop(desk, t);
 }

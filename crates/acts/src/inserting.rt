@@ -1,18 +1,26 @@
 // The run of an insert. (Document 01, "Working the queue" and "What the desk says".)
 ghost use mathlib.Core.Path.{_≡_};
-ghost use mathlib.Core.Bool.{true};
+ghost use mathlib.Core.Bool.{true, cond, _&&_};
 ghost use Prim.Native.Nat.{_<_, compare};
 ghost use Rattle.rules.specs.Kinds.{insert};
+ghost use Rattle.rules.specs.Entries.{ghost, revived};
+ghost use Rattle.rules.specs.Runs.{done, isPresent, locksShort};
 ghost use Rattle.trees.specs.Growth.{missing};
+ghost use Rattle.entries.specs.Meaning.{bookValue, bookEntry, bookSays};
 ghost use Rattle.tables.specs.Layout.{locksMost, queuedAt};
 ghost use Rattle.tables.specs.Moves.{freeIn};
-ghost use Rattle.index.specs.Pictures.{keyOf, entriesIn};
+ghost use Rattle.index.specs.Pictures.{keyOf, entriesIn, WholePages};
 ghost use Rattle.whole.specs.Whole.{Whole};
 ghost use Rattle.acts.specs.Acts.{Clear, Ran};
+ghost use Rattle.acts.specs.Exchanges.{Exchanged};
+use super::locking::lock_and_leave;
+use super::standing::entry_of;
 use entries::Answer;
+use entries::Ask;
 use entries::Entry;
 use entries::Key;
 use entries::Says;
+use index::Found;
 use tables::LOCKS;
 use tables::Mode;
 use tables::locks;
@@ -46,7 +54,7 @@ fn put_missing(pages: &mut [u8], desk: &mut [u8], q: usize, key: Key, rec: u32) 
 
 // Runs the insert at place q of the queue, which nobody blocks, where its key is missing.
 // No lock stands on a missing key, so a new one is needed.
-pub fn insert_missing(pages: &mut [u8], desk: &mut [u8], q: usize, key: Key, rec: u32) -> Answer
+fn insert_missing(pages: &mut [u8], desk: &mut [u8], q: usize, key: Key, rec: u32) -> Answer
     requires { ⌜ Whole (now pages) (now desk) ⌝ }
     requires { ⌜ Clear (now pages) (now desk) q ⌝ }
     requires { ⌜ queuedAt (now desk) q .asks ≡ insert (key .0) rec ⌝ }
@@ -61,5 +69,42 @@ pub fn insert_missing(pages: &mut [u8], desk: &mut [u8], q: usize, key: Key, rec
     Answer {
         asker: t,
         says: Says::LocksShort,
+    }
+}
+
+// Makes t's own ghost of the key present again, if t has the lock; a present entry is told. Gives what is said.
+fn insert_there(pages: &mut [u8], given: bool, t: u16, e: Entry, rec: u32) -> Says
+    requires { ⌜ WholePages (now pages) ⌝ }
+    ensures exchanged { λ _. ⌜ Exchanged (now (pages .entry)) (now (pages .exit)) (given && ghost (bookEntry e)) (revived t rec (bookEntry e)) ⌝ }
+    ensures says { λ r. ⌜ bookSays r ≡ cond given (cond (ghost (bookEntry e)) done (isPresent (e .key .0) (bookValue (e .now)))) locksShort ⌝ }
+{
+    if !given {
+        return Says::LocksShort;
+    }
+    if !e.is_ghost() {
+        let key = e.key;
+        let now = e.now;
+        return Says::IsPresent(key, now);
+    }
+    index::replace(pages, e.revived(t, rec));
+    Says::Done
+}
+
+// Runs the insert at place q of the queue, which nobody blocks.
+pub fn run_insert(pages: &mut [u8], desk: &mut [u8], q: usize, key: Key, rec: u32) -> Answer
+    requires { ⌜ Whole (now pages) (now desk) ⌝ }
+    requires { ⌜ Clear (now pages) (now desk) q ⌝ }
+    requires { ⌜ queuedAt (now desk) q .asks ≡ insert (key .0) rec ⌝ }
+    ensures { λ r. ⌜ Ran (now (pages .entry)) (now (desk .entry)) (now (pages .exit)) (now (desk .exit)) q r ⌝ }
+{
+    let t = queue::in_place(desk, q);
+    let there = entry_of(pages, t, Ask::Insert(key, rec), key);
+    let Found::Here(e) = there else {
+        return insert_missing(pages, desk, q, key, rec);
+    };
+    let given = lock_and_leave(desk, q, t, key, Mode::S);
+    Answer {
+        asker: t,
+        says: insert_there(pages, given, t, e, rec),
     }
 }

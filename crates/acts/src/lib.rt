@@ -1,9 +1,15 @@
 // Acting on a whole picture: the run of a request that nobody blocks, and the end of a transaction.
 // (Document 01, "Working the queue" and "What the desk says".)
+mod deleting;
 mod ending;
 mod inserting;
+mod locking;
 mod reading;
+mod running;
+mod standing;
 
+pub use deleting::run_delete;
 pub use ending::end;
-pub use inserting::insert_missing;
+pub use inserting::run_insert;
 pub use reading::run_read;
+pub use running::run_at;

@@ -1,1 +1,70 @@
-// The key desk.
+// The key desk: one call answers one request on lent bytes. (Document 01, "What the desk says".)
+mod answering;
+mod fresh;
+mod joining;
+mod refusing;
+mod working;
+
+ghost use Rattle.desk.specs.Promise.{Freshened, Served};
+ghost use Rattle.desk.specs.Calls.{lent};
+pub use answering::answer;
+use entries::Answer;
+use entries::Heard;
+use entries::Says;
+pub use working::work;
+
+// What stands against a request, 13 to 15, or nothing.
+pub enum Refusal {
+    By(Says),
+    Nothing,
+}
+
+// What a turn of the queue brought: an answer, or the desk is at rest.
+pub enum Turned {
+    Said(Answer),
+    Rest,
+}
+
+// The number that a call returns with no answer: 10 to 12, in the upper half.
+const WRONG_SIZES: u64 = 42949672960;
+
+const NOT_WHOLE: u64 = 47244640256;
+
+const BAD_REQUEST: u64 = 51539607552;
+
+// Makes a fresh picture of any bytes of the two lengths, and returns 0; for others 10, in the upper half, and nothing is written.
+#[no_mangle]
+pub extern "C" fn keydesk_fresh(pages: &mut [u8], desk: &mut [u8]) -> u64
+    ensures { λ r. ⌜ Freshened (now (pages .entry)) (now (desk .entry)) (now (pages .exit)) (now (desk .exit)) r ⌝ }
+{
+    if (pages.len() != 32768) | (desk.len() != 4672) {
+        return WRONG_SIZES;
+    }
+    index::fresh_pages(pages);
+    fresh::fresh_desk(desk);
+    0
+}
+
+// Answers the request that a slice is. It returns the number, 10 to 12 or 0, in the upper half, and how many bytes of answers were written
+// in the lower. With 10 to 12 nothing is changed.
+#[no_mangle]
+pub extern "C" fn keydesk_serve(
+    pages: &mut [u8],
+    desk: &mut [u8],
+    answers: &mut [u8],
+    request: &[u8],
+) -> u64
+    ensures { λ r. ⌜ Served (now (request .entry)) (lent (now (pages .entry)) (now (desk .entry)) (now (answers .entry))) (lent (now (pages .exit)) (now (desk .exit)) (now (answers .exit))) r ⌝ }
+{
+    if (pages.len() != 32768) | (desk.len() != 4672) | (answers.len() < 320) {
+        return WRONG_SIZES;
+    }
+    if !whole::is_whole(pages, desk) {
+        return NOT_WHOLE;
+    }
+    let heard = entries::read_request(request);
+    let Heard::Good(call) = heard else {
+        return BAD_REQUEST;
+    };
+    answer(pages, desk, answers, call) as u64
+}

@@ -8,9 +8,8 @@ use Rattle.acts.proofs.ending.end.Tie as tie
 use Rattle.acts.proofs.ending.end.Reads as reads
 use Rattle.acts.proofs.ending.end.Lts as lts
 use Rattle.acts.proofs.ending.drop_request.Reads as drop-request-reads
+use Rattle.acts.proofs.ending.stop.Reads as stop-reads
 use Rattle.index.proofs.settle.Reads as settle-reads
-use Rattle.tables.proofs.locks.release_locks.Reads as release-locks-reads
-use Rattle.tables.proofs.transactions.put_running.Reads as put-running-reads
 
 settle-requires : tie.Need-settle-requires
 settle-requires c κs = search needs
@@ -18,11 +17,8 @@ settle-requires c κs = search needs
 drop-request-requires : tie.Need-drop-request-requires
 drop-request-requires c κs = search (needs, whole-few)
 
-release-locks-requires : tie.Need-release-locks-requires
-release-locks-requires c κs = search needs
-
-put-running-requires : tie.Need-put-running-requires
-put-running-requires c κs = search needs
+stop-requires : tie.Need-stop-requires
+stop-requires c κs = search needs
 
 same-length : tie.Need-same-length
 same-length c = search needs
@@ -39,8 +35,7 @@ end-spec =
     (tie.spec
     settle-requires
     drop-request-requires
-    release-locks-requires
-    put-running-requires
+    stop-requires
     same-length
     same-length-2
     returns)

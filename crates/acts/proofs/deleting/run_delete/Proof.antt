@@ -1,0 +1,86 @@
+-- `acts::deleting::run_delete` meets its contract, by whether the target is the entry of the key.
+-- Assumes nothing.
+use borrow.Author.Needs.{needs}
+use Rattle.acts.proofs.Tables.{whole-few}
+use Rattle.acts.proofs.Runs.{clear-place, clear-low, clear-high}
+use Rattle.acts.proofs.Deletes.{delete-missing, delete-there}
+use Rattle.acts.proofs.deleting.run_delete.Statement.{statement}
+use Rattle.acts.proofs.deleting.run_delete.Tie as tie
+use Rattle.acts.proofs.deleting.run_delete.Reads as reads
+use Rattle.acts.proofs.deleting.run_delete.Lts as lts
+use Rattle.acts.proofs.deleting.delete_there.Reads as delete-there-reads
+use Rattle.acts.proofs.locking.lock_and_leave.Reads as lock-and-leave-reads
+use Rattle.acts.proofs.reading.unless_short.Reads as unless-short-reads
+use Rattle.acts.proofs.standing.standing.Reads as standing-reads
+use Rattle.tables.proofs.queue.in_place.Reads as in-place-reads
+use Rattle.waits.proofs.targets.name_of.Reads as name-of-reads
+use Rattle.waits.proofs.targets.target_of.Reads as target-of-reads
+
+in-place-requires : tie.Need-in-place-requires
+in-place-requires c κs = search (needs, clear-place)
+
+target-of-requires : tie.Need-target-of-requires
+target-of-requires c κs = search (needs, clear-low)
+
+standing-requires : tie.Need-standing-requires
+standing-requires c κs = search needs
+
+enum-known-there : tie.Need-enum-known-there
+enum-known-there c = search needs
+
+enum-told : tie.Need-enum-told
+enum-told c = search needs
+
+name-of-requires : tie.Need-name-of-requires
+name-of-requires c κs = search needs
+
+lock-and-leave-requires : tie.Need-lock-and-leave-requires
+lock-and-leave-requires c κs = (search needs, (search needs, (search (needs, whole-few), search (needs, clear-high))))
+
+unless-short-requires : tie.Need-unless-short-requires
+unless-short-requires c κs = search needs
+
+same-length : tie.Need-same-length
+same-length c = search needs
+
+same-length-2 : tie.Need-same-length-2
+same-length-2 c = search needs
+
+returns : tie.Need-returns
+returns c = search delete-missing
+
+lock-and-leave-requires-2 : tie.Need-lock-and-leave-requires-2
+lock-and-leave-requires-2 c κs = (search needs, (search needs, (search (needs, whole-few), search (needs, clear-high))))
+
+delete-there-requires : tie.Need-delete-there-requires
+delete-there-requires c κs = search needs
+
+same-length-3 : tie.Need-same-length-3
+same-length-3 c = search needs
+
+same-length-4 : tie.Need-same-length-4
+same-length-4 c = search needs
+
+returns-2 : tie.Need-returns-2
+returns-2 c = search delete-there
+
+pub run-delete-spec : {M : Type 1} → statement M
+run-delete-spec =
+    tie.close
+    (tie.spec
+    in-place-requires
+    target-of-requires
+    standing-requires
+    enum-known-there
+    enum-told
+    name-of-requires
+    lock-and-leave-requires
+    unless-short-requires
+    same-length
+    same-length-2
+    returns
+    lock-and-leave-requires-2
+    delete-there-requires
+    same-length-3
+    same-length-4
+    returns-2)

@@ -1,0 +1,25 @@
+-- `acts::ending::stop` meets its contract, one move after the other.
+-- Assumes nothing.
+use borrow.Author.Needs.{needs}
+use Rattle.acts.proofs.Ended.{stopped}
+use Rattle.acts.proofs.ending.stop.Statement.{statement}
+use Rattle.acts.proofs.ending.stop.Tie as tie
+use Rattle.acts.proofs.ending.stop.Reads as reads
+use Rattle.acts.proofs.ending.stop.Lts as lts
+use Rattle.tables.proofs.locks.release_locks.Reads as release-locks-reads
+use Rattle.tables.proofs.transactions.put_running.Reads as put-running-reads
+
+release-locks-requires : tie.Need-release-locks-requires
+release-locks-requires c κs = search needs
+
+put-running-requires : tie.Need-put-running-requires
+put-running-requires c κs = search needs
+
+same-length : tie.Need-same-length
+same-length c = search needs
+
+returns : tie.Need-returns
+returns c = search stopped
+
+pub stop-spec : {M : Type 1} → statement M
+stop-spec = tie.close (tie.spec release-locks-requires put-running-requires same-length returns)

@@ -1,0 +1,72 @@
+-- `acts::inserting::run_insert` meets its contract, by whether the target is the entry of the key.
+-- Assumes nothing.
+use borrow.Author.Needs.{needs}
+use Rattle.acts.proofs.Tables.{whole-few}
+use Rattle.acts.proofs.Runs.{clear-place, clear-low, clear-high}
+use Rattle.acts.proofs.Inserts.{insert-missing, insert-there}
+use Rattle.acts.proofs.inserting.run_insert.Statement.{statement}
+use Rattle.acts.proofs.inserting.run_insert.Tie as tie
+use Rattle.acts.proofs.inserting.run_insert.Reads as reads
+use Rattle.acts.proofs.inserting.run_insert.Lts as lts
+use Rattle.acts.proofs.inserting.insert_missing.Reads as insert-missing-reads
+use Rattle.acts.proofs.inserting.insert_there.Reads as insert-there-reads
+use Rattle.acts.proofs.locking.lock_and_leave.Reads as lock-and-leave-reads
+use Rattle.acts.proofs.standing.entry_of.Reads as entry-of-reads
+use Rattle.tables.proofs.queue.in_place.Reads as in-place-reads
+
+in-place-requires : tie.Need-in-place-requires
+in-place-requires c κs = search (needs, clear-place)
+
+entry-of-requires : tie.Need-entry-of-requires
+entry-of-requires c κs = search (needs, clear-low)
+
+enum-known-there : tie.Need-enum-known-there
+enum-known-there c = search needs
+
+enum-told : tie.Need-enum-told
+enum-told c = search needs
+
+insert-missing-requires : tie.Need-insert-missing-requires
+insert-missing-requires c κs = (search needs, (search needs, (search needs, search (needs, insert-missing))))
+
+same-length : tie.Need-same-length
+same-length c = search needs
+
+same-length-2 : tie.Need-same-length-2
+same-length-2 c = search needs
+
+returns : tie.Need-returns
+returns c = search needs
+
+lock-and-leave-requires : tie.Need-lock-and-leave-requires
+lock-and-leave-requires c κs = (search needs, (search needs, (search (needs, whole-few), search (needs, clear-high))))
+
+insert-there-requires : tie.Need-insert-there-requires
+insert-there-requires c κs = search needs
+
+same-length-3 : tie.Need-same-length-3
+same-length-3 c = search needs
+
+same-length-4 : tie.Need-same-length-4
+same-length-4 c = search needs
+
+returns-2 : tie.Need-returns-2
+returns-2 c = search insert-there
+
+pub run-insert-spec : {M : Type 1} → statement M
+run-insert-spec =
+    tie.close
+    (tie.spec
+    in-place-requires
+    entry-of-requires
+    enum-known-there
+    enum-told
+    insert-missing-requires
+    same-length
+    same-length-2
+    returns
+    lock-and-leave-requires
+    insert-there-requires
+    same-length-3
+    same-length-4
+    returns-2)

@@ -1,0 +1,26 @@
+-- `acts::locking::lock_and_leave` meets its contract: the queue stands as it did when the lock has been taken.
+-- Assumes nothing.
+use borrow.Author.Needs.{needs}
+use Rattle.acts.proofs.Changes.{locked-inside, locked-few, locked-asker, locked-left}
+use Rattle.acts.proofs.locking.lock_and_leave.Statement.{statement}
+use Rattle.acts.proofs.locking.lock_and_leave.Tie as tie
+use Rattle.acts.proofs.locking.lock_and_leave.Reads as reads
+use Rattle.acts.proofs.locking.lock_and_leave.Lts as lts
+use Rattle.tables.proofs.locks.take_lock.Reads as take-lock-reads
+use Rattle.tables.proofs.queue.leave_queue.Reads as leave-queue-reads
+
+take-lock-requires : tie.Need-take-lock-requires
+take-lock-requires c κs = search needs
+
+leave-queue-requires : tie.Need-leave-queue-requires
+leave-queue-requires c κs = (search needs, (search (needs, locked-inside), (search (needs, locked-few), search (needs, locked-asker))))
+
+same-length : tie.Need-same-length
+same-length c = search needs
+
+returns : tie.Need-returns
+returns c = (search (needs, locked-left), search needs)
+
+pub lock-and-leave-spec : {M : Type 1} → statement M
+lock-and-leave-spec =
+    tie.close (tie.spec take-lock-requires leave-queue-requires same-length returns)

@@ -1,0 +1,87 @@
+-- `acts::running::run_at` meets its contract, by what the request asks.
+-- Assumes nothing.
+use borrow.Author.Needs.{needs}
+use Rattle.acts.proofs.Runs.{clear-place, clear-high}
+use Rattle.acts.proofs.Asked.{read-asked, insert-asked, delete-asked}
+use Rattle.acts.proofs.running.run_at.Statement.{statement}
+use Rattle.acts.proofs.running.run_at.Tie as tie
+use Rattle.acts.proofs.running.run_at.Reads as reads
+use Rattle.acts.proofs.running.run_at.Lts as lts
+use Rattle.acts.proofs.deleting.run_delete.Reads as run-delete-reads
+use Rattle.acts.proofs.inserting.run_insert.Reads as run-insert-reads
+use Rattle.acts.proofs.reading.run_read.Reads as run-read-reads
+use Rattle.tables.proofs.queue.in_place.Reads as in-place-reads
+use Rattle.tables.proofs.transactions.ask_at.Reads as ask-at-reads
+
+in-place-requires : tie.Need-in-place-requires
+in-place-requires c κs = search (needs, clear-place)
+
+ask-at-requires : tie.Need-ask-at-requires
+ask-at-requires c κs = search (needs, clear-high)
+
+enum-known-ask : tie.Need-enum-known-ask
+enum-known-ask c = search needs
+
+run-read-requires : tie.Need-run-read-requires
+run-read-requires c κs = (search needs, (search needs, search (needs, read-asked)))
+
+enum-known-ask-2 : tie.Need-enum-known-ask-2
+enum-known-ask-2 c = search needs
+
+run-insert-requires : tie.Need-run-insert-requires
+run-insert-requires c κs = (search needs, (search needs, search (needs, insert-asked)))
+
+enum-known-ask-3 : tie.Need-enum-known-ask-3
+enum-known-ask-3 c = search needs
+
+run-delete-requires : tie.Need-run-delete-requires
+run-delete-requires c κs = (search needs, (search needs, search (needs, delete-asked)))
+
+same-length : tie.Need-same-length
+same-length c = search needs
+
+same-length-2 : tie.Need-same-length-2
+same-length-2 c = search needs
+
+returns : tie.Need-returns
+returns c = search needs
+
+same-length-3 : tie.Need-same-length-3
+same-length-3 c = search needs
+
+same-length-4 : tie.Need-same-length-4
+same-length-4 c = search needs
+
+returns-2 : tie.Need-returns-2
+returns-2 c = search needs
+
+same-length-5 : tie.Need-same-length-5
+same-length-5 c = search needs
+
+same-length-6 : tie.Need-same-length-6
+same-length-6 c = search needs
+
+returns-3 : tie.Need-returns-3
+returns-3 c = search needs
+
+pub run-at-spec : {M : Type 1} → statement M
+run-at-spec =
+    tie.close
+    (tie.spec
+    in-place-requires
+    ask-at-requires
+    enum-known-ask
+    run-read-requires
+    enum-known-ask-2
+    run-insert-requires
+    enum-known-ask-3
+    run-delete-requires
+    same-length
+    same-length-2
+    returns
+    same-length-3
+    same-length-4
+    returns-2
+    same-length-5
+    same-length-6
+    returns-3)

@@ -1,0 +1,67 @@
+-- The call: sizes, the picture, the record, in this order, and then the request answered. One law for each way out. Assumes nothing.
+use Prim.Native.Nat.{ℕ, _≤_}
+use mathlib.Core.Path.{_≡_, refl, sym, ap, _∙_}
+use mathlib.Core.Bool.{Bool, true, false, not, true≢false}
+use mathlib.Core.List.{List}
+use native.Mathlib.Omega.{arith}
+use borrow.Author.Tests.{eqb-true, not-true, not-false, ltb-false}
+use lib.Dec.{eqb}
+use lib.ListN.{length}
+use Rattle.rules.specs.Desk.{legalCall}
+use Rattle.entries.specs.declared.Call.{Call}
+use Rattle.entries.specs.declared.Heard.{Heard}
+use Rattle.entries.specs.declared.Heard.the-variants.{Good, Bad}
+use Rattle.entries.specs.Meaning.{bookCall, bookHeard}
+use Rattle.entries.specs.Records.{heard}
+use Rattle.entries.proofs.Requests.{neither}
+use Rattle.entries.proofs.Number12.{heard-legal}
+use Rattle.desks.specs.States.{book}
+use Rattle.whole.specs.Whole.{Whole, Judged}
+use Rattle.desk.specs.Promise.{wrongPicture, shortSpace, wrongSizes, Answered, Served, sizes, broken, bad, good}
+use Rattle.desk.specs.Calls.{lent}
+
+-- ---- the sizes
+module _ (p d : List ℕ) (h : wrongPicture p d ≡ false) where
+  pub right-pages : length p ≡ 32768
+  right-pages =
+      eqb-true (length p) 32768 (not-false (eqb (length p) 32768) (neither (not (eqb (length p) 32768)) (not (eqb (length d) 4672)) h .0))
+
+  pub right-desk : length d ≡ 4672
+  right-desk = eqb-true (length d) 4672 (not-false (eqb (length d) 4672) (neither (not (eqb (length p) 32768)) (not (eqb (length d) 4672)) h .1))
+
+module _ (p d o : List ℕ) where
+  pub served-sizes : (q : List ℕ) → wrongSizes (lent p d o) ≡ true → Served q (lent p d o) (lent p d o) 42949672960
+  served-sizes q h = sizes h refl refl
+
+  module _ (h : wrongSizes (lent p d o) ≡ false) where
+    picture : wrongPicture p d ≡ false
+    picture = neither (wrongPicture p d) (shortSpace o) h .0
+
+    pub size-pages : length p ≡ 32768
+    size-pages = right-pages p d picture
+
+    pub size-desk : length d ≡ 4672
+    size-desk = right-desk p d picture
+
+    pub size-answers : 320 ≤ length o
+    size-answers = ltb-false (length o) 320 (neither (wrongPicture p d) (shortSpace o) h .1)
+
+    -- ---- the picture
+    module _ (b : Bool) (j : Judged p d b) where
+      pub served-broken : (q : List ℕ) → not b ≡ true → Served q (lent p d o) (lent p d o) 47244640256
+      served-broken q e = broken h (λ w. true≢false (sym (j .complete w) ∙ not-true b e)) refl refl
+
+      -- ---- the record
+      module _ (e : not b ≡ false) (q : List ℕ) (x : Heard) (k : bookHeard x ≡ heard q) where
+        pub served-bad : x ≡ Bad → Served q (lent p d o) (lent p d o) 51539607552
+        served-bad m = bad h (j .sound (not-false b e)) (sym k ∙ ap bookHeard m) refl refl
+
+        pub served-good : (c : Call) → x ≡ Good c → (p′ d′ o′ : List ℕ) (n : ℕ) → Answered (bookCall c) (lent p d o) (lent p′ d′ o′) n
+            → Served q (lent p d o) (lent p′ d′ o′) n
+        served-good c m p′ d′ o′ n a = good (bookCall c) n h (j .sound (not-false b e)) (sym k ∙ ap bookHeard m) a (omega arith)
+
+pub judged-whole : (p d : List ℕ) (b : Bool) → Judged p d b → not b ≡ false → Whole p d
+judged-whole p d b j e = j .sound (not-false b e)
+
+pub heard-right : (q : List ℕ) (x : Heard) → bookHeard x ≡ heard q → (c : Call) → x ≡ Good c → legalCall book (bookCall c) ≡ true
+heard-right q x k c m = heard-legal (book .paging) q (bookCall c) (sym k ∙ ap bookHeard m)

@@ -1,0 +1,32 @@
+-- `desk::joining::asked_record` meets its contract: keys that are legal are below the end, and a record has its width.
+-- Assumes nothing.
+use borrow.Author.Needs.{needs}
+use Rattle.desk.proofs.Asked.{fits-read, fits-insert, fits-delete}
+use Rattle.desk.proofs.joining.asked_record.Statement.{statement}
+use Rattle.desk.proofs.joining.asked_record.Tie as tie
+
+enum-told : tie.Need-enum-told
+enum-told c = search needs
+
+enum-known-ask : tie.Need-enum-known-ask
+enum-known-ask c = search needs
+
+record-of-requires : tie.Need-record-of-requires
+record-of-requires c κs = search needs
+
+enum-told-2 : tie.Need-enum-told-2
+enum-told-2 c = search needs
+
+returns : tie.Need-returns
+returns c = search (needs, fits-read)
+
+returns-2 : tie.Need-returns-2
+returns-2 c = search (needs, fits-insert)
+
+returns-3 : tie.Need-returns-3
+returns-3 c = search (needs, fits-delete)
+
+pub asked-record-spec : {M : Type 1} → statement M
+asked-record-spec =
+    tie.close
+    (tie.spec enum-told enum-known-ask record-of-requires enum-told-2 returns returns-2 returns-3)

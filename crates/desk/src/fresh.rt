@@ -1,0 +1,14 @@
+// A fresh desk. (Document 01, **Whole**.)
+ghost use mathlib.Core.Path.{_≡_};
+ghost use lib.ListN.{length};
+ghost use Rattle.whole.specs.Fresh.{freshDesk};
+
+// Makes any buffer of the right length that of an empty desk: zeros behind its length and its kind.
+pub fn fresh_desk(desk: &mut [u8])
+    requires { ⌜ length (now desk) ≡ 4672 ⌝ }
+    ensures { λ _. ⌜ now (desk .exit) ≡ freshDesk ⌝ }
+{
+    numbers::zero_bytes(desk, 0, 4672);
+    numbers::write_u16(desk, 0, 4672);
+    numbers::write_u16(desk, 2, 8);
+}
