@@ -100,7 +100,7 @@ fn waits_in_a_tall_index() {
         run.met()
     }));
     assert!(met.height_3 >= 6000, "{met:?}");
-    assert_numbers(&met, 50, &[0, 1, 2, 3, 13, 14, 15, 16, 19]);
+    assert_numbers(&met, 10, &[0, 1, 2, 3, 13, 14, 15, 16, 19]);
 }
 
 /// Scripts of one kind, each on settled keys of its own.

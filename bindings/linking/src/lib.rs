@@ -1,0 +1,59 @@
+//! For build scripts: builds the static library of a crate, which `rt` proves first, and links it.
+
+use std::fs::{self, File};
+use std::path::{Path, PathBuf};
+use std::process::Command;
+use std::{env, io};
+
+/// Builds and links the library of a crate, and gives the directory that it is linked from: a copy,
+/// since `rt ci` removes what `rt` has built. The script runs again when the crate or one below it
+/// changes.
+pub fn link(name: &str) -> PathBuf {
+    let out = PathBuf::from(env::var("OUT_DIR").expect("cargo names the directory"));
+    let here = Path::new(env!("CARGO_MANIFEST_DIR"));
+    let root = here.ancestors().nth(2).expect("the repository's root is two levels up");
+    let library = format!("lib{name}.a");
+    let turn = wait_for_turn(root).expect("a lock can be taken under target/");
+    eprintln!("rt staticlib {name}: proves and compiles it, some minutes the first time");
+    let built = Command::new("rt").args(["staticlib", name]).current_dir(root).status();
+    assert!(built.expect("rt is to be found").success(), "rt staticlib {name} failed");
+    fs::copy(root.join("target/staticlib").join(&library), out.join(&library))
+        .expect("rt has written the library");
+    drop(turn);
+    println!("cargo::rustc-link-search=native={}", out.display());
+    println!("cargo::rustc-link-lib=static={name}");
+    println!("cargo::rerun-if-changed={}", root.join("crates.txt").display());
+    for known in crates_below(root, name) {
+        println!("cargo::rerun-if-changed={}", root.join("crates").join(known).display());
+    }
+    out
+}
+
+/// Cargo runs build scripts side by side, and `rt` must not prove one crate twice at a time.
+fn wait_for_turn(root: &Path) -> io::Result<File> {
+    fs::create_dir_all(root.join("target"))?;
+    let turn = File::create(root.join("target/linking.lock"))?;
+    turn.lock()?;
+    Ok(turn)
+}
+
+/// A crate and all that it knows, by the lines of crates.txt: a name, a colon, the names it knows.
+fn crates_below(root: &Path, top: &str) -> Vec<String> {
+    let listed = fs::read_to_string(root.join("crates.txt")).expect("crates.txt can be read");
+    let knows = |name: &str| {
+        let lines = listed.lines().filter(|line| !line.starts_with('#'));
+        let mut crates = lines.filter_map(|line| line.split_once(':'));
+        crates.find(|(listed, _)| listed.trim() == name).map_or("", |(_, known)| known)
+    };
+    let mut below = vec![top.to_string()];
+    let mut next = 0;
+    while let Some(name) = below.get(next).cloned() {
+        for known in knows(&name).split_whitespace() {
+            if below.iter().all(|listed| listed != known) {
+                below.push(known.to_string());
+            }
+        }
+        next += 1;
+    }
+    below
+}

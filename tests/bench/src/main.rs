@@ -1,0 +1,89 @@
+//! Times the proved desk and the plain Rust one on the same work, in one run, and prints Markdown.
+//!
+//!     cargo run --release --offline --manifest-path tests/Cargo.toml -p bench
+
+mod machine;
+mod timing;
+mod work;
+
+use desk::pictures::{all_locks_s, all_locks_x, settled};
+use model::desk::Picture;
+use model::picture::Tables;
+use timing::{Times, single_calls};
+use work::{Session, in_any_slots, read_on, reader};
+
+fn main() {
+    println!("{}", machine::description());
+    judging();
+    one_call();
+    many_calls();
+}
+
+/// A line of the table: microseconds of both, and how much longer the proved one takes.
+fn row(name: &str, times: &Times) {
+    let Times { library, plain } = times;
+    println!("| {name} | {library:.2} | {plain:.2} | {:.2} |", library / plain);
+}
+
+fn head(title: &str, unit: &str) {
+    println!(
+        "\n## {title}\n\n| | proved, {unit} | plain Rust, {unit} | ratio |\n|---|---:|---:|---:|"
+    );
+}
+
+/// A picture's judgement alone, asked by an empty request, which is refused with 12 once the picture
+/// is found whole; and beside it a read that is served.
+fn judged_and_read(picture: &Picture) -> [Times; 2] {
+    single_calls(picture, [(&[], 12), (&read_on(picture), 0)])
+}
+
+fn judging() {
+    head("Judging a picture", "µs");
+    let pictures = [
+        ("fresh", Tables::fresh()),
+        ("778 entries, no locks", settled(778)),
+        ("778 entries, 256 S locks of 16 holders", all_locks_s(778)),
+        ("256 entries, each owned, 256 X locks of 16 holders", all_locks_x(256)),
+        ("778 entries, 256 of them owned, 256 X locks of 16 holders", all_locks_x(778)),
+    ];
+    for (name, tables) in pictures {
+        row(name, &single_calls(&in_any_slots(tables), [(&[], 12)])[0]);
+    }
+}
+
+fn one_call() {
+    head("One call: a read", "µs");
+    let pictures = [
+        ("empty", reader(0, 0)),
+        ("half full: 389 entries, 128 locks", reader(389, 128)),
+        ("full: 778 entries, 256 locks", reader(778, 256)),
+    ];
+    let shares = pictures.map(|(name, picture)| {
+        let [judged, call] = judged_and_read(&picture);
+        row(name, &call);
+        (name, judged.library / call.library, judged.plain / call.plain)
+    });
+    println!("\n| share of the judgement in it | proved | plain Rust |\n|---|---:|---:|");
+    for (name, library, plain) in shares {
+        println!("| {name} | {:.0} % | {:.0} % |", 100.0 * library, 100.0 * plain);
+    }
+}
+
+fn many_calls() {
+    head("A thousand calls", "µs");
+    row("from fresh, 16 transactions", &Session::from_fresh(1000).times());
+    row("on a full picture, 16 transactions", &Session::from(full(), 1000).times());
+
+    let session = Session::from_fresh(20_000);
+    let times = session.times();
+    let a_second = |microseconds: f64| 20_000.0 / microseconds * 1e6;
+    println!("\n## A mixed session of 20,000 requests with 16 transactions\n");
+    println!("| | proved | plain Rust | ratio |\n|---|---:|---:|---:|");
+    let (library, plain) = (a_second(times.library), a_second(times.plain));
+    println!("| requests a second | {library:.0} | {plain:.0} | {:.2} |", plain / library);
+    println!("\nAnswers: {}.", session.answers());
+}
+
+fn full() -> Picture {
+    settled(778).encode()
+}
