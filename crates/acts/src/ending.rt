@@ -3,7 +3,7 @@ ghost use mathlib.Core.Path.{_≡_};
 ghost use mathlib.Core.Bool.{cond, false};
 ghost use Prim.Native.Nat.{_≤_};
 ghost use lib.Dec.{ltb};
-ghost use Rattle.rules.specs.Desk.{ended, runs};
+ghost use Rattle.rules.specs.Desk.{ended};
 ghost use Rattle.pages.specs.Rows.{endOf};
 ghost use Rattle.tables.specs.Layout.{deskSize, transactionsMost, queued};
 ghost use Rattle.tables.specs.Moves.{locksReleased, waitsIn, queueLeft, markPut};

@@ -20,7 +20,7 @@ use Rattle.desks.proofs.Fresh.{fresh-desk}
 use Rattle.whole.specs.Whole.{Whole}
 use Rattle.whole.specs.Fresh.{freshDesk}
 use Rattle.whole.proofs.Fresh.{fresh-whole, fresh-says}
-use Rattle.desk.specs.Promise.{wrongPicture, Freshened, sizes, made}
+use Rattle.desk.specs.Promise.{wrongPicture, returned, Freshened, sizes, made}
 
 set-zero : (s : List ℕ) (i : ℕ) → getD s i 0 ≡ 0 → set s i 0 ≡ s
 set-zero [] i h = refl
@@ -70,7 +70,7 @@ module _ (d : List ℕ) (size : length d ≡ 4672) where
       c ∙ ap (λ x. putNumber 2 x 2 8) b ∙ ap (λ x. putNumber 2 (putNumber 2 x 0 4672) 2 8) a ∙ headed-fields ∙ fresh-desk z long zeros
 
 -- ---- the picture
-pub freshened-sizes : (p d : List ℕ) → wrongPicture p d ≡ true → Freshened p d p d 42949672960
+pub freshened-sizes : (p d : List ℕ) → wrongPicture p d ≡ true → Freshened p d p d (returned 10 0)
 freshened-sizes p d h = sizes h refl refl refl
 
 pub freshened-made : (p d p′ d′ : List ℕ) → wrongPicture p d ≡ false → Becomes p′ bare → d′ ≡ freshDesk → Freshened p d p′ d′ 0

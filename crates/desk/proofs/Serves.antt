@@ -17,7 +17,7 @@ use Rattle.entries.proofs.Requests.{neither}
 use Rattle.entries.proofs.Number12.{heard-legal}
 use Rattle.desks.specs.States.{book}
 use Rattle.whole.specs.Whole.{Whole, Judged}
-use Rattle.desk.specs.Promise.{wrongPicture, shortSpace, wrongSizes, Answered, Served, sizes, broken, bad, good}
+use Rattle.desk.specs.Promise.{wrongPicture, shortSpace, wrongSizes, returned, Answered, Served, sizes, broken, bad, good}
 use Rattle.desk.specs.Calls.{lent}
 
 -- ---- the sizes
@@ -30,7 +30,7 @@ module _ (p d : List ℕ) (h : wrongPicture p d ≡ false) where
   right-desk = eqb-true (length d) 4672 (not-false (eqb (length d) 4672) (neither (not (eqb (length p) 32768)) (not (eqb (length d) 4672)) h .1))
 
 module _ (p d o : List ℕ) where
-  pub served-sizes : (q : List ℕ) → wrongSizes (lent p d o) ≡ true → Served q (lent p d o) (lent p d o) 42949672960
+  pub served-sizes : (q : List ℕ) → wrongSizes (lent p d o) ≡ true → Served q (lent p d o) (lent p d o) (returned 10 0)
   served-sizes q h = sizes h refl refl
 
   module _ (h : wrongSizes (lent p d o) ≡ false) where
@@ -48,12 +48,12 @@ module _ (p d o : List ℕ) where
 
     -- ---- the picture
     module _ (b : Bool) (j : Judged p d b) where
-      pub served-broken : (q : List ℕ) → not b ≡ true → Served q (lent p d o) (lent p d o) 47244640256
+      pub served-broken : (q : List ℕ) → not b ≡ true → Served q (lent p d o) (lent p d o) (returned 11 0)
       served-broken q e = broken h (λ w. true≢false (sym (j .complete w) ∙ not-true b e)) refl refl
 
       -- ---- the record
       module _ (e : not b ≡ false) (q : List ℕ) (x : Heard) (k : bookHeard x ≡ heard q) where
-        pub served-bad : x ≡ Bad → Served q (lent p d o) (lent p d o) 51539607552
+        pub served-bad : x ≡ Bad → Served q (lent p d o) (lent p d o) (returned 12 0)
         served-bad m = bad h (j .sound (not-false b e)) (sym k ∙ ap bookHeard m) refl refl
 
         pub served-good : (c : Call) → x ≡ Good c → (p′ d′ o′ : List ℕ) (n : ℕ) → Answered (bookCall c) (lent p d o) (lent p′ d′ o′) n

@@ -26,11 +26,11 @@ pub enum Turned {
 }
 
 // The number that a call returns with no answer: 10 to 12, in the upper half.
-const WRONG_SIZES: u64 = 42949672960;
+const WRONG_SIZES: u64 = 10 * 4294967296;
 
-const NOT_WHOLE: u64 = 47244640256;
+const NOT_WHOLE: u64 = 11 * 4294967296;
 
-const BAD_REQUEST: u64 = 51539607552;
+const BAD_REQUEST: u64 = 12 * 4294967296;
 
 // Makes a fresh picture of any bytes of the two lengths, and returns 0; for others 10, in the upper half, and nothing is written.
 #[no_mangle]

@@ -1,15 +1,13 @@
 -- A picture, pages and desk, read as the rule book's state; and the bytes that document 01 gives a desk. Assumes nothing.
-use Prim.Native.Nat.{ℕ, _+_, _*_, _-_, compare}
-use mathlib.Core.Bool.{Bool, cond}
+use Prim.Native.Nat.{ℕ, _*_, _-_, compare}
 use mathlib.Core.List.{List, [], _∷_, _++_}
 use mathlib.Core.Option.{Option, none, some}
 use lib.Dec.{eqb}
 use lib.ListN.{length, getD, replicate}
 use Rattle.lists.specs.Lists.{tab, join, first}
 use Rattle.numbers.specs.Numbers.{widthOf, putFields}
-use Rattle.rules.specs.Kinds.{Book, Lock, Queued, Mark, idle, running, Ask, State}
+use Rattle.rules.specs.Kinds.{Book, Lock, Queued, Mark, idle, running}
 use Rattle.rules.specs.Queue.{St}
-use Rattle.rules.specs.Desk.{isRunning}
 use Rattle.rules.specs.Document.{document}
 use Rattle.trees.specs.Trees.{documentSizes}
 use Rattle.trees.specs.Shapes.{treePaging, shape}

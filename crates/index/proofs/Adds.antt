@@ -1,26 +1,24 @@
 -- An insert of a missing key, from the root: the tree grown, with a new root if it was divided, and page 0 written, is the index with the
 -- entry, whole again. Page 0 and a new root are pages apart from the tree's. Assumes nothing.
 use Rattle.pages.specs.Layout.{ChildFits}
-use Prim.Native.Nat.{ℕ, zero, suc, _+_, _-_, _≤_, _<_, compare}
+use Prim.Native.Nat.{ℕ, suc, _+_, _-_, _≤_, _<_, compare}
 use mathlib.Core.Path.{_≡_, refl, sym, ap, ap₂, subst, _∙_}
-use mathlib.Core.Logic.{_≢_, _⊎_, inl, inr}
+use mathlib.Core.Logic.{_≢_, inl, inr}
 use mathlib.Core.Bool.{Bool, true, false, cond, not}
 use mathlib.Core.List.{List, [], _∷_, map}
-use mathlib.Core.Option.{Option, none, some}
+use mathlib.Core.Option.{some}
 use native.Mathlib.Omega.{arith}
-use lib.Dec.{leb, eqb, ltb, lit<, lit≤}
+use lib.Dec.{eqb, lit<, lit≤}
 use lib.ListN.{length, replicate}
 use borrow.Author.Tests.{leb-true, not-true, not-false, le-leb, lt-leb, eq-eqb}
 use Rattle.lists.specs.Lists.{In}
 use Rattle.rules.specs.Document.{endMark}
 use Rattle.rules.proofs.Orders.{numbers-ordered}
-use Rattle.entries.specs.declared.Entry as E
-use Rattle.entries.specs.Meaning.{bookEntry}
 use Rattle.pages.specs.declared.Child as P
 use Rattle.pages.specs.Layout.{rootOf, usedOf, heightOf, putRoot, childrenOf}
-use Rattle.trees.specs.Trees.{Child, Tree, Index, WholeIndex, documentSizes, summed, above, times, flat}
+use Rattle.trees.specs.Trees.{Child, Index, WholeIndex, documentSizes, summed, above, times}
 use Rattle.trees.specs.Growth as G
-use Rattle.trees.specs.Growth.{missing, grown, rooted, withItem, fits, needed}
+use Rattle.trees.specs.Growth.{missing, rooted, withItem, fits, needed}
 use Rattle.trees.proofs.Pages.{grown-times}
 use Rattle.trees.proofs.Need.{Run, grown-needs}
 use Rattle.trees.proofs.Wholes.{with-whole, document-fair}
@@ -30,13 +28,12 @@ use Rattle.index.specs.declared.Grown.the-variants.{Same, Split}
 use Rattle.index.specs.Pictures.{Item, keyOf, pageAt, putPage, treeOf, indexOf, entriesIn, headPage, innerPage, Laid, WholePages}
 use Rattle.index.specs.Changes.{withEntry, entryFits, Becomes, Added}
 use Rattle.index.specs.Descents.{Subtree, TopOf, runOf}
-use Rattle.index.specs.Growing.{SmallEntry, GrowIn, Grew, usedIn, grownOf, rootPage, RootIn}
+use Rattle.index.specs.Growing.{SmallEntry, GrowIn, Grew, grownOf, rootPage, RootIn}
 use Rattle.index.proofs.Buffers.{length-putPage, page-same, page-kept}
 use Rattle.index.proofs.Inners as Inner
 use Rattle.index.proofs.Frame as F
 use Rattle.index.proofs.Frame.{Times, own-page, frame, laid-frame}
-use Rattle.index.proofs.Subtrees.{used-page, subtree-root, one-at-most}
-use Rattle.pages.proofs.Children as C
+use Rattle.index.proofs.Subtrees.{used-page, subtree-root}
 use Rattle.index.proofs.Divided.{child-small}
 use Rattle.index.proofs.Widens.{unused}
 use Rattle.index.proofs.Heads.{length-head, head-again, root-head, used-head, height-head, level-small}

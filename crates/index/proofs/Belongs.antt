@@ -1,6 +1,6 @@
 -- The leaf that a key belongs to: no other leaf of the tree has the key. The children before the one that the key belongs to lie under it, those
 -- after it above, and what no entry of a tree has, no leaf of it has. Assumes nothing.
-use Prim.Native.Nat.{ℕ, zero, suc, _+_, _-_, _<_, compare}
+use Prim.Native.Nat.{ℕ, zero, suc, _-_, _<_, compare}
 use mathlib.Core.Path.{_≡_, refl, sym, ap, subst, _∙_}
 use mathlib.Core.Logic.{_≢_, _⊎_, inl, inr, ⊎-elim}
 use mathlib.Core.Bool.{Bool, true, not}

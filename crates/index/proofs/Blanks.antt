@@ -1,6 +1,6 @@
 -- A fresh page buffer: zeros, page 1 an empty leaf, page 0 with its numbers. It is that of the bare index, which is whole.
 -- Page by page. Assumes nothing.
-use Prim.Native.Nat.{ℕ, _+_, _*_, _-_, _≤_, _<_, compare}
+use Prim.Native.Nat.{ℕ, _+_, _*_, _-_, _<_}
 use mathlib.Core.Path.{_≡_, refl, sym, ap, _∙_}
 use mathlib.Core.List.{List, []}
 use mathlib.Core.Option.{some}
@@ -16,10 +16,10 @@ use Rattle.numbers.specs.Numbers.{zeroed}
 use Rattle.numbers.proofs.Parts.{getD-part}
 use Rattle.numbers.proofs.Moves.{length-zeroed, getD-zeroed-in}
 use Rattle.pages.specs.Layout.{putHead, putRoot, entriesOf}
-use Rattle.trees.specs.Trees.{Index, documentSizes}
+use Rattle.trees.specs.Trees.{documentSizes}
 use Rattle.trees.specs.Shapes.{bare}
 use Rattle.trees.proofs.Wholes.{bare-whole, document-fair}
-use Rattle.index.specs.Pictures.{Item, keyOf, pageAt, putPage, treeOf, blankPage, headPage, leafPage}
+use Rattle.index.specs.Pictures.{keyOf, pageAt, putPage, treeOf, blankPage, headPage, leafPage}
 use Rattle.index.specs.Changes.{Becomes}
 use Rattle.index.proofs.Buffers.{length-page, length-putPage, page-same, page-other, page-lent, page-back}
 use Rattle.index.proofs.Written.{length-blank}

@@ -8,7 +8,7 @@ use native.Mathlib.Decide.{decLt}
 use native.Mathlib.Omega.{arith}
 use lib.ListN.{length, take, drop, length-take, length-drop}
 use borrow.Rule.Slice.PartMut.{putMid}
-use Rattle.numbers.specs.Numbers.{part, putPart}
+use Rattle.numbers.specs.Numbers.{part}
 use Rattle.numbers.proofs.Parts.{length-part, length-putPart, part-same, part-other, lent, back}
 use Rattle.index.specs.Pictures.{pageAt, putPage}
 

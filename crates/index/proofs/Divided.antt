@@ -2,14 +2,11 @@
 -- The parts that are lent are the pages, and what is copied whole is the page. Assumes nothing.
 use Rattle.pages.specs.Layout.{EntryFits, ChildFits}
 use Prim.Native.Nat.{ℕ, zero, suc, _+_, _*_, _-_, _≤_, _<_}
-use mathlib.Core.Path.{_≡_, refl, sym, ap, ap₂, subst, _∙_}
-use mathlib.Core.Logic.{_⊎_, inl, inr, ⊎-elim}
-use mathlib.Core.Bool.{Bool, true, false, cond}
-use mathlib.Core.List.{List, [], _∷_, map}
+use mathlib.Core.Path.{_≡_, refl, sym, ap, subst, _∙_}
+use mathlib.Core.Logic.{inr, ⊎-elim}
+use mathlib.Core.List.{List, [], _∷_}
 use native.Mathlib.Omega.{arith}
-use native.Mathlib.Nat.{zero-add}
-use lib.Dec.{lit<, lit≤}
-use lib.ListN.{length, take, drop, replicate, length-drop, length-replicate}
+use lib.ListN.{length, take, drop, replicate, length-drop}
 use lib.Seq.{take-all, length-take-le}
 use borrow.Rule.Slice.PartMut.{putMid}
 use Rattle.lists.specs.Lists.{In, tab, insertAt}
@@ -21,18 +18,16 @@ use Rattle.numbers.proofs.Parts.{length-putPart, part-same}
 use Rattle.entries.specs.declared.Key.{Key}
 use Rattle.pages.specs.declared.Child as P
 use Rattle.pages.specs.Layout.{countOf, putHead, entryAt, entriesOf, childrenOf}
-use Rattle.pages.specs.Rows.{rowsOf, entryRow, childRow, entryPut, childPut, Divided, asTheyAre, fromZero, firstLow}
-use Rattle.pages.proofs.Entries as E
+use Rattle.pages.specs.Rows.{rowsOf, entryRow, childRow, childPut, Divided, asTheyAre, fromZero, firstLow}
 use Rattle.pages.proofs.Children as C
-use Rattle.index.specs.declared.Grown.{Grown}
 use Rattle.index.specs.declared.Grown.the-variants.{Same, Split}
 use Rattle.index.specs.Pictures.{Item, pageAt, putPage, blankPage, leafPage, innerPage}
 use Rattle.index.specs.Growing.{SmallEntry, SmallChild, LeafFull, LeafSplit, lowKey, InnerRoom, InnerFull, Widened, zeroFirst, lowFirst}
-use Rattle.index.proofs.Buffers.{page-lent, page-back, length-page, length-putPage, page-same, page-other}
+use Rattle.index.proofs.Buffers.{page-lent, page-back, length-page, length-putPage}
 use Rattle.index.proofs.Leaves as Leaf
 use Rattle.index.proofs.Inners as Inner
 use Rattle.index.proofs.Written.{length-blank, count-blank}
-use Rattle.index.proofs.Subtrees.{length-entries, length-children}
+use Rattle.index.proofs.Subtrees.{length-children}
 
 pub entry-small : (e : Item) → SmallEntry e → EntryFits e
 entry-small e s = record { key = s .key; owner = s .owner; now = s .now; before = s .before }

@@ -1,9 +1,9 @@
 -- The entries of the index in the rule book's words: what an insert, an exchange and a transaction's end make of them and of the shape, and
 -- that they ascend below the end. From the tree's laws. Assumes nothing.
-use Prim.Native.Nat.{ℕ, _≤_, _<_, compare}
-use mathlib.Core.Path.{_≡_, refl, sym, ap, _∙_}
-use mathlib.Core.Bool.{Bool, true, cond, not}
-use mathlib.Core.List.{List, [], _∷_, _++_, map}
+use Prim.Native.Nat.{ℕ, _<_, compare}
+use mathlib.Core.Path.{_≡_, refl, ap, _∙_}
+use mathlib.Core.Bool.{Bool, cond, not}
+use mathlib.Core.List.{List, map}
 use mathlib.Core.Option.{some}
 use native.Mathlib.Omega.{arith}
 use lib.Dec.{leb, eqb}
@@ -14,7 +14,7 @@ use Rattle.rules.specs.Document.{endMark}
 use Rattle.rules.specs.Entries.{left, settled, takenOut}
 use Rattle.rules.proofs.Orders.{numbers-ordered}
 use Rattle.pages.specs.Rows.{endOf}
-use Rattle.trees.specs.Trees.{Index, WholeIndex, documentSizes, flat}
+use Rattle.trees.specs.Trees.{Index, documentSizes, flat}
 use Rattle.trees.specs.Growth.{withItem, inLeaves}
 use Rattle.trees.specs.Shapes.{shape, without}
 use Rattle.trees.proofs.Sorted.{Sorted}
@@ -22,7 +22,7 @@ use Rattle.trees.proofs.Order.{flat-sorted}
 use Rattle.trees.proofs.Wholes.{with-flat, document-fair}
 use Rattle.trees.proofs.Thinning.{flat-leaves}
 use Rattle.trees.proofs.Shaped.{with-shape}
-use Rattle.trees.proofs.Settling.{shape-settled, shape-same}
+use Rattle.trees.proofs.Settling.{shape-settled}
 use Rattle.index.specs.Pictures.{Item, keyOf, indexOf, entriesIn, WholePages}
 use Rattle.index.specs.Changes.{withEntry, replaced, settledIn, Becomes}
 use Rattle.index.proofs.Leaves.{end-key}

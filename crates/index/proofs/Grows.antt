@@ -1,36 +1,34 @@
 -- A tree of pages grows as the tree does. The code's step at a leaf and at an inner page is the tree's step, its new pages are laid, and no
 -- other page is touched: how often a page stands in a tree says that it is another. Assumes nothing.
 use Rattle.pages.specs.Layout.{EntryFits}
-use Prim.Native.Nat.{ℕ, zero, suc, _+_, _*_, _-_, _≤_, _<_, compare}
-use mathlib.Core.Path.{_≡_, refl, sym, ap, ap₂, subst, _∙_}
-use mathlib.Core.Logic.{_≢_, _⊎_, inl, inr, ⊎-elim}
+use Prim.Native.Nat.{ℕ, zero, suc, _+_, _*_, _-_, _≤_, _<_}
+use mathlib.Core.Path.{_≡_, refl, sym, ap, subst, _∙_}
+use mathlib.Core.Logic.{_≢_, inl, inr, ⊎-elim}
 use mathlib.Core.Bool.{Bool, true, false, cond}
-use mathlib.Core.List.{List, [], _∷_, _++_, map}
-use mathlib.Core.Option.{Option, none, some}
+use mathlib.Core.List.{List, [], _∷_}
+use mathlib.Core.Option.{some}
 use native.Mathlib.Omega.{arith}
 use lib.Dec.{leb, lit<}
 use lib.ListN.{length, take, drop, length-drop}
 use lib.Seq.{length-take-le}
-use borrow.Author.Tests.{le-leb, lt-leb, leb-true}
+use borrow.Author.Tests.{le-leb, lt-leb}
 use borrow.Rule.Slice.PartMut.{putMid}
 use Rattle.lists.specs.Lists as L
 use Rattle.lists.specs.Lists.{In, insertAt, insertBefore}
 use Rattle.lists.proofs.Elements.{insertAt-in}
 use Rattle.lists.proofs.Places.{length-insertAt}
 use Rattle.pages.specs.declared.Child as P
-use Rattle.pages.specs.Layout.{countOf, entriesOf, childrenOf}
-use Rattle.pages.specs.Places.{keysAscend, EntryPlace}
+use Rattle.pages.specs.Layout.{countOf, entriesOf}
+use Rattle.pages.specs.Places.{EntryPlace}
 use Rattle.pages.specs.Rows.{entryPut}
-use Rattle.pages.proofs.Entries as E
-use Rattle.trees.specs.Trees.{Child, Tree, Page, documentSizes, above, times}
+use Rattle.trees.specs.Trees.{Child}
 use Rattle.trees.specs.Growth as G
 use Rattle.trees.specs.Growth.{halves, grown, fullRun}
 use Rattle.index.specs.declared.Grown.{Grown}
-use Rattle.index.specs.declared.Grown.the-variants.{Same, Split}
-use Rattle.index.specs.Pictures.{Item, keyOf, pageAt, putPage, treeOf, leafPage, innerPage, Laid}
-use Rattle.index.specs.Descents.{Subtree, runOf}
-use Rattle.index.specs.Growing.{SmallEntry, SmallChild, GrowIn, Grew, Told, usedIn, grownOf, LeafFull, LeafSplit, lowKey}
-use Rattle.index.proofs.Buffers.{page-lent, page-back, length-page, length-putPage, page-same, page-other}
+use Rattle.index.specs.declared.Grown.the-variants.{Same}
+use Rattle.index.specs.Pictures.{Item, keyOf, pageAt, putPage, treeOf, leafPage, Laid}
+use Rattle.index.specs.Growing.{GrowIn, Grew, grownOf, LeafFull, LeafSplit, lowKey}
+use Rattle.index.proofs.Buffers.{page-lent, page-back, length-putPage, page-same, page-other}
 use Rattle.index.proofs.Leaves as Leaf
 use Rattle.index.proofs.Frame.{Times, own-page}
 use Rattle.index.proofs.Subtrees.{leaf-few, keys-ascend, length-entries}

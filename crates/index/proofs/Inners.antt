@@ -1,15 +1,15 @@
 -- An inner page as it is written from children, and as the inner code changes it: it is then the page written from the children changed.
 -- Its rows are those of its children, and a child that fits is read back as it was written. Assumes nothing.
 use Rattle.pages.specs.Layout.{ChildFits}
-use Prim.Native.Nat.{ℕ, _+_, _*_, _≤_, _<_}
+use Prim.Native.Nat.{ℕ, _≤_}
 use mathlib.Core.Path.{_≡_, refl, sym, ap, ap₂, subst, _∙_}
-use mathlib.Core.Logic.{_⊎_, inl, inr}
+use mathlib.Core.Logic.{inl, inr}
 use mathlib.Core.List.{List, [], _∷_, map}
 use native.Mathlib.Omega.{arith}
 use lib.Dec.{lit<, lit≤}
 use lib.ListN.{length, getD, take, drop, replicate}
 use Rattle.lists.specs.Lists.{In, insertAt}
-use Rattle.numbers.specs.Numbers.{numberAt, putNumber, putFields, fieldsAt, widthOf, Bytes}
+use Rattle.numbers.specs.Numbers.{numberAt, putNumber, fieldsAt, widthOf, Bytes}
 use Rattle.numbers.proofs.Agree.{agree-all}
 use Rattle.numbers.proofs.Numbers.{number-same, number-apart, touches-putNumber, length-putNumber}
 use Rattle.numbers.proofs.Fields.{fields-fit, fields-same, fields-inj}

@@ -1,24 +1,21 @@
 -- A leaf as it is written from entries, and as the leaf code changes it: it is then the leaf written from the entries changed.
 -- Its rows are those of its entries, and an entry that fits is read back as it was written. Assumes nothing.
 use Rattle.pages.specs.Layout.{EntryFits}
-use Prim.Native.Nat.{ℕ, zero, suc, _+_, _*_, _/_, _%_, _≤_, _<_}
+use Prim.Native.Nat.{ℕ, _/_, _%_, _≤_, _<_}
 use mathlib.Core.Path.{_≡_, refl, sym, ap, ap₂, subst, _∙_}
-use mathlib.Core.Logic.{_⊎_, inl, inr, ⊎-elim}
+use mathlib.Core.Logic.{inl, inr, ⊎-elim}
 use mathlib.Core.Bool.{Bool, true, false, cond}
 use mathlib.Core.List.{List, [], _∷_, _++_, map}
-use mathlib.Core.Option.{Option, none, some}
+use mathlib.Core.Option.{none, some}
 use native.Mathlib.Omega.{arith}
 use lib.Dec.{eqb, lit<, lit≤}
 use lib.ListN.{length, getD, take, drop, replicate}
-use Rattle.lists.specs.Lists.{In, tab, join, insertAt}
+use Rattle.lists.specs.Lists.{In, join, insertAt}
 use Rattle.lists.proofs.Elements.{append-in}
-use Rattle.lists.proofs.Places.{map-insertAt, length-insertAt}
-use Rattle.lists.proofs.Tables.{length-tab}
 use Rattle.lists.proofs.Rows.{map-append}
-use Rattle.numbers.specs.Numbers.{fieldsAt, Bytes, Fits}
+use Rattle.numbers.specs.Numbers.{fieldsAt, Bytes}
 use Rattle.numbers.proofs.Fields.{fields-fit}
 use Rattle.numbers.proofs.Kept.{bytes-putFields}
-use Rattle.rules.specs.Kinds.{Entry}
 use Rattle.rules.specs.Entries.{left, settled, present}
 use Rattle.entries.specs.Records.{orZero}
 use Rattle.pages.specs.Layout.{countOf, entryWidths, ifBit, entryIn, entryFields, entriesOf}

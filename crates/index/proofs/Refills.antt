@@ -1,21 +1,21 @@
 -- Pages whose leaves hold other entries and whose inner pages stay: the tree is the old one with its leaves so changed, it is laid again,
 -- and the index is whole again where the change keeps it so. By the tree, page by page. Assumes nothing.
-use Prim.Native.Nat.{ℕ, zero, suc, _+_, _-_, _≤_, _<_, compare}
-use mathlib.Core.Path.{_≡_, refl, sym, ap, ap₂, subst, _∙_}
-use mathlib.Core.Logic.{_⊎_, inl, inr}
+use Prim.Native.Nat.{ℕ, zero, suc, _-_, _≤_, _<_, compare}
+use mathlib.Core.Path.{_≡_, refl, sym, ap, subst, _∙_}
+use mathlib.Core.Logic.{inl, inr}
 use mathlib.Core.Bool.{Bool, true, false, cond}
 use mathlib.Core.List.{List, [], _∷_, map}
 use mathlib.Core.Option.{some}
 use native.Mathlib.Omega.{arith}
-use lib.Dec.{eqb, lit<}
-use lib.ListN.{length, replicate, length-map}
-use borrow.Author.Tests.{eqb-true, eqb-false}
+use lib.Dec.{eqb}
+use lib.ListN.{length}
+use borrow.Author.Tests.{eqb-true}
 use Rattle.lists.specs.Lists.{In}
 use Rattle.lists.proofs.Rows.{map-map}
 use Rattle.rules.specs.Document.{endMark}
 use Rattle.pages.specs.declared.Child as P
-use Rattle.pages.specs.Layout.{kindOf, countOf, rootOf, usedOf, heightOf, entriesOf, childrenOf}
-use Rattle.trees.specs.Trees.{Child, Tree, Index, summed, isPage, times, documentSizes, WholeIndex}
+use Rattle.pages.specs.Layout.{kindOf, rootOf, usedOf, heightOf, entriesOf, childrenOf}
+use Rattle.trees.specs.Trees.{Child, summed, isPage, times, documentSizes, WholeIndex}
 use Rattle.trees.specs.Growth.{withTree, leaves, inLeaves}
 use Rattle.trees.proofs.Thinning.{Thins, leaves-whole}
 use Rattle.index.specs.Pictures.{Item, keyOf, pageAt, treeOf, indexOf, leafPage, innerPage, headPage, Laid, WholePages}
@@ -24,7 +24,7 @@ use Rattle.index.specs.Descents.{Subtree}
 use Rattle.index.proofs.Written.{kind-leaf, kind-inner, kind-head}
 use Rattle.index.proofs.Leaves.{Smalls, leaf-entries, laid-small}
 use Rattle.index.proofs.Frame.{kid, Times, own-page, times-inner, times-child, map-same}
-use Rattle.index.proofs.Subtrees.{used-page, leaf-few, inner-filled, length-entries, subtree-child, subtree-root}
+use Rattle.index.proofs.Subtrees.{used-page, leaf-few, inner-filled, subtree-child, subtree-root}
 
 -- a leaf with its entries changed, any other page as it is
 abbrev pub refilled : (List Item → List Item) → List ℕ → List ℕ

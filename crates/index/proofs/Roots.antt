@@ -1,12 +1,12 @@
 -- Page 0 and the new root, as the code writes them: the parts that are lent are those pages, and a page of zeros with two children is the
 -- page written from the two. Assumes nothing.
-use Prim.Native.Nat.{ℕ, _+_, _*_, _-_, _≤_, _<_}
-use mathlib.Core.Path.{_≡_, refl, sym, ap, subst, _∙_}
+use Prim.Native.Nat.{ℕ, _+_, _*_, _-_, _≤_}
+use mathlib.Core.Path.{_≡_, sym, ap, _∙_}
 use mathlib.Core.List.{List, [], _∷_}
 use native.Mathlib.Nat.{mul-zero}
 use native.Mathlib.Omega.{arith}
 use lib.Dec.{lit≤}
-use lib.ListN.{length, take, drop, replicate, length-replicate}
+use lib.ListN.{length, take, drop, replicate}
 use borrow.Rule.Slice.PartMut.{putMid}
 use Rattle.lists.specs.Lists.{tab, insertAt}
 use Rattle.pages.specs.declared.Child as P
@@ -15,7 +15,7 @@ use Rattle.pages.specs.Rows.{rowAt, rowsOf, withRows, childPut}
 use Rattle.pages.proofs.WithRows.{with-own}
 use Rattle.index.specs.Pictures.{pageAt, putPage, blankPage, innerPage}
 use Rattle.index.specs.Growing.{rootPage, RootIn}
-use Rattle.index.proofs.Buffers.{page-lent, page-back, length-putPage, page-other}
+use Rattle.index.proofs.Buffers.{page-lent, page-back, page-other}
 use Rattle.index.proofs.Inners.{inner-put, inner-count, inner-length}
 use Rattle.index.proofs.Written.{length-blank, count-blank, bytes-blank}
 

@@ -1,7 +1,7 @@
 -- The run of full pages, as the code follows it: the leaf, then each page above it whose child's run is unbroken.
 -- The child that the code goes into is the one that the key belongs to. Assumes nothing.
 use Prim.Native.Nat.{ℕ, zero, suc, _+_, _*_, _-_, _≤_, _<_, compare}
-use mathlib.Core.Path.{_≡_, refl, sym, ap, subst, _∙_}
+use mathlib.Core.Path.{_≡_, refl, sym, ap, _∙_}
 use mathlib.Core.Bool.{Bool, true, false, cond, _&&_}
 use mathlib.Core.List.{List, map}
 use native.Mathlib.Nat.{zero-add}
@@ -9,17 +9,16 @@ use native.Mathlib.Omega.{arith}
 use lib.Dec.{leb, eqb}
 use lib.ListN.{length, getD, take, drop, length-map, List·getD-map}
 use borrow.Author.Tests.{le-leb, lt-leb, eq-eqb, ne-eqb}
-use Rattle.lists.specs.Lists.{tab}
 use Rattle.lists.proofs.Tests.{and-both}
 use Rattle.lists.proofs.Tables.{getD-tab}
 use Rattle.pages.specs.declared.Child as P
-use Rattle.pages.specs.Layout.{countOf, rootOf, usedOf, heightOf, entriesOf, childAt, childrenOf}
-use Rattle.trees.specs.Trees.{Child, Tree, documentSizes}
+use Rattle.pages.specs.Layout.{countOf, rootOf, usedOf, heightOf, childAt, childrenOf}
+use Rattle.trees.specs.Trees.{Child, documentSizes}
 use Rattle.trees.specs.Growth.{place, belongs, fullRun, needed, fits}
 use Rattle.trees.proofs.Places.{belongs-at}
 use Rattle.index.specs.declared.Top.{Top}
 use Rattle.index.specs.declared.Step.{Step}
-use Rattle.index.specs.Pictures.{Item, keyOf, pageAt, treeOf, indexOf, WholePages}
+use Rattle.index.specs.Pictures.{keyOf, pageAt, treeOf, indexOf}
 use Rattle.index.specs.Changes.{entryFits}
 use Rattle.index.specs.Descents.{Subtree, Starts, TopOf, runOf}
 use Rattle.index.proofs.Buffers.{page-lent}

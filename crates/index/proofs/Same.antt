@@ -1,11 +1,9 @@
 -- A whole page buffer is told by its index: each page is what the tree writes there, page 0 what the index does, and the others are zero.
 -- By the tree, page by page. Assumes nothing.
-use Prim.Native.Nat.{ℕ, zero, suc, _+_, _*_, _-_, _/_, _%_, _≤_, _<_, compare}
+use Prim.Native.Nat.{ℕ, zero, suc, _+_, _*_, _-_, _/_, _%_, _≤_, _<_}
 use mathlib.Core.Path.{_≡_, refl, sym, ap, ap₂, subst, _∙_}
-use mathlib.Core.Logic.{_⊎_, inl, inr}
-use mathlib.Core.Bool.{true, false, cond}
+use mathlib.Core.Bool.{cond}
 use mathlib.Core.List.{List, [], _∷_, map}
-use mathlib.Core.Option.{some}
 use native.Mathlib.Decide.{decLt}
 use native.Mathlib.Omega.{arith}
 use lib.ListN.{length, getD, replicate}
@@ -14,13 +12,12 @@ use borrow.Author.Tests.{le-leb, lt-leb}
 use Rattle.lists.specs.Lists.{In}
 use Rattle.lists.proofs.Elements.{map-in}
 use Rattle.lists.proofs.Rows.{map-map}
-use Rattle.rules.specs.Document.{endMark}
 use Rattle.numbers.proofs.Parts.{getD-part}
 use Rattle.pages.specs.declared.Child as P
-use Rattle.pages.specs.Layout.{rootOf, usedOf, heightOf, entriesOf, childrenOf}
-use Rattle.trees.specs.Trees.{Child, Tree, Index, WholeIndex, documentSizes, summed, isPage, above, times}
-use Rattle.index.specs.Pictures.{Item, keyOf, pageAt, treeOf, indexOf, headPage, leafPage, innerPage, Laid, WholePages}
-use Rattle.index.proofs.Frame.{kid, map-same}
+use Rattle.pages.specs.Layout.{rootOf, usedOf, heightOf, childrenOf}
+use Rattle.trees.specs.Trees.{Child, Tree, Index, isPage, times}
+use Rattle.index.specs.Pictures.{Item, pageAt, treeOf, indexOf, headPage, leafPage, innerPage, Laid, WholePages}
+use Rattle.index.proofs.Frame.{kid}
 use Rattle.index.proofs.Refills.{summed-some, isPage-is}
 
 -- a tree's page, and a child of a tree as a child of a page

@@ -16,9 +16,9 @@ use Rattle.pages.specs.Layout.{kindOf, countOf, rootOf, usedOf, heightOf, entri
 use Rattle.pages.specs.Rows.{endOf, leafSettled}
 use Rattle.trees.proofs.Thinning.{settled-thins}
 use Rattle.index.specs.declared.Top.{Top}
-use Rattle.index.specs.Pictures.{Item, keyOf, pageAt, putPage, indexOf, leafPage, WholePages}
+use Rattle.index.specs.Pictures.{pageAt, putPage, indexOf, leafPage, WholePages}
 use Rattle.index.specs.Changes.{settledIn, Becomes}
-use Rattle.index.specs.Descents.{Subtree, TopOf, LeafIn, settledPage}
+use Rattle.index.specs.Descents.{TopOf, LeafIn, settledPage}
 use Rattle.index.proofs.Buffers.{page-lent, page-back, length-page, length-putPage, page-same, page-other}
 use Rattle.index.proofs.Leaves.{leaf-settled, settled-few, settled-small, laid-small, end-key, leaf-length}
 use Rattle.index.proofs.Frame.{own-page}

@@ -1,17 +1,17 @@
 -- What is known of a tree of pages inside a whole index, on the way down: of the root from the whole, of a child from its page.
 -- Counts, ranges and pages of a child are those that its page's say. Assumes nothing.
-use Prim.Native.Nat.{ℕ, zero, suc, _+_, _-_, _≤_, _<_, compare}
+use Prim.Native.Nat.{ℕ, zero, suc, _-_, _≤_, _<_, compare}
 use mathlib.Core.Path.{_≡_, refl, sym, ap, subst, fun-ext, _∙_}
-use mathlib.Core.Logic.{_⊎_, inl, inr}
+use mathlib.Core.Logic.{inl, inr}
 use mathlib.Core.Bool.{Bool, true, false, cond, not, _&&_}
 use mathlib.Core.List.{List, [], _∷_, _++_, map}
-use mathlib.Core.Option.{Option, none, some}
+use mathlib.Core.Option.{Option, some}
 use native.Mathlib.Omega.{arith}
 use lib.Dec.{leb, ltb, lit≤}
 use lib.ListN.{length, drop, length-map}
-use borrow.Author.Tests.{leb-true, leb-false, eqb-true, le-leb, ltb-true, lt-ltb, le-ltb}
+use borrow.Author.Tests.{leb-true, leb-false, eqb-true, ltb-true, lt-ltb, le-ltb}
 use Rattle.lists.specs.Lists as L
-use Rattle.lists.specs.Lists.{In, all, pairs, tab}
+use Rattle.lists.specs.Lists.{In, all, pairs}
 use Rattle.lists.proofs.Elements.{in-map, in-tab}
 use Rattle.lists.proofs.Tables.{length-tab}
 use Rattle.lists.proofs.Rows.{and-left, and-right, and-both, all-in, all-cons, all-weaker, pairs-cons, pairs-map}
@@ -20,7 +20,7 @@ use Rattle.pages.specs.Places.{keysAscend, lowsAscend, ChildPlace}
 use Rattle.pages.specs.Layout.{countOf, rootOf, usedOf, heightOf, entryAt, entriesOf, childAt, childrenOf}
 use Rattle.rules.proofs.Orders.{numbers-ordered}
 use Rattle.rules.specs.Document.{endMark}
-use Rattle.trees.specs.Trees.{Child, Tree, documentSizes, above, times, counted, under, inside, firstLow, ranges, ranged}
+use Rattle.trees.specs.Trees.{Child, Tree, documentSizes, above, counted, under, inside, firstLow, ranges, ranged}
 use Rattle.trees.proofs.Sorted.{test-sorted}
 use Rattle.trees.proofs.Counts.{counted-filled}
 use Rattle.trees.specs.Growth.{place}
@@ -28,7 +28,7 @@ use Rattle.trees.proofs.Spots.{startOf, endOf}
 use Rattle.trees.proofs.Ranges.{ranged-in, child-range}
 use Rattle.index.specs.Pictures.{Item, keyOf, pageAt, treeOf, indexOf, WholePages}
 use Rattle.index.specs.Descents.{Subtree, InnerIn}
-use Rattle.index.proofs.Frame.{kid, Times, own-page, times-child}
+use Rattle.index.proofs.Frame.{kid, own-page, times-child}
 
 pub one-at-most : (u q : ℕ) → above u q ≤ 1
 one-at-most u q = go (leb u q)

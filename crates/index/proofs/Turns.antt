@@ -7,8 +7,8 @@ use mathlib.Core.List.{List, [], _∷_, map}
 use mathlib.Core.Option.{Option, none, some}
 use native.Mathlib.Nat.{zero-add}
 use native.Mathlib.Omega.{arith}
-use lib.Dec.{leb, eqb, ltb}
-use lib.ListN.{length, take, drop}
+use lib.Dec.{leb, eqb}
+use lib.ListN.{take, drop}
 use borrow.Author.Tests.{not-true}
 use Rattle.lists.specs.Lists.{tab, place, first, firstSome, orElse}
 use Rattle.lists.proofs.Tables.{tab-next, tab-done, drop-tab, first-next, first-found}
@@ -22,7 +22,6 @@ use Rattle.pages.specs.declared.Child as P
 use Rattle.pages.specs.Layout.{countOf, rootOf, usedOf, heightOf, entryAt, entriesOf, childAt, childrenOf}
 use Rattle.pages.specs.Places.{keysAscend, EntryPlace, ChildPlace}
 use Rattle.trees.specs.Trees.{flat, under}
-use Rattle.trees.specs.Growth as G
 use Rattle.trees.proofs.Searches.{first-child-by-child}
 use Rattle.index.specs.declared.Top.{Top}
 use Rattle.index.specs.declared.Step.{Step}

@@ -1,27 +1,26 @@
 -- An inner page when the child that the entry belongs to has grown: its children are then the row that the tree has, and with the new child
 -- put in the page is the tree's, whole or divided. The other children's pages are not touched. Assumes nothing.
 use Rattle.pages.specs.Layout.{ChildFits}
-use Prim.Native.Nat.{ℕ, zero, suc, _+_, _*_, _-_, _≤_, _<_, compare}
-use mathlib.Core.Path.{_≡_, refl, sym, ap, ap₂, subst, _∙_}
+use Prim.Native.Nat.{ℕ, zero, suc, _+_, _-_, _≤_, _<_, compare}
+use mathlib.Core.Path.{_≡_, refl, sym, ap, subst, _∙_}
 use mathlib.Core.Logic.{_≢_, _⊎_, inl, inr, ⊎-elim}
-use mathlib.Core.Bool.{Bool, true, false, cond}
+use mathlib.Core.Bool.{cond}
 use mathlib.Core.List.{List, [], _∷_, _++_, map}
-use mathlib.Core.Option.{Option, none, some}
+use mathlib.Core.Option.{some}
 use native.Mathlib.Nat.{zero-add}
 use native.Mathlib.Omega.{arith}
-use lib.Dec.{leb, eqb, lit<}
-use lib.ListN.{length, getD, set, take, drop, length-map, length-take, length-drop}
+use lib.Dec.{leb, lit<}
+use lib.ListN.{length, set, take, drop, length-map, length-drop}
 use lib.Seq.{split-at, set-at, length-take-le}
-use borrow.Author.Tests.{le-leb, lt-leb, leb-true, eq-eqb}
+use borrow.Author.Tests.{le-leb, lt-leb, eq-eqb}
 use Rattle.lists.specs.Lists.{In, insertAt}
 use Rattle.lists.proofs.Elements.{append-in, insertAt-in}
 use Rattle.lists.proofs.Places.{length-insertAt, map-insertAt}
 use Rattle.lists.proofs.Tables.{getD-tab}
-use Rattle.lists.proofs.Rows.{map-append, map-take, map-drop, in-left, in-right}
+use Rattle.lists.proofs.Rows.{map-append, map-take, map-drop}
 use Rattle.pages.specs.declared.Child as P
 use Rattle.pages.specs.Layout.{countOf, childAt, childrenOf}
-use Rattle.pages.proofs.Children as C
-use Rattle.trees.specs.Trees.{Child, Tree, Page, documentSizes, summed, isPage, above, times}
+use Rattle.trees.specs.Trees.{Child, Tree, documentSizes, summed, isPage, above, times}
 use Rattle.trees.specs.Growth as G
 use Rattle.trees.specs.Growth.{halves, grown, place, widened}
 use Rattle.trees.proofs.Places.{grownAt, widened-at}
@@ -33,7 +32,7 @@ use Rattle.index.specs.declared.Step.{Step}
 use Rattle.index.specs.declared.Way.{Way}
 use Rattle.index.specs.Pictures.{Item, keyOf, pageAt, putPage, treeOf, innerPage, Laid}
 use Rattle.index.specs.Descents.{Subtree, Starts, Goes, runOf}
-use Rattle.index.specs.Growing.{SmallChild, GrowIn, Grew, Told, usedIn, grownOf, zeroFirst, lowFirst, Wider, Widened, InnerRoom}
+use Rattle.index.specs.Growing.{GrowIn, Grew, grownOf, zeroFirst, lowFirst, Wider, Widened, InnerRoom}
 use Rattle.index.proofs.Buffers.{length-putPage, page-same, page-kept}
 use Rattle.index.proofs.Inners as Inner
 use Rattle.index.proofs.Frame as F

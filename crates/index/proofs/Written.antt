@@ -1,21 +1,21 @@
 -- A page as it is written from a list on a blank one: what is read of it, and that other rows make it the page written from those.
 -- Behind its head a blank page is zero, so rows that are taken away leave nothing. Assumes nothing.
-use Prim.Native.Nat.{ℕ, zero, suc, _+_, _*_, _≤_, _<_, _^_}
+use Prim.Native.Nat.{ℕ, zero, suc, _+_, _*_, _≤_, _<_}
 use mathlib.Core.Path.{_≡_, refl, sym, ap, _∙_}
 use mathlib.Core.List.{List, [], _∷_, map}
 use native.Mathlib.Nat.{mul-zero}
 use native.Mathlib.Decide.{decLt}
 use native.Mathlib.Omega.{arith}
-use lib.Dec.{lit<, lit≤}
+use lib.Dec.{lit<}
 use lib.ListN.{length, getD, take, drop, replicate, length-replicate, length-map}
 use lib.Seq.{length-take-le}
 use Rattle.lists.specs.Lists.{all, insertAt}
 use Rattle.lists.proofs.Places.{map-insertAt, length-insertAt}
 use Rattle.lists.proofs.Rows.{map-take, map-drop}
-use Rattle.numbers.specs.Numbers.{numberAt, putNumber, putFields, widthOf, Bytes}
+use Rattle.numbers.specs.Numbers.{putNumber, putFields, widthOf, Bytes}
 use Rattle.numbers.proofs.Numbers.{number-apart, number-other, number-same, length-putNumber}
 use Rattle.numbers.proofs.Fields.{touches-putFields, length-putFields}
-use Rattle.numbers.proofs.Kept.{bytes-putFields, bytes-from}
+use Rattle.numbers.proofs.Kept.{bytes-putFields}
 use Rattle.pages.specs.declared.Child.{Child}
 use Rattle.pages.specs.Layout.{kindOf, countOf, headWidths, putHead, rootWidths, putRoot}
 use Rattle.pages.specs.Rows.{rowsOf, withRows, entryRow, childRow}

@@ -1,16 +1,14 @@
 -- What the steps of an insert leave, between the functions that take them: a tree that has grown, a leaf and an inner page with one more.
 -- Not for readers of the promises. Assumes nothing.
-use Prim.Native.Nat.{ℕ, zero, suc, _+_, _≤_, _<_, compare}
+use Prim.Native.Nat.{ℕ, _+_, _≤_, _<_, compare}
 use mathlib.Core.Path.{_≡_}
-use mathlib.Core.Bool.{true}
 use mathlib.Core.List.{List, [], _∷_}
-use mathlib.Core.Option.{Option, none, some}
+use mathlib.Core.Option.{none, some}
 use lib.ListN.{length, take, drop, replicate}
 use Rattle.lists.specs.Lists.{insertAt}
 use Rattle.entries.specs.Records.{orZero}
 use Rattle.pages.specs.declared.Child as P
 use Rattle.pages.specs.Layout.{countOf, entriesOf, childrenOf}
-use Rattle.pages.specs.Places.{EntryPlace}
 use Rattle.trees.specs.Trees.{Child, Tree, documentSizes, times}
 use Rattle.trees.specs.Growth as G
 use Rattle.index.specs.declared.Grown.{Grown}

@@ -1,15 +1,15 @@
 -- Document 01, "Records and pages": the page buffer read as a tree of pages with the rule book's entries, and when its bytes are exactly
 -- those that the tree writes. Assumes nothing.
-use Prim.Native.Nat.{ℕ, zero, suc, _+_, _*_, _-_, _≤_, _<_}
+use Prim.Native.Nat.{ℕ, zero, suc, _*_, _-_, _≤_, _<_}
 use mathlib.Core.Path.{_≡_}
-use mathlib.Core.List.{List, [], _∷_, map}
+use mathlib.Core.List.{List, map}
 use mathlib.Core.Option.{some}
 use lib.ListN.{length, replicate}
 use Rattle.lists.specs.Lists.{In}
 use Rattle.numbers.specs.Numbers.{part, putPart}
 use Rattle.rules.specs.Kinds.{Entry}
 use Rattle.rules.specs.Document.{endMark}
-use Rattle.trees.specs.Trees.{Page, Child, Tree, Index, WholeIndex, documentSizes, flat}
+use Rattle.trees.specs.Trees.{Child, Tree, Index, WholeIndex, documentSizes, flat}
 use Rattle.pages.specs.declared.Child as P
 use Rattle.pages.specs.Layout.{putHead, putRoot, rootOf, usedOf, heightOf, entriesOf, childrenOf}
 use Rattle.pages.specs.Rows.{withRows, entryRow, childRow}

@@ -1,12 +1,9 @@
 -- What a search in the index finds: the first entry that it seeks, in the order of the entries. (Document 01, "Locks", the targets.)
 -- Assumes nothing.
 use Prim.Native.Nat.{ℕ}
-use mathlib.Core.Path.{_≡_}
 use mathlib.Core.Bool.{Bool, not, _&&_, _||_}
-use mathlib.Core.List.{List}
 use mathlib.Core.Option.{Option, none, some}
 use lib.Dec.{leb, eqb}
-use Rattle.lists.specs.Lists.{first}
 use Rattle.rules.specs.Kinds.{Entry}
 use Rattle.rules.specs.Entries.{ghost}
 use Rattle.entries.specs.Meaning.{bookEntry}

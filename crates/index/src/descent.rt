@@ -1,7 +1,6 @@
 // The way down the tree: what page 0 says, and the children of an inner page.
 ghost use mathlib.Core.Path.{_≡_};
-ghost use Prim.Native.Nat.{_≤_, _<_};
-ghost use lib.ListN.{length};
+ghost use Prim.Native.Nat.{_<_};
 ghost use Rattle.pages.specs.Layout.{childAt};
 ghost use Rattle.index.specs.Pictures.{pageAt, WholePages};
 ghost use Rattle.index.specs.Descents.{InnerIn, Starts, Goes, TopOf};

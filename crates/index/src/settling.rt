@@ -1,7 +1,6 @@
 // What a transaction that has ended leaves of its entries in the index.
 ghost use mathlib.Core.Path.{_≡_};
 ghost use Prim.Native.Nat.{_<_};
-ghost use lib.ListN.{length};
 ghost use Rattle.index.specs.Pictures.{pageAt, putPage, indexOf, WholePages};
 ghost use Rattle.index.specs.Changes.{settledIn, Becomes};
 ghost use Rattle.index.specs.Descents.{LeafIn, settledPage};

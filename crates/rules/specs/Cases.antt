@@ -6,9 +6,9 @@ use Prim.Native.Nat.{ℕ}
 use mathlib.Core.Path.{_≡_}
 use mathlib.Core.List.{List, [], _∷_, _++_, map}
 use mathlib.Core.Option.{Option, none, some}
-use Rattle.rules.specs.Kinds.{Paging, Entry, Mode, S, X, Name, on, end, Lock, Ask, read, insert, delete, Request, begin, commit, rollback, ask, Call, Queued, State}
-use Rattle.rules.specs.Locks.{inUse, wanted, Want}
-use Rattle.rules.specs.Runs.{Says, done, found, nothing, waiting, runsAlready, runsNot, waitsAlready, isPresent, locksShort, pagesShort, circle, Answer}
+use Rattle.rules.specs.Kinds.{Paging, Entry, Mode, S, X, Name, on, end, Lock, read, insert, delete, Request, begin, commit, rollback, ask, Call, Queued, State}
+use Rattle.rules.specs.Locks.{inUse, wanted}
+use Rattle.rules.specs.Runs.{Says, done, found, nothing, waiting, isPresent, circle, Answer}
 use Rattle.rules.specs.Desk.{fresh, after, session}
 use Rattle.rules.specs.Document.{document}
 

@@ -1,17 +1,17 @@
 -- Document 01, "What the desk says": one request with its answers in their order, and a run of requests from a fresh index.
 -- Assumes nothing.
 use Prim.Native.Nat.{ℕ, suc}
-use mathlib.Core.Bool.{Bool, true, false, cond, not, _&&_}
+use mathlib.Core.Bool.{Bool, true, false, cond, _&&_}
 use mathlib.Core.List.{List, [], _∷_, _++_}
 use mathlib.Core.Option.{Option, none, some}
 use lib.Dec.{eqb, leb}
 use lib.ListN.{getD, set, replicate}
 use Rattle.lists.specs.Lists.{any}
-use Rattle.rules.specs.Kinds.{Book, Entry, Ask, read, insert, delete, Request, begin, commit, rollback, ask, Call, Mark, idle, running, Queued, State, Paging}
+use Rattle.rules.specs.Kinds.{Book, Ask, read, insert, delete, Request, begin, commit, rollback, ask, Call, Mark, idle, running}
 use Rattle.rules.specs.Entries.{atMost, committed, rolledBack, settled, takenOut}
 use Rattle.rules.specs.Locks.{released}
-use Rattle.rules.specs.Queue.{St, Q, leave}
-use Rattle.rules.specs.Runs.{Says, done, waiting, runsAlready, runsNot, waitsAlready, Answer, Sy, En, Worked, worked}
+use Rattle.rules.specs.Queue.{St, leave}
+use Rattle.rules.specs.Runs.{done, waiting, runsAlready, runsNot, waitsAlready, Answer, Sy, En, Worked, worked}
 
 abbrev pub isRunning : Mark → Bool
 isRunning running = true

@@ -2,7 +2,6 @@
 -- Assumes nothing.
 use Prim.Native.Nat.{ℕ, compare}
 use mathlib.Core.Bool.{true}
-use mathlib.Core.List.{List}
 use lib.Dec.{ltb}
 use Rattle.rules.specs.Kinds.{Book, Paging}
 

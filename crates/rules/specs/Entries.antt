@@ -1,6 +1,6 @@
 -- Document 01, "Keys and entries": the sorted list of entries, what an insert, a delete, a commit and a rollback do to it.
 -- Assumes nothing.
-use Prim.Native.Nat.{ℕ, Ordering}
+use Prim.Native.Nat.{ℕ}
 use mathlib.Core.Bool.{Bool, true, false, cond, not, _&&_}
 use mathlib.Core.List.{List, [], _∷_, map}
 use mathlib.Core.Option.{Option, none, some}

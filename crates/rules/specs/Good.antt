@@ -3,12 +3,10 @@
 use Prim.Native.Nat.{ℕ, suc}
 use mathlib.Core.Path.{_≡_}
 use mathlib.Core.Bool.{Bool, true, false, not, _&&_, _||_}
-use mathlib.Core.Option.{Option}
-use mathlib.Core.List.{List}
 use lib.Dec.{eqb}
 use lib.ListN.{length}
 use Rattle.lists.specs.Lists.{all, any, pairs, In}
-use Rattle.rules.specs.Kinds.{Book, Entry, Mode, S, X, Name, on, end, Lock, Queued, State}
+use Rattle.rules.specs.Kinds.{Book, Mode, S, X, Name, on, end, Lock}
 use Rattle.rules.specs.Entries.{Entries, atMost, same, present}
 use Rattle.rules.specs.Locks.{Slots, inUse, conflict, sameName, isOf}
 use Rattle.rules.specs.Queue.{St, Q}

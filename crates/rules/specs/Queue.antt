@@ -1,11 +1,11 @@
 -- Document 01, "Working the queue": who waits behind whom, the oldest request that isn't blocked, circles. Assumes nothing.
 use Prim.Native.Nat.{ℕ, zero, suc, _-_}
-use mathlib.Core.Bool.{Bool, cond, not, _&&_, _||_}
+use mathlib.Core.Bool.{Bool, not, _&&_, _||_}
 use mathlib.Core.List.{List, [], _∷_, _++_}
 use mathlib.Core.Option.{Option}
 use lib.Dec.{eqb}
 use Rattle.lists.specs.Lists.{any, keep, first, last, member, tab, isNil}
-use Rattle.rules.specs.Kinds.{Book, State, Queued, Paging}
+use Rattle.rules.specs.Kinds.{Book, State, Queued}
 use Rattle.rules.specs.Entries.{Entries}
 use Rattle.rules.specs.Locks.{Slots, blockers}
 

@@ -2,11 +2,11 @@
 -- Assumes nothing.
 use Prim.Native.Nat.{ℕ, zero, suc}
 use mathlib.Core.Path.{_≡_}
-use mathlib.Core.Bool.{Bool, cond}
+use mathlib.Core.Bool.{cond}
 use mathlib.Core.List.{List, [], _∷_}
 use mathlib.Core.Option.{Option, none, some}
 use lib.ListN.{length}
-use Rattle.rules.specs.Kinds.{Book, Entry, Mode, S, X, Name, on, end, Lock, Ask, read, insert, delete, Queued, State, Paging}
+use Rattle.rules.specs.Kinds.{Book, Entry, Mode, S, X, Name, on, Ask, read, insert, delete}
 use Rattle.rules.specs.Entries.{Entries, atMost, inserted, deleted, revived, put, changed}
 use Rattle.rules.specs.Locks.{Slots, taken, target, named, itself}
 use Rattle.rules.specs.Queue.{St, Q, Wait, oldest, newest, leave}

@@ -1,6 +1,6 @@
 -- What each part of the desk depends on, and so what a write elsewhere leaves: the slots, the queue, the marks and the head.
 -- A write touches some bytes; a part whose bytes are apart from those stays. Assumes, for the queue, that its places hold transactions.
-use Prim.Native.Nat.{ℕ, _+_, _-_, _*_, _^_, _≤_, _<_}
+use Prim.Native.Nat.{ℕ, _+_, _*_, _^_, _≤_, _<_}
 use mathlib.Core.Path.{_≡_, refl, sym, ap, _∙_}
 use mathlib.Core.Bool.{Bool, true, false, cond}
 use mathlib.Core.List.{List, _∷_}

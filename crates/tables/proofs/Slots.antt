@@ -1,6 +1,6 @@
 -- The bytes of the lock table as the rule book's slots: a slot written is one slot set, and a lock is read back as it was written.
 -- By the laws of tables and records. Assumes nothing.
-use Prim.Native.Nat.{ℕ, _^_, _≤_, _<_}
+use Prim.Native.Nat.{ℕ, _^_, _<_}
 use mathlib.Core.Path.{_≡_, sym, ap, subst, _∙_}
 use mathlib.Core.Logic.{_≢_}
 use mathlib.Core.List.{List}

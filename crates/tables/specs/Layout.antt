@@ -1,12 +1,12 @@
 -- Document 01, "Records and pages": the bytes of the desk, read as the rule book's lock slots, queue and marks. Assumes nothing.
 use Prim.Native.Nat.{ℕ, _+_, _*_}
-use mathlib.Core.Bool.{Bool, true, false, cond, not}
+use mathlib.Core.Bool.{Bool, cond, not}
 use mathlib.Core.List.{List, [], _∷_}
 use mathlib.Core.Option.{Option, none, some}
 use lib.Dec.{eqb}
 use lib.ListN.{getD}
 use Rattle.lists.specs.Lists.{tab}
-use Rattle.numbers.specs.Numbers.{numberAt, putNumber, fieldsAt, putFields}
+use Rattle.numbers.specs.Numbers.{numberAt, fieldsAt, putFields}
 use Rattle.rules.specs.Kinds.{Ask, read, insert, delete, Queued, Mark, idle, running, Mode, S, X, Name, on, end, Lock}
 use Rattle.rules.specs.Document.{endMark}
 use Rattle.tables.specs.declared.Mode as M

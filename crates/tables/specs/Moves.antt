@@ -1,13 +1,13 @@
 -- What taking and releasing locks, and joining and leaving the queue, do to the bytes of the desk. Assumes nothing.
 use Prim.Native.Nat.{ℕ, _+_, _*_, _-_}
 use mathlib.Core.Bool.{Bool, true, false, cond, not, _&&_}
-use mathlib.Core.List.{List, [], _∷_, map}
+use mathlib.Core.List.{List, [], _∷_}
 use mathlib.Core.Option.{Option, none, some}
 use lib.Dec.{eqb, ltb}
-use lib.ListN.{replicate, getD}
+use lib.ListN.{replicate}
 use Rattle.lists.specs.Lists.{tab, join, place}
 use Rattle.numbers.specs.Numbers.{numberAt, putNumber, part, putPart, moved, zeroed}
-use Rattle.rules.specs.Kinds.{Ask, Mode, Name, Lock, Book}
+use Rattle.rules.specs.Kinds.{Ask, Mode, Name, Lock}
 use Rattle.rules.specs.Entries.{isThere}
 use Rattle.rules.specs.Locks.{isOf, sameName, conflict, stronger}
 use Rattle.rules.specs.Document.{document, endless}

@@ -9,7 +9,7 @@ use native.Mathlib.Omega.{arith}
 use borrow.Author.Tests.{lt-ltb, le-ltb}
 use lib.Bits.{bitOr}
 use lib.Dec.{ltb}
-use Rattle.lists.specs.Lists.{any, keep, member, tab}
+use Rattle.lists.specs.Lists.{keep, member, tab}
 use Rattle.lists.proofs.Tests.{any-append, keep-append}
 use Rattle.lists.proofs.Rows.{map-append}
 use Rattle.rules.specs.Kinds.{Name, Mode, Lock, Queued}

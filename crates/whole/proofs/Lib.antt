@@ -5,6 +5,8 @@ pub mod Records
 pub mod Desks
 pub mod LockTurns
 pub mod Fines
+pub mod Ascending
+pub mod Passing
 pub mod Judging
 pub mod Tell
 pub mod Fresh

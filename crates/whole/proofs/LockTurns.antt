@@ -38,6 +38,7 @@ use Rattle.pages.specs.Layout.{countOf, entryAt, entriesOf, rootOf, usedOf, hei
 use Rattle.index.specs.Pictures.{pageAt}
 use Rattle.whole_pages.proofs.Fronts.{lent-page}
 use Rattle.whole.specs.Checks.{slotTogether, slotHasX, slotHolds, entryHeld, hasKey, findAt, ownersAt, named, slotNamed, locksOk, wholeOk, deskOk, Fine}
+use Rattle.whole.specs.Orders.{Sure}
 
 -- ---- two slots
 module _ (a b : Sl.Slot) where
@@ -171,10 +172,19 @@ pages-tree s h =
     (sym (walk-is (heightOf (pageAt s 0) - 1) 2 s (usedOf (pageAt s 0)) (spanOf (rootOf (pageAt s 0)) 0 endMark) 1) ∙ w .1) .0
 
 -- ---- the whole
-pub locks-done : (n : ℕ) (s d : List ℕ) (q : ℕ) (a b c : Bool) → a ≡ pairs slotTogether (slotsOf d) → b ≡ all (slotNamed n s q) (slotsOf d) → c ≡ ownersAt n s d q
-    → ((a && b) && c) ≡ locksOk n s d q
-unfolding locksOk
-locks-done n s d q a b c e f g = rw (e, f, g) refl
+module _ (n : ℕ) (s d : List ℕ) (q : ℕ) (a : Bool) (e : a ≡ pairs slotTogether (slotsOf d)) where
+  pub locks-apart : not a ≡ true → false ≡ locksOk n s d q
+  unfolding locksOk
+  locks-apart t = sym (ap (λ x. (x && all (slotNamed n s q) (slotsOf d)) && ownersAt n s d q) (sym e ∙ not-true a t))
+
+  module _ (t : not a ≡ false) (b : Bool) (f : b ≡ all (slotNamed n s q) (slotsOf d)) where
+    pub locks-unnamed : not b ≡ true → false ≡ locksOk n s d q
+    unfolding locksOk
+    locks-unnamed u = sym (ap₂ (λ x y. (x && y) && ownersAt n s d q) (sym e ∙ not-false a t) (sym f ∙ not-true b u))
+
+    pub locks-done : (c : Bool) → not b ≡ false → c ≡ ownersAt n s d q → c ≡ locksOk n s d q
+    unfolding locksOk
+    locks-done c u g = g ∙ sym (ap₂ (λ x y. (x && y) && ownersAt n s d q) (sym e ∙ not-false a t) (sym f ∙ not-false b u))
 
 module _ (s d : List ℕ) (a : Bool) (e : a ≡ pagesOk s) where
   pub not-pages : not a ≡ true → false ≡ wholeOk s d
@@ -207,3 +217,6 @@ module _ (s d : List ℕ) (a : Bool) (e : a ≡ pagesOk s) where
           z
           ∙ ap₂ (λ k m. locksOk (k - 1) s d m) w u
           ∙ sym (ap₂ (λ x y. (x && y) && locksOk (heightOf (pageAt s 0) - 1) s d (rootOf (pageAt s 0))) good-pages (sym f ∙ not-false b v))
+
+      pub order-done : (r h : ℕ) (c : Bool) → not b ≡ false → r ≡ numberAt 2 s 16 → h ≡ numberAt 2 s 20 → Sure c (locksOk (h - 1) s d r) → c ≡ true → true ≡ wholeOk s d
+      order-done r h c v x y z t = whole-done r h true v x y (sym (z .yes t))

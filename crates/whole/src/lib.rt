@@ -1,6 +1,8 @@
 // Judging a picture: pages and desk. (Document 01, **Whole**.)
 pub mod desk;
 pub mod locks;
+pub mod order;
+pub mod sorting;
 
 ghost use mathlib.Core.Path.{_≡_};
 ghost use Prim.Native.Nat.{_<_};
@@ -8,6 +10,12 @@ ghost use lib.ListN.{length};
 ghost use Rattle.numbers.specs.Numbers.{Bytes};
 ghost use Rattle.whole.specs.Whole.{Judged};
 ghost use Rattle.whole.specs.Checks.{wholeOk};
+
+// To which place in the order of the locks the walk over the entries has come, or that it cannot go on.
+pub enum Passage {
+    To(usize),
+    Stuck,
+}
 
 // Whether the picture passes every test: the pages, the desk by itself, the locks.
 fn passes(pages: &[u8], desk: &[u8]) -> bool
@@ -23,6 +31,9 @@ fn passes(pages: &[u8], desk: &[u8]) -> bool
     }
     let root = numbers::number_at(pages, 16);
     let height = numbers::number_at(pages, 20);
+    if order::stand_in_order(pages, desk, height - 1, root) {
+        return true;
+    }
     locks::are_locks(pages, desk, height - 1, root)
 }
 

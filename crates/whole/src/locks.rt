@@ -5,10 +5,9 @@ ghost use mathlib.Core.Bool.{true};
 ghost use Prim.Native.Nat.{_<_, _≤_, _+_, _*_, _-_};
 ghost use lib.ListN.{length};
 ghost use Rattle.lists.specs.Lists.{tab, all, any, pairs};
-ghost use Rattle.pages.specs.Layout.{countOf, entryAt, entriesOf, rootOf, heightOf};
+ghost use Rattle.pages.specs.Layout.{countOf, entryAt, entriesOf};
 ghost use Rattle.index.specs.Pictures.{pageAt};
 ghost use Rattle.tables.specs.Layout.{slotAt, slotsOf, bookSlot};
-ghost use Rattle.entries.specs.Meaning.{bookEntry};
 ghost use Rattle.whole.specs.Checks.{slotTogether, slotHasX, slotHolds, entryHeld, hasKey, findAt, ownersAt, slotNamed, locksOk, Fine};
 use entries::Key;
 use tables::Mode;
@@ -90,7 +89,7 @@ fn has_x(a: Slot) -> bool
 }
 
 // Whether slot i is t's X on a key.
-fn is_x_of(d: &[u8], i: usize, t: u16, key: Key) -> bool
+pub fn is_x_of(d: &[u8], i: usize, t: u16, key: Key) -> bool
     requires { ⌜ length (now d) ≡ 4672 ⌝ }
     requires { ⌜ i < 256 ⌝ }
     ensures { λ r. ⌜ r ≡ slotHolds t (key .0) (slotAt (now (d .entry)) i) ⌝ }
@@ -261,5 +260,11 @@ pub fn are_locks(pages: &[u8], d: &[u8], level: usize, root: usize) -> bool
     requires { ⌜ length (now d) ≡ 4672 ⌝ }
     ensures { λ r. ⌜ r ≡ locksOk level (now (pages .entry)) (now (d .entry)) root ⌝ }
 {
-    are_together(d) & are_named(pages, d, level, root) & owners_hold(pages, d, level, root)
+    if !are_together(d) {
+        return false;
+    }
+    if !are_named(pages, d, level, root) {
+        return false;
+    }
+    owners_hold(pages, d, level, root)
 }

@@ -4,10 +4,9 @@ pub mod page;
 ghost use mathlib.Core.Path.{_≡_};
 ghost use Prim.Native.Nat.{_<_, _≤_, _+_, _*_};
 ghost use lib.ListN.{length};
-ghost use Rattle.numbers.specs.Numbers.{part};
-ghost use Rattle.pages.specs.Layout.{countOf, rootOf, usedOf, heightOf, childAt};
+ghost use Rattle.pages.specs.Layout.{countOf, usedOf, heightOf, childAt};
 ghost use Rattle.index.specs.Pictures.{pageAt};
-ghost use Rattle.whole_pages.specs.Walks.{spanOf, highAt, markAt, pageOk, walkAt, seenOk, frontOk, treeIn, pagesOk};
+ghost use Rattle.whole_pages.specs.Walks.{highAt, markAt, pageOk, walkAt, seenOk, frontOk, treeIn, pagesOk};
 use entries::Key;
 use pages::head;
 

@@ -3,7 +3,6 @@
 ghost use mathlib.Core.Path.{_≡_};
 ghost use Prim.Native.Nat.{_<_, _≤_, _+_, _*_};
 ghost use lib.ListN.{length};
-ghost use Rattle.pages.specs.Layout.{countOf};
 ghost use Rattle.whole_pages.specs.Checks.{headOk, firstPageOk, inRange, entryOk, entryFieldsAt, leafOk, between, fillersOk, firstOk, childFieldsAt, innerOk};
 use entries::Key;
 use pages::head;

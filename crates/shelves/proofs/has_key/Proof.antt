@@ -4,10 +4,6 @@ use borrow.Author.Needs.{needs}
 use Rattle.shelves.proofs.Judges.{one-there, none-there}
 use Rattle.shelves.proofs.has_key.Statement.{statement}
 use Rattle.shelves.proofs.has_key.Tie as tie
-use Rattle.shelves.proofs.has_key.Reads as reads
-use Rattle.shelves.proofs.has_key.Lts as lts
-use Rattle.entries.proofs.Key.same.Reads as same-reads
-use Rattle.index.proofs.find.Reads as find-reads
 
 find-requires : tie.Need-find-requires
 find-requires c κs = search needs

@@ -7,9 +7,6 @@ use Rattle.numbers.specs.Numbers.{Bytes}
 use Rattle.shelves.proofs.Judges.{held, not-held}
 use Rattle.shelves.proofs.is_whole.Statement.{statement}
 use Rattle.shelves.proofs.is_whole.Tie as tie
-use Rattle.shelves.proofs.is_whole.Reads as reads
-use Rattle.shelves.proofs.is_whole.Lts as lts
-use Rattle.whole_pages.proofs.are_pages.Reads as are-pages-reads
 
 returns : tie.Need-returns
 returns c = search (needs, not-held)

@@ -4,13 +4,6 @@ use borrow.Author.Needs.{needs}
 use Rattle.shelves.proofs.Judges.{whole-now, missing-now, below-end}
 use Rattle.shelves.proofs.shelf_add.Statement.{statement}
 use Rattle.shelves.proofs.shelf_add.Tie as tie
-use Rattle.shelves.proofs.shelf_add.Reads as reads
-use Rattle.shelves.proofs.shelf_add.Lts as lts
-use Rattle.codecs.proofs.records.value_of.Reads as value-of-reads
-use Rattle.entries.proofs.Key.is_key.Reads as is-key-reads
-use Rattle.index.proofs.add.Reads as add-reads
-use Rattle.shelves.proofs.has_key.Reads as has-key-reads
-use Rattle.shelves.proofs.is_whole.Reads as is-whole-reads
 
 is-whole-requires : tie.Need-is-whole-requires
 is-whole-requires c κs = search needs

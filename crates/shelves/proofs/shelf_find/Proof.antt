@@ -4,11 +4,6 @@ use borrow.Author.Needs.{needs}
 use Rattle.shelves.proofs.Judges.{whole-now}
 use Rattle.shelves.proofs.shelf_find.Statement.{statement}
 use Rattle.shelves.proofs.shelf_find.Tie as tie
-use Rattle.shelves.proofs.shelf_find.Reads as reads
-use Rattle.shelves.proofs.shelf_find.Lts as lts
-use Rattle.codecs.proofs.leaf.put_fields.Reads as put-fields-reads
-use Rattle.index.proofs.find.Reads as find-reads
-use Rattle.shelves.proofs.is_whole.Reads as is-whole-reads
 
 is-whole-requires : tie.Need-is-whole-requires
 is-whole-requires c κs = search needs

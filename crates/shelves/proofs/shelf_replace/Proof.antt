@@ -4,11 +4,6 @@ use borrow.Author.Needs.{needs}
 use Rattle.shelves.proofs.Judges.{whole-now}
 use Rattle.shelves.proofs.shelf_replace.Statement.{statement}
 use Rattle.shelves.proofs.shelf_replace.Tie as tie
-use Rattle.shelves.proofs.shelf_replace.Reads as reads
-use Rattle.shelves.proofs.shelf_replace.Lts as lts
-use Rattle.codecs.proofs.leaf.entry_of.Reads as entry-of-reads
-use Rattle.index.proofs.replace.Reads as replace-reads
-use Rattle.shelves.proofs.is_whole.Reads as is-whole-reads
 
 is-whole-requires : tie.Need-is-whole-requires
 is-whole-requires c κs = search needs

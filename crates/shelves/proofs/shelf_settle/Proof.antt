@@ -4,10 +4,6 @@ use borrow.Author.Needs.{needs}
 use Rattle.shelves.proofs.Judges.{whole-now}
 use Rattle.shelves.proofs.shelf_settle.Statement.{statement}
 use Rattle.shelves.proofs.shelf_settle.Tie as tie
-use Rattle.shelves.proofs.shelf_settle.Reads as reads
-use Rattle.shelves.proofs.shelf_settle.Lts as lts
-use Rattle.index.proofs.settle.Reads as settle-reads
-use Rattle.shelves.proofs.is_whole.Reads as is-whole-reads
 
 is-whole-requires : tie.Need-is-whole-requires
 is-whole-requires c κs = search needs

@@ -4,11 +4,6 @@ use borrow.Author.Needs.{needs}
 use Rattle.acts.proofs.Changes.{short-keeps, other-keeps, goes-changes, short-says, other-says, goes-says}
 use Rattle.acts.proofs.deleting.delete_there.Statement.{statement}
 use Rattle.acts.proofs.deleting.delete_there.Tie as tie
-use Rattle.acts.proofs.deleting.delete_there.Reads as reads
-use Rattle.acts.proofs.deleting.delete_there.Lts as lts
-use Rattle.index.proofs.replace.Reads as replace-reads
-use Rattle.entries.proofs.Entry.deleted.Reads as deleted-reads
-use Rattle.entries.proofs.Value.is_present.Reads as is-present-reads
 
 returns : tie.Need-returns
 returns c = (search (needs, short-keeps), search (needs, short-says))

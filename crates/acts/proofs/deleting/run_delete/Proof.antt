@@ -6,15 +6,6 @@ use Rattle.acts.proofs.Runs.{clear-place, clear-low, clear-high}
 use Rattle.acts.proofs.Deletes.{delete-missing, delete-there}
 use Rattle.acts.proofs.deleting.run_delete.Statement.{statement}
 use Rattle.acts.proofs.deleting.run_delete.Tie as tie
-use Rattle.acts.proofs.deleting.run_delete.Reads as reads
-use Rattle.acts.proofs.deleting.run_delete.Lts as lts
-use Rattle.acts.proofs.deleting.delete_there.Reads as delete-there-reads
-use Rattle.acts.proofs.locking.lock_and_leave.Reads as lock-and-leave-reads
-use Rattle.acts.proofs.reading.unless_short.Reads as unless-short-reads
-use Rattle.acts.proofs.standing.standing.Reads as standing-reads
-use Rattle.tables.proofs.queue.in_place.Reads as in-place-reads
-use Rattle.waits.proofs.targets.name_of.Reads as name-of-reads
-use Rattle.waits.proofs.targets.target_of.Reads as target-of-reads
 
 in-place-requires : tie.Need-in-place-requires
 in-place-requires c κs = search (needs, clear-place)

@@ -4,11 +4,6 @@ use borrow.Author.Needs.{needs}
 use Rattle.acts.proofs.Ended.{drop-asker, drop-there, drop-none}
 use Rattle.acts.proofs.ending.drop_request.Statement.{statement}
 use Rattle.acts.proofs.ending.drop_request.Tie as tie
-use Rattle.acts.proofs.ending.drop_request.Reads as reads
-use Rattle.acts.proofs.ending.drop_request.Lts as lts
-use Rattle.tables.proofs.queue.leave_queue.Reads as leave-queue-reads
-use Rattle.tables.proofs.queue.place_in_queue.Reads as place-in-queue-reads
-use Rattle.tables.proofs.queue.queued.Reads as queued-reads
 
 place-in-queue-requires : tie.Need-place-in-queue-requires
 place-in-queue-requires c κs = search needs

@@ -5,11 +5,6 @@ use Rattle.acts.proofs.Tables.{whole-few}
 use Rattle.acts.proofs.Ended.{end-says}
 use Rattle.acts.proofs.ending.end.Statement.{statement}
 use Rattle.acts.proofs.ending.end.Tie as tie
-use Rattle.acts.proofs.ending.end.Reads as reads
-use Rattle.acts.proofs.ending.end.Lts as lts
-use Rattle.acts.proofs.ending.drop_request.Reads as drop-request-reads
-use Rattle.acts.proofs.ending.stop.Reads as stop-reads
-use Rattle.index.proofs.settle.Reads as settle-reads
 
 settle-requires : tie.Need-settle-requires
 settle-requires c κs = search needs

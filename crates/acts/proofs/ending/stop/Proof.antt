@@ -4,10 +4,6 @@ use borrow.Author.Needs.{needs}
 use Rattle.acts.proofs.Ended.{stopped}
 use Rattle.acts.proofs.ending.stop.Statement.{statement}
 use Rattle.acts.proofs.ending.stop.Tie as tie
-use Rattle.acts.proofs.ending.stop.Reads as reads
-use Rattle.acts.proofs.ending.stop.Lts as lts
-use Rattle.tables.proofs.locks.release_locks.Reads as release-locks-reads
-use Rattle.tables.proofs.transactions.put_running.Reads as put-running-reads
 
 release-locks-requires : tie.Need-release-locks-requires
 release-locks-requires c κs = search needs

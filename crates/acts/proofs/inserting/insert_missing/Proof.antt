@@ -6,12 +6,6 @@ use Rattle.acts.proofs.Runs.{clear-place, clear-high}
 use Rattle.acts.proofs.Missing.{locks-short}
 use Rattle.acts.proofs.inserting.insert_missing.Statement.{statement}
 use Rattle.acts.proofs.inserting.insert_missing.Tie as tie
-use Rattle.acts.proofs.inserting.insert_missing.Reads as reads
-use Rattle.acts.proofs.inserting.insert_missing.Lts as lts
-use Rattle.acts.proofs.inserting.put_missing.Reads as put-missing-reads
-use Rattle.tables.proofs.locks.free_slot.Reads as free-slot-reads
-use Rattle.tables.proofs.queue.in_place.Reads as in-place-reads
-use Rattle.tables.proofs.queue.leave_queue.Reads as leave-queue-reads
 
 free-slot-requires : tie.Need-free-slot-requires
 free-slot-requires c κs = search needs

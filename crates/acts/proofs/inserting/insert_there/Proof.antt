@@ -4,11 +4,6 @@ use borrow.Author.Needs.{needs}
 use Rattle.acts.proofs.Changes.{short-keeps, other-keeps, goes-changes, short-says, other-says, goes-says}
 use Rattle.acts.proofs.inserting.insert_there.Statement.{statement}
 use Rattle.acts.proofs.inserting.insert_there.Tie as tie
-use Rattle.acts.proofs.inserting.insert_there.Reads as reads
-use Rattle.acts.proofs.inserting.insert_there.Lts as lts
-use Rattle.entries.proofs.Entry.is_ghost.Reads as is-ghost-reads
-use Rattle.entries.proofs.Entry.revived.Reads as revived-reads
-use Rattle.index.proofs.replace.Reads as replace-reads
 
 returns : tie.Need-returns
 returns c = (search (needs, short-keeps), search (needs, short-says))

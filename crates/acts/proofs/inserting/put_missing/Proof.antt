@@ -6,13 +6,6 @@ use Rattle.acts.proofs.Runs.{clear-place, clear-high, taken-inside, tak
 use Rattle.acts.proofs.Missing.{entry-fits, entry-missing, pages-short, put-in}
 use Rattle.acts.proofs.inserting.put_missing.Statement.{statement}
 use Rattle.acts.proofs.inserting.put_missing.Tie as tie
-use Rattle.acts.proofs.inserting.put_missing.Reads as reads
-use Rattle.acts.proofs.inserting.put_missing.Lts as lts
-use Rattle.entries.proofs.Entry.inserted.Reads as inserted-reads
-use Rattle.index.proofs.add.Reads as add-reads
-use Rattle.tables.proofs.locks.take_lock.Reads as take-lock-reads
-use Rattle.tables.proofs.queue.in_place.Reads as in-place-reads
-use Rattle.tables.proofs.queue.leave_queue.Reads as leave-queue-reads
 
 in-place-requires : tie.Need-in-place-requires
 in-place-requires c κs = search (needs, clear-place)

@@ -6,13 +6,6 @@ use Rattle.acts.proofs.Runs.{clear-place, clear-low, clear-high}
 use Rattle.acts.proofs.Inserts.{insert-missing, insert-there}
 use Rattle.acts.proofs.inserting.run_insert.Statement.{statement}
 use Rattle.acts.proofs.inserting.run_insert.Tie as tie
-use Rattle.acts.proofs.inserting.run_insert.Reads as reads
-use Rattle.acts.proofs.inserting.run_insert.Lts as lts
-use Rattle.acts.proofs.inserting.insert_missing.Reads as insert-missing-reads
-use Rattle.acts.proofs.inserting.insert_there.Reads as insert-there-reads
-use Rattle.acts.proofs.locking.lock_and_leave.Reads as lock-and-leave-reads
-use Rattle.acts.proofs.standing.entry_of.Reads as entry-of-reads
-use Rattle.tables.proofs.queue.in_place.Reads as in-place-reads
 
 in-place-requires : tie.Need-in-place-requires
 in-place-requires c κs = search (needs, clear-place)

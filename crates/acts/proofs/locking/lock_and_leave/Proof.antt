@@ -4,10 +4,6 @@ use borrow.Author.Needs.{needs}
 use Rattle.acts.proofs.Changes.{locked-inside, locked-few, locked-asker, locked-left}
 use Rattle.acts.proofs.locking.lock_and_leave.Statement.{statement}
 use Rattle.acts.proofs.locking.lock_and_leave.Tie as tie
-use Rattle.acts.proofs.locking.lock_and_leave.Reads as reads
-use Rattle.acts.proofs.locking.lock_and_leave.Lts as lts
-use Rattle.tables.proofs.locks.take_lock.Reads as take-lock-reads
-use Rattle.tables.proofs.queue.leave_queue.Reads as leave-queue-reads
 
 take-lock-requires : tie.Need-take-lock-requires
 take-lock-requires c κs = search needs

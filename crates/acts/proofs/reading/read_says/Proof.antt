@@ -4,9 +4,6 @@ use borrow.Author.Needs.{needs}
 use Rattle.acts.proofs.Looks.{says-none, says-found, says-above}
 use Rattle.acts.proofs.reading.read_says.Statement.{statement}
 use Rattle.acts.proofs.reading.read_says.Tie as tie
-use Rattle.acts.proofs.reading.read_says.Reads as reads
-use Rattle.acts.proofs.reading.read_says.Lts as lts
-use Rattle.entries.proofs.Key.at_most.Reads as at-most-reads
 
 enum-known-found : tie.Need-enum-known-found
 enum-known-found c = search needs

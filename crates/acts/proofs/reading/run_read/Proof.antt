@@ -5,15 +5,6 @@ use Rattle.acts.proofs.Runs.{clear-place, clear-low, taken-inside, take
 use Rattle.acts.proofs.Looks.{read-ran}
 use Rattle.acts.proofs.reading.run_read.Statement.{statement}
 use Rattle.acts.proofs.reading.run_read.Tie as tie
-use Rattle.acts.proofs.reading.run_read.Reads as reads
-use Rattle.acts.proofs.reading.run_read.Lts as lts
-use Rattle.acts.proofs.reading.read_says.Reads as read-says-reads
-use Rattle.acts.proofs.reading.unless_short.Reads as unless-short-reads
-use Rattle.tables.proofs.locks.take_lock.Reads as take-lock-reads
-use Rattle.tables.proofs.queue.in_place.Reads as in-place-reads
-use Rattle.tables.proofs.queue.leave_queue.Reads as leave-queue-reads
-use Rattle.waits.proofs.targets.name_of.Reads as name-of-reads
-use Rattle.waits.proofs.targets.target_of.Reads as target-of-reads
 
 in-place-requires : tie.Need-in-place-requires
 in-place-requires c κs = search (needs, clear-place)

@@ -5,13 +5,6 @@ use Rattle.acts.proofs.Runs.{clear-place, clear-high}
 use Rattle.acts.proofs.Asked.{read-asked, insert-asked, delete-asked}
 use Rattle.acts.proofs.running.run_at.Statement.{statement}
 use Rattle.acts.proofs.running.run_at.Tie as tie
-use Rattle.acts.proofs.running.run_at.Reads as reads
-use Rattle.acts.proofs.running.run_at.Lts as lts
-use Rattle.acts.proofs.deleting.run_delete.Reads as run-delete-reads
-use Rattle.acts.proofs.inserting.run_insert.Reads as run-insert-reads
-use Rattle.acts.proofs.reading.run_read.Reads as run-read-reads
-use Rattle.tables.proofs.queue.in_place.Reads as in-place-reads
-use Rattle.tables.proofs.transactions.ask_at.Reads as ask-at-reads
 
 in-place-requires : tie.Need-in-place-requires
 in-place-requires c κs = search (needs, clear-place)

@@ -4,10 +4,6 @@ use borrow.Author.Needs.{needs}
 use Rattle.acts.proofs.Changes.{entry-there}
 use Rattle.acts.proofs.standing.entry_of.Statement.{statement}
 use Rattle.acts.proofs.standing.entry_of.Tie as tie
-use Rattle.acts.proofs.standing.entry_of.Reads as reads
-use Rattle.acts.proofs.standing.entry_of.Lts as lts
-use Rattle.acts.proofs.standing.standing.Reads as standing-reads
-use Rattle.waits.proofs.targets.target_of.Reads as target-of-reads
 
 target-of-requires : tie.Need-target-of-requires
 target-of-requires c κs = search needs

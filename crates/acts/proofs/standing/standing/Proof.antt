@@ -4,9 +4,6 @@ use borrow.Author.Needs.{needs}
 use Rattle.acts.proofs.Changes.{standing-there, standing-other}
 use Rattle.acts.proofs.standing.standing.Statement.{statement}
 use Rattle.acts.proofs.standing.standing.Tie as tie
-use Rattle.acts.proofs.standing.standing.Reads as reads
-use Rattle.acts.proofs.standing.standing.Lts as lts
-use Rattle.entries.proofs.Key.same.Reads as same-reads
 
 enum-known-found : tie.Need-enum-known-found
 enum-known-found c = search needs

@@ -4,9 +4,6 @@ use borrow.Author.Needs.{needs}
 use Rattle.index.proofs.Turns.{child-lent}
 use Rattle.index.proofs.descent.child_page.Statement.{statement}
 use Rattle.index.proofs.descent.child_page.Tie as tie
-use Rattle.index.proofs.descent.child_page.Reads as reads
-use Rattle.index.proofs.descent.child_page.Lts as lts
-use Rattle.pages.proofs.inner.child_at.Reads as child-at-reads
 
 mul-a : tie.Need-mul-a
 mul-a c = search needs

@@ -4,10 +4,6 @@ use borrow.Author.Needs.{needs}
 use Rattle.index.proofs.Turns.{lent-some, lent-many, step-for}
 use Rattle.index.proofs.descent.step_to.Statement.{statement}
 use Rattle.index.proofs.descent.step_to.Tie as tie
-use Rattle.index.proofs.descent.step_to.Reads as reads
-use Rattle.index.proofs.descent.step_to.Lts as lts
-use Rattle.pages.proofs.head.count_of.Reads as count-of-reads
-use Rattle.pages.proofs.inner.child_for.Reads as child-for-reads
 
 mul-a : tie.Need-mul-a
 mul-a c = search needs

@@ -4,11 +4,6 @@ use borrow.Author.Needs.{needs}
 use Rattle.index.proofs.Turns.{tall-one, top-of}
 use Rattle.index.proofs.descent.top.Statement.{statement}
 use Rattle.index.proofs.descent.top.Tie as tie
-use Rattle.index.proofs.descent.top.Reads as reads
-use Rattle.index.proofs.descent.top.Lts as lts
-use Rattle.pages.proofs.head.height_of.Reads as height-of-reads
-use Rattle.pages.proofs.head.root_of.Reads as root-of-reads
-use Rattle.pages.proofs.head.used_of.Reads as used-of-reads
 
 sub-root-of : tie.Need-sub-root-of
 sub-root-of c = search needs

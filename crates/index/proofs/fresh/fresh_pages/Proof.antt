@@ -4,11 +4,6 @@ use borrow.Author.Needs.{needs}
 use Rattle.index.proofs.Blanks.{fresh-is}
 use Rattle.index.proofs.fresh.fresh_pages.Statement.{statement}
 use Rattle.index.proofs.fresh.fresh_pages.Tie as tie
-use Rattle.index.proofs.fresh.fresh_pages.Reads as reads
-use Rattle.index.proofs.fresh.fresh_pages.Lts as lts
-use Rattle.index.proofs.fresh.put_blank.Reads as put-blank-reads
-use Rattle.index.proofs.insert.put_top.Reads as put-top-reads
-use Rattle.numbers.proofs.zero_bytes.Reads as zero-bytes-reads
 
 zero-bytes-requires : tie.Need-zero-bytes-requires
 zero-bytes-requires c κs = search needs

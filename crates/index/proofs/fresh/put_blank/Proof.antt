@@ -4,9 +4,6 @@ use borrow.Author.Needs.{needs}
 use Rattle.index.proofs.Blanks.{blank-back}
 use Rattle.index.proofs.fresh.put_blank.Statement.{statement}
 use Rattle.index.proofs.fresh.put_blank.Tie as tie
-use Rattle.index.proofs.fresh.put_blank.Reads as reads
-use Rattle.index.proofs.fresh.put_blank.Lts as lts
-use Rattle.pages.proofs.head.put_head.Reads as put-head-reads
 
 mul-a : tie.Need-mul-a
 mul-a c = search needs

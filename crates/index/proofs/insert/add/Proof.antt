@@ -4,14 +4,6 @@ use borrow.Author.Needs.{needs}
 use Rattle.index.proofs.Adds.{not-added, grow-top, add-same, root-in, add-split}
 use Rattle.index.proofs.insert.add.Statement.{statement}
 use Rattle.index.proofs.insert.add.Tie as tie
-use Rattle.index.proofs.insert.add.Reads as reads
-use Rattle.index.proofs.insert.add.Lts as lts
-use Rattle.index.proofs.descent.top.Reads as top-reads
-use Rattle.index.proofs.insert.add_root.Reads as add-root-reads
-use Rattle.index.proofs.insert.fits_page.Reads as fits-page-reads
-use Rattle.index.proofs.insert.grow.Reads as grow-reads
-use Rattle.index.proofs.insert.put_top.Reads as put-top-reads
-use Rattle.index.proofs.room.room_for.Reads as room-for-reads
 
 room-for-requires : tie.Need-room-for-requires
 room-for-requires c κs = search needs

@@ -4,10 +4,6 @@ use borrow.Author.Needs.{needs}
 use Rattle.index.proofs.Roots.{root-blank, root-added}
 use Rattle.index.proofs.insert.add_root.Statement.{statement}
 use Rattle.index.proofs.insert.add_root.Tie as tie
-use Rattle.index.proofs.insert.add_root.Reads as reads
-use Rattle.index.proofs.insert.add_root.Lts as lts
-use Rattle.index.proofs.insert.fill_root.Reads as fill-root-reads
-use Rattle.index.proofs.insert.put_top.Reads as put-top-reads
 
 mul-b : tie.Need-mul-b
 mul-b c = search needs

@@ -4,9 +4,6 @@ use borrow.Author.Needs.{needs}
 use Rattle.index.proofs.Roots.{cleared}
 use Rattle.index.proofs.insert.clear_inner.Statement.{statement}
 use Rattle.index.proofs.insert.clear_inner.Tie as tie
-use Rattle.index.proofs.insert.clear_inner.Reads as reads
-use Rattle.index.proofs.insert.clear_inner.Lts as lts
-use Rattle.pages.proofs.head.put_head.Reads as put-head-reads
 
 put-head-requires : tie.Need-put-head-requires
 put-head-requires c κs = search needs

@@ -1,14 +1,9 @@
 -- `index::insert::fill_root` meets its contract: a second child is put in behind the first.
 -- Assumes nothing.
 use borrow.Author.Needs.{needs}
-use native.Mathlib.Omega.{arith}
 use Rattle.index.proofs.Roots.{one-now, one-there, two-children}
 use Rattle.index.proofs.insert.fill_root.Statement.{statement}
 use Rattle.index.proofs.insert.fill_root.Tie as tie
-use Rattle.index.proofs.insert.fill_root.Reads as reads
-use Rattle.index.proofs.insert.fill_root.Lts as lts
-use Rattle.index.proofs.insert.first_child.Reads as first-child-reads
-use Rattle.pages.proofs.inner.insert_child.Reads as insert-child-reads
 
 cast-t9 : tie.Need-cast-t9
 cast-t9 c = search needs

@@ -5,10 +5,6 @@ use native.Mathlib.Omega.{arith}
 use Rattle.index.proofs.Roots.{none-yet, first-is}
 use Rattle.index.proofs.insert.first_child.Statement.{statement}
 use Rattle.index.proofs.insert.first_child.Tie as tie
-use Rattle.index.proofs.insert.first_child.Reads as reads
-use Rattle.index.proofs.insert.first_child.Lts as lts
-use Rattle.index.proofs.insert.clear_inner.Reads as clear-inner-reads
-use Rattle.pages.proofs.inner.insert_child.Reads as insert-child-reads
 
 clear-inner-requires : tie.Need-clear-inner-requires
 clear-inner-requires c κs = search needs

@@ -4,11 +4,6 @@ use borrow.Author.Needs.{needs}
 use Rattle.index.proofs.Divided.{room-count, room-place, inner-put-in, inner-full}
 use Rattle.index.proofs.insert.grow_inner.Statement.{statement}
 use Rattle.index.proofs.insert.grow_inner.Tie as tie
-use Rattle.index.proofs.insert.grow_inner.Reads as reads
-use Rattle.index.proofs.insert.grow_inner.Lts as lts
-use Rattle.index.proofs.insert.split_inner.Reads as split-inner-reads
-use Rattle.pages.proofs.head.count_of.Reads as count-of-reads
-use Rattle.pages.proofs.inner.insert_child.Reads as insert-child-reads
 
 mul-a : tie.Need-mul-a
 mul-a c = search needs

@@ -4,12 +4,6 @@ use borrow.Author.Needs.{needs}
 use Rattle.index.proofs.Grows.{grow-few, leaf-more, leaf-is-full, leaf-divided}
 use Rattle.index.proofs.insert.grow_leaf.Statement.{statement}
 use Rattle.index.proofs.insert.grow_leaf.Tie as tie
-use Rattle.index.proofs.insert.grow_leaf.Reads as reads
-use Rattle.index.proofs.insert.grow_leaf.Lts as lts
-use Rattle.index.proofs.insert.split_leaf.Reads as split-leaf-reads
-use Rattle.pages.proofs.head.count_of.Reads as count-of-reads
-use Rattle.pages.proofs.leaf.first_at_or_above.Reads as first-at-or-above-reads
-use Rattle.pages.proofs.leaf.insert_entry.Reads as insert-entry-reads
 
 mul-a : tie.Need-mul-a
 mul-a c = search needs

@@ -4,9 +4,6 @@ use borrow.Author.Needs.{needs}
 use Rattle.index.proofs.Roots.{top-back}
 use Rattle.index.proofs.insert.put_top.Statement.{statement}
 use Rattle.index.proofs.insert.put_top.Tie as tie
-use Rattle.index.proofs.insert.put_top.Reads as reads
-use Rattle.index.proofs.insert.put_top.Lts as lts
-use Rattle.pages.proofs.head.put_root.Reads as put-root-reads
 
 sub-put-root : tie.Need-sub-put-root
 sub-put-root c = search needs

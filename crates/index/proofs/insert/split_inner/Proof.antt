@@ -4,11 +4,6 @@ use borrow.Author.Needs.{needs}
 use Rattle.index.proofs.Divided.{inner-requires, blank-length, blank-count, inner-split}
 use Rattle.index.proofs.insert.split_inner.Statement.{statement}
 use Rattle.index.proofs.insert.split_inner.Tie as tie
-use Rattle.index.proofs.insert.split_inner.Reads as reads
-use Rattle.index.proofs.insert.split_inner.Lts as lts
-use Rattle.numbers.proofs.copy_bytes.Reads as copy-bytes-reads
-use Rattle.pages.proofs.head.put_head.Reads as put-head-reads
-use Rattle.pages.proofs.inner.split_children.Reads as split-children-reads
 
 mul-a : tie.Need-mul-a
 mul-a c = search needs

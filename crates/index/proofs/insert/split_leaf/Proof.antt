@@ -4,12 +4,6 @@ use borrow.Author.Needs.{needs}
 use Rattle.index.proofs.Divided.{leaf-requires, blank-length, blank-count, leaf-split}
 use Rattle.index.proofs.insert.split_leaf.Statement.{statement}
 use Rattle.index.proofs.insert.split_leaf.Tie as tie
-use Rattle.index.proofs.insert.split_leaf.Reads as reads
-use Rattle.index.proofs.insert.split_leaf.Lts as lts
-use Rattle.numbers.proofs.copy_bytes.Reads as copy-bytes-reads
-use Rattle.pages.proofs.head.put_head.Reads as put-head-reads
-use Rattle.pages.proofs.leaf.key_at.Reads as key-at-reads
-use Rattle.pages.proofs.leaf.split_leaf.Reads as split-leaf-reads
 
 mul-a : tie.Need-mul-a
 mul-a c = search needs

@@ -4,13 +4,6 @@ use borrow.Author.Needs.{needs}
 use Rattle.index.proofs.Replaces.{over-end, over-other, over-same}
 use Rattle.index.proofs.replacing.put_over.Statement.{statement}
 use Rattle.index.proofs.replacing.put_over.Tie as tie
-use Rattle.index.proofs.replacing.put_over.Reads as reads
-use Rattle.index.proofs.replacing.put_over.Lts as lts
-use Rattle.entries.proofs.Key.same.Reads as same-reads
-use Rattle.pages.proofs.head.count_of.Reads as count-of-reads
-use Rattle.pages.proofs.leaf.first_at_or_above.Reads as first-at-or-above-reads
-use Rattle.pages.proofs.leaf.key_at.Reads as key-at-reads
-use Rattle.pages.proofs.leaf.put_entry.Reads as put-entry-reads
 
 first-at-or-above-requires : tie.Need-first-at-or-above-requires
 first-at-or-above-requires c κs = search needs

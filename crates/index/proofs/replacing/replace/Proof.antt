@@ -5,12 +5,6 @@ use Rattle.index.proofs.Turns.{find-from}
 use Rattle.index.proofs.Replaces.{replaced-all}
 use Rattle.index.proofs.replacing.replace.Statement.{statement}
 use Rattle.index.proofs.replacing.replace.Tie as tie
-use Rattle.index.proofs.replacing.replace.Reads as reads
-use Rattle.index.proofs.replacing.replace.Lts as lts
-use Rattle.index.proofs.descent.top.Reads as top-reads
-use Rattle.index.proofs.insert.fits_page.Reads as fits-page-reads
-use Rattle.index.proofs.replacing.leaf_for.Reads as leaf-for-reads
-use Rattle.index.proofs.replacing.replace_in.Reads as replace-in-reads
 
 fits-page-requires : tie.Need-fits-page-requires
 fits-page-requires c κs = search needs

@@ -4,9 +4,6 @@ use borrow.Author.Needs.{needs}
 use Rattle.index.proofs.Replaces.{leaf-lent, over-back}
 use Rattle.index.proofs.replacing.replace_in.Statement.{statement}
 use Rattle.index.proofs.replacing.replace_in.Tie as tie
-use Rattle.index.proofs.replacing.replace_in.Reads as reads
-use Rattle.index.proofs.replacing.replace_in.Lts as lts
-use Rattle.index.proofs.replacing.put_over.Reads as put-over-reads
 
 mul-a : tie.Need-mul-a
 mul-a c = search needs

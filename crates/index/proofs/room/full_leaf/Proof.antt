@@ -4,9 +4,6 @@ use borrow.Author.Needs.{needs}
 use Rattle.index.proofs.Runs.{full-yes, full-no}
 use Rattle.index.proofs.room.full_leaf.Statement.{statement}
 use Rattle.index.proofs.room.full_leaf.Tie as tie
-use Rattle.index.proofs.room.full_leaf.Reads as reads
-use Rattle.index.proofs.room.full_leaf.Lts as lts
-use Rattle.pages.proofs.head.count_of.Reads as count-of-reads
 
 mul-a : tie.Need-mul-a
 mul-a c = search needs

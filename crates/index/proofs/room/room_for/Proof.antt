@@ -6,11 +6,6 @@ use Rattle.index.proofs.Turns.{find-from}
 use Rattle.index.proofs.Runs.{fits-is}
 use Rattle.index.proofs.room.room_for.Statement.{statement}
 use Rattle.index.proofs.room.room_for.Tie as tie
-use Rattle.index.proofs.room.room_for.Reads as reads
-use Rattle.index.proofs.room.room_for.Lts as lts
-use Rattle.index.proofs.descent.top.Reads as top-reads
-use Rattle.index.proofs.room.full_run.Reads as full-run-reads
-use Rattle.index.proofs.room.with_root.Reads as with-root-reads
 
 top-requires : tie.Need-top-requires
 top-requires c κs = search needs

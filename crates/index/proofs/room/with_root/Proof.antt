@@ -5,8 +5,6 @@ use native.Mathlib.Omega.{arith}
 use Rattle.index.proofs.Runs.{need-more, need-same}
 use Rattle.index.proofs.room.with_root.Statement.{statement}
 use Rattle.index.proofs.room.with_root.Tie as tie
-use Rattle.index.proofs.room.with_root.Reads as reads
-use Rattle.index.proofs.room.with_root.Lts as lts
 
 add-if1 : tie.Need-add-if1
 add-if1 c = search needs

@@ -4,10 +4,6 @@ use borrow.Author.Needs.{needs}
 use Rattle.index.proofs.Turns.{find-from, found-all}
 use Rattle.index.proofs.search.find.Statement.{statement}
 use Rattle.index.proofs.search.find.Tie as tie
-use Rattle.index.proofs.search.find.Reads as reads
-use Rattle.index.proofs.search.find.Lts as lts
-use Rattle.index.proofs.descent.top.Reads as top-reads
-use Rattle.index.proofs.search.seek.Reads as seek-reads
 
 top-requires : tie.Need-top-requires
 top-requires c κs = search needs

@@ -10,12 +10,6 @@ use Rattle.index.specs.Searches.{seeks}
 use Rattle.index.proofs.Turns.{leaf-start, leaf-here, leaf-on, leaf-none}
 use Rattle.index.proofs.search.find_in.Statement.{statement}
 use Rattle.index.proofs.search.find_in.Tie as tie
-use Rattle.index.proofs.search.find_in.Reads as reads
-use Rattle.index.proofs.search.find_in.Lts as lts
-use Rattle.index.proofs.search.is_sought.Reads as is-sought-reads
-use Rattle.pages.proofs.head.count_of.Reads as count-of-reads
-use Rattle.pages.proofs.leaf.entry_at.Reads as entry-at-reads
-use Rattle.pages.proofs.leaf.first_at_or_above.Reads as first-at-or-above-reads
 
 abbrev Inv-loop : tie.InvT-loop
 Inv-loop p w n i₀ i = (i ≤ n) × (first (seeks w) (entriesOf p) ≡ first (seeks w) (tab (n - i) i (entryAt p)))

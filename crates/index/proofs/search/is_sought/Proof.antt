@@ -3,10 +3,6 @@
 use borrow.Author.Needs.{needs}
 use Rattle.index.proofs.search.is_sought.Statement.{statement}
 use Rattle.index.proofs.search.is_sought.Tie as tie
-use Rattle.index.proofs.search.is_sought.Reads as reads
-use Rattle.index.proofs.search.is_sought.Lts as lts
-use Rattle.entries.proofs.Entry.is_ghost.Reads as is-ghost-reads
-use Rattle.entries.proofs.Key.at_most.Reads as at-most-reads
 
 at-most-requires : tie.Need-at-most-requires
 at-most-requires c κs = search needs

@@ -4,9 +4,6 @@ use borrow.Author.Needs.{needs}
 use Rattle.index.proofs.Turns.{lent-few, lent-ascends, leaf-found}
 use Rattle.index.proofs.search.seek_leaf.Statement.{statement}
 use Rattle.index.proofs.search.seek_leaf.Tie as tie
-use Rattle.index.proofs.search.seek_leaf.Reads as reads
-use Rattle.index.proofs.search.seek_leaf.Lts as lts
-use Rattle.index.proofs.search.find_in.Reads as find-in-reads
 
 mul-a : tie.Need-mul-a
 mul-a c = search needs

@@ -6,10 +6,6 @@ use Prim.Native.Nat.{_≤_, _-_}
 use Rattle.index.proofs.Settles.{SettledTo, used-some, settled-none, leaf-in, settled-on, settled-all}
 use Rattle.index.proofs.settling.settle.Statement.{statement}
 use Rattle.index.proofs.settling.settle.Tie as tie
-use Rattle.index.proofs.settling.settle.Reads as reads
-use Rattle.index.proofs.settling.settle.Lts as lts
-use Rattle.index.proofs.descent.top.Reads as top-reads
-use Rattle.index.proofs.settling.settle_page.Reads as settle-page-reads
 
 abbrev Inv-loop : tie.InvT-loop
 Inv-loop pages₀ owner commits used q₀ pages q = (1 ≤ q) × ((q ≤ used) × SettledTo commits owner pages₀ pages q)

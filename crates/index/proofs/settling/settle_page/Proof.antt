@@ -4,10 +4,6 @@ use borrow.Author.Needs.{needs}
 use Rattle.index.proofs.Settles.{kind-lent, page-stays, page-settled}
 use Rattle.index.proofs.settling.settle_page.Statement.{statement}
 use Rattle.index.proofs.settling.settle_page.Tie as tie
-use Rattle.index.proofs.settling.settle_page.Reads as reads
-use Rattle.index.proofs.settling.settle_page.Lts as lts
-use Rattle.pages.proofs.head.kind_of.Reads as kind-of-reads
-use Rattle.pages.proofs.leaf.settle_leaf.Reads as settle-leaf-reads
 
 mul-a : tie.Need-mul-a
 mul-a c = search needs

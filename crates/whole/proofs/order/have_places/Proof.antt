@@ -1,0 +1,52 @@
+-- `whole::order::have_places` meets its contract. The invariant: all slots have a place exactly where those from i on do.
+-- The measure is the number of slots left.
+-- Assumes nothing.
+use borrow.Author.Needs.{needs}
+use mathlib.Core.Path.{_≡_}
+use Prim.Native.Nat.{_-_, _≤_}
+use Rattle.lists.specs.Lists.{tab, all}
+use Rattle.whole.specs.Orders.{hasPlace}
+use Rattle.whole.proofs.LockTurns.{all-bad, all-step, all-end}
+use Rattle.whole.proofs.order.have_places.Statement.{statement}
+use Rattle.whole.proofs.order.have_places.Tie as tie
+
+abbrev Inv-loop : tie.InvT-loop
+Inv-loop d order places m i₀ i = (i ≤ 256) × (all (hasPlace d order places m) (tab 256 0 (λ x. x)) ≡ all (hasPlace d order places m) (tab (256 - i) i (λ x. x)))
+
+abbrev μ-loop : tie.MeasureT-loop
+μ-loop d order places m i₀ i = 256 - i
+
+loop-holds : tie.Need-loop-holds Inv-loop μ-loop
+loop-holds c = search needs
+
+has-place-requires : tie.Need-has-place-requires Inv-loop μ-loop
+has-place-requires c κs = search needs
+
+returns : tie.Need-returns Inv-loop μ-loop
+returns c = search (needs, all-bad)
+
+add-i : tie.Need-add-i Inv-loop μ-loop
+add-i c = search needs
+
+loop-less : tie.Need-loop-less Inv-loop μ-loop
+loop-less c = search needs
+
+loop-again : tie.Need-loop-again Inv-loop μ-loop
+loop-again c = (search needs, search (needs, all-step))
+
+returns-2 : tie.Need-returns-2 Inv-loop μ-loop
+returns-2 c = search (needs, all-end)
+
+pub have-places-spec : {M : Type 1} → statement M
+have-places-spec =
+    tie.close
+    (tie.spec
+    Inv-loop
+    μ-loop
+    loop-holds
+    has-place-requires
+    returns
+    add-i
+    loop-less
+    loop-again
+    returns-2)

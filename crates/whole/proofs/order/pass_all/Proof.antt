@@ -1,0 +1,39 @@
+-- `whole::order::pass_all` meets its contract: the tree is passed, and then the locks on the end.
+-- Assumes nothing.
+use borrow.Author.Needs.{needs}
+use Rattle.whole.proofs.Passing.{none-passed, root-most, all-passed}
+use Rattle.whole.proofs.order.pass_all.Statement.{statement}
+use Rattle.whole.proofs.order.pass_all.Tie as tie
+
+pass-tree-requires : tie.Need-pass-tree-requires
+pass-tree-requires c κs = (search needs, (search needs, (search needs, (search needs, search needs))))
+
+enum-known-passage : tie.Need-enum-known-passage
+enum-known-passage c = search needs
+
+enum-told : tie.Need-enum-told
+enum-told c = search needs
+
+returns : tie.Need-returns
+returns c = search (needs, none-passed)
+
+end-requires : tie.Need-end-requires
+end-requires c κs = search needs
+
+pass-name-requires : tie.Need-pass-name-requires
+pass-name-requires c κs = (search needs, (search needs, (search needs, search (needs, root-most))))
+
+returns-2 : tie.Need-returns-2
+returns-2 c = search (needs, all-passed)
+
+pub pass-all-spec : {M : Type 1} → statement M
+pass-all-spec =
+    tie.close
+    (tie.spec
+    pass-tree-requires
+    enum-known-passage
+    enum-told
+    returns
+    end-requires
+    pass-name-requires
+    returns-2)

@@ -1,0 +1,291 @@
+// The quick way through the locks: they are put in order of name and holder, and one walk over the entries passes along it. Nothing is
+// promised of the order (`sorting`); so it is looked at first. Yes is sure; where anything is amiss, the plain tests tell (`locks`).
+ghost use mathlib.Core.Path.{_≡_};
+ghost use Prim.Native.Nat.{_<_, _≤_, _+_, _-_};
+ghost use lib.ListN.{length};
+ghost use Rattle.lists.specs.Lists.{tab, all, any};
+ghost use Rattle.pages.specs.Layout.{countOf};
+ghost use Rattle.index.specs.Pictures.{pageAt};
+ghost use Rattle.tables.specs.Layout.{bookSlot};
+ghost use Rattle.whole.specs.Checks.{slotHolds, locksOk, Fine};
+ghost use Rattle.whole.specs.Orders.{placed, comesFirst, goesUp, hasPlace, slotOn, Stretch, PastEntry, PastTree, AllPassed, Sure};
+use super::Passage;
+use super::locks::is_x_of;
+use super::sorting;
+use super::sorting::number_in;
+use entries::Key;
+use tables::Slot;
+use tables::locks::slot_at;
+
+// The slot at a place of the order.
+fn slot_in(d: &[u8], order: &[u8], a: usize) -> Slot
+    requires { ⌜ length (now d) ≡ 4672 ⌝ }
+    requires { ⌜ length (now order) ≡ 256 ⌝ }
+    requires { ⌜ a < 256 ⌝ }
+    ensures { λ r. ⌜ bookSlot r ≡ placed (now (d .entry)) (now (order .entry)) a ⌝ }
+{
+    slot_at(d, number_in(order, a))
+}
+
+// Whether one slot comes before another: its name is lower, or of one name its holder is and the modes go together.
+fn comes_first(a: Slot, b: Slot) -> bool
+    ensures { λ r. ⌜ r ≡ comesFirst (bookSlot a) (bookSlot b) ⌝ }
+{
+    let Slot::Held(k) = a else {
+        return false;
+    };
+    let Slot::Held(l) = b else {
+        return false;
+    };
+    let name = k.name;
+    let mode = k.mode;
+    let later = l.name;
+    let other = l.mode;
+    (name.0 < later.0) | ((name.0 == later.0) & (k.holder < l.holder) & !mode.conflicts(other))
+}
+
+// Whether the slot at a place comes after the one before it.
+fn is_above(d: &[u8], order: &[u8], a: usize) -> bool
+    requires { ⌜ length (now d) ≡ 4672 ⌝ }
+    requires { ⌜ length (now order) ≡ 256 ⌝ }
+    requires { ⌜ 1 ≤ a ⌝ }
+    requires { ⌜ a < 256 ⌝ }
+    ensures { λ r. ⌜ r ≡ goesUp (now (d .entry)) (now (order .entry)) a ⌝ }
+{
+    comes_first(slot_in(d, order, a - 1), slot_in(d, order, a))
+}
+
+// Whether the first m places go up.
+fn is_ascending(d: &[u8], order: &[u8], m: usize) -> bool
+    requires { ⌜ length (now d) ≡ 4672 ⌝ }
+    requires { ⌜ length (now order) ≡ 256 ⌝ }
+    requires { ⌜ m ≤ 256 ⌝ }
+    ensures { λ r. ⌜ r ≡ all (goesUp (now (d .entry)) (now (order .entry))) (tab (m - 1) 1 (λ a. a)) ⌝ }
+{
+    let mut a: usize = 1;
+    while a < m {
+        if !is_above(d, order, a) {
+            return false;
+        }
+        a += 1;
+    }
+    true
+}
+
+// Whether slot i is free, or stands among the first m at the place that is noted for it.
+fn has_place(d: &[u8], order: &[u8], places: &[u8], m: usize, i: usize) -> bool
+    requires { ⌜ length (now d) ≡ 4672 ⌝ }
+    requires { ⌜ length (now order) ≡ 256 ⌝ }
+    requires { ⌜ length (now places) ≡ 256 ⌝ }
+    requires { ⌜ i < 256 ⌝ }
+    ensures { λ r. ⌜ r ≡ hasPlace (now (d .entry)) (now (order .entry)) (now (places .entry)) m i ⌝ }
+{
+    let free = slot_at(d, i).is_free();
+    let a = number_in(places, i);
+    let j = number_in(order, a);
+    free | ((a < m) & (j == i))
+}
+
+// The same of every slot: none in use is left out of the order.
+fn have_places(d: &[u8], order: &[u8], places: &[u8], m: usize) -> bool
+    requires { ⌜ length (now d) ≡ 4672 ⌝ }
+    requires { ⌜ length (now order) ≡ 256 ⌝ }
+    requires { ⌜ length (now places) ≡ 256 ⌝ }
+    ensures { λ r. ⌜ r ≡ all (hasPlace (now (d .entry)) (now (order .entry)) (now (places .entry)) m) (tab 256 0 (λ i. i)) ⌝ }
+{
+    let mut i: usize = 0;
+    while i < 256 {
+        if !has_place(d, order, places, m, i) {
+            return false;
+        }
+        i += 1;
+    }
+    true
+}
+
+// Whether a slot has a lock on a name.
+fn is_on(a: Slot, name: Key) -> bool
+    ensures { λ r. ⌜ r ≡ slotOn (name .0) (bookSlot a) ⌝ }
+{
+    let Slot::Held(l) = a else {
+        return false;
+    };
+    let on = l.name;
+    on.0 == name.0
+}
+
+// Whether the lock at a place is on a name.
+fn is_on_at(d: &[u8], order: &[u8], a: usize, name: Key) -> bool
+    requires { ⌜ length (now d) ≡ 4672 ⌝ }
+    requires { ⌜ length (now order) ≡ 256 ⌝ }
+    requires { ⌜ a < 256 ⌝ }
+    ensures { λ r. ⌜ r ≡ slotOn (name .0) (placed (now (d .entry)) (now (order .entry)) a) ⌝ }
+{
+    is_on(slot_in(d, order, a), name)
+}
+
+// Passes the locks on a name from place k on: the first place, of m, with another.
+fn pass_name(d: &[u8], order: &[u8], m: usize, k: usize, name: Key) -> usize
+    requires { ⌜ length (now d) ≡ 4672 ⌝ }
+    requires { ⌜ length (now order) ≡ 256 ⌝ }
+    requires { ⌜ m ≤ 256 ⌝ }
+    requires { ⌜ k ≤ m ⌝ }
+    ensures { λ r. ⌜ Stretch (now (d .entry)) (now (order .entry)) m (name .0) k r ⌝ }
+{
+    let mut j = k;
+    while j < m {
+        if !is_on_at(d, order, j, name) {
+            return j;
+        }
+        j += 1;
+    }
+    j
+}
+
+// Whether the lock at a place is t's X on a key.
+fn is_x_at(d: &[u8], order: &[u8], a: usize, t: u16, key: Key) -> bool
+    requires { ⌜ length (now d) ≡ 4672 ⌝ }
+    requires { ⌜ length (now order) ≡ 256 ⌝ }
+    requires { ⌜ a < 256 ⌝ }
+    ensures { λ r. ⌜ r ≡ slotHolds t (key .0) (placed (now (d .entry)) (now (order .entry)) a) ⌝ }
+{
+    is_x_of(d, number_in(order, a), t, key)
+}
+
+// Whether one of the locks from place k to place j is t's X on a key.
+fn holds_x_among(d: &[u8], order: &[u8], k: usize, j: usize, t: u16, key: Key) -> bool
+    requires { ⌜ length (now d) ≡ 4672 ⌝ }
+    requires { ⌜ length (now order) ≡ 256 ⌝ }
+    requires { ⌜ j ≤ 256 ⌝ }
+    ensures { λ r. ⌜ r ≡ any (slotHolds t (key .0)) (tab (j - k) k (placed (now (d .entry)) (now (order .entry)))) ⌝ }
+{
+    let mut a = k;
+    while a < j {
+        if is_x_at(d, order, a, t, key) {
+            return true;
+        }
+        a += 1;
+    }
+    false
+}
+
+// Passes the entry at a place of page q with the locks on it, from place k of the order on. Its owner, if it has one, is to hold X.
+fn pass_entry(
+    pages: &[u8],
+    d: &[u8],
+    order: &[u8],
+    m: usize,
+    q: usize,
+    i: usize,
+    k: usize,
+) -> Passage
+    requires { ⌜ length (now pages) ≡ 32768 ⌝ }
+    requires { ⌜ length (now d) ≡ 4672 ⌝ }
+    requires { ⌜ length (now order) ≡ 256 ⌝ }
+    requires { ⌜ m ≤ 256 ⌝ }
+    requires { ⌜ q < 64 ⌝ }
+    requires { ⌜ i < 24 ⌝ }
+    requires { ⌜ k ≤ m ⌝ }
+    ensures { λ r. ⌜ PastEntry (now (pages .entry)) (now (d .entry)) (now (order .entry)) m q i k r ⌝ }
+{
+    let a = 512 * q;
+    let e = pages::leaf::entry_at(&pages[a..a + 512], i);
+    let key = e.key;
+    let j = pass_name(d, order, m, k, key);
+    if e.owner == 0 {
+        return Passage::To(j);
+    }
+    if holds_x_among(d, order, k, j, e.owner, key) {
+        return Passage::To(j);
+    }
+    Passage::Stuck
+}
+
+// Passes the entries of leaf q, from place k of the order on.
+fn pass_leaf(pages: &[u8], d: &[u8], order: &[u8], m: usize, q: usize, k: usize) -> Passage
+    requires { ⌜ length (now pages) ≡ 32768 ⌝ }
+    requires { ⌜ length (now d) ≡ 4672 ⌝ }
+    requires { ⌜ length (now order) ≡ 256 ⌝ }
+    requires { ⌜ m ≤ 256 ⌝ }
+    requires { ⌜ q < 64 ⌝ }
+    requires { ⌜ countOf (pageAt (now pages) q) ≤ 24 ⌝ }
+    requires { ⌜ k ≤ m ⌝ }
+    ensures { λ r. ⌜ PastTree 0 (now (pages .entry)) (now (d .entry)) (now (order .entry)) m q k r ⌝ }
+{
+    let n = whole_pages::count_at(pages, q);
+    let mut at = k;
+    let mut i: usize = 0;
+    while i < n {
+        let passage = pass_entry(pages, d, order, m, q, i, at);
+        let Passage::To(j) = passage else {
+            return Passage::Stuck;
+        };
+        at = j;
+        i += 1;
+    }
+    Passage::To(at)
+}
+
+// Passes the entries of the tree of a level from page q down, from place k of the order on.
+fn pass_tree(
+    pages: &[u8],
+    d: &[u8],
+    order: &[u8],
+    m: usize,
+    level: usize,
+    q: usize,
+    k: usize,
+) -> Passage
+    requires { ⌜ Fine level (now pages) q ⌝ }
+    requires { ⌜ length (now d) ≡ 4672 ⌝ }
+    requires { ⌜ length (now order) ≡ 256 ⌝ }
+    requires { ⌜ m ≤ 256 ⌝ }
+    requires { ⌜ k ≤ m ⌝ }
+    ensures { λ r. ⌜ PastTree level (now (pages .entry)) (now (d .entry)) (now (order .entry)) m q k r ⌝ }
+{
+    if level == 0 {
+        return pass_leaf(pages, d, order, m, q, k);
+    }
+    let n = whole_pages::count_at(pages, q);
+    let mut at = k;
+    let mut i: usize = 0;
+    while i < n {
+        let child = whole_pages::child_at(pages, q, i);
+        let passage = pass_tree(pages, d, order, m, level - 1, child, at);
+        let Passage::To(j) = passage else {
+            return Passage::Stuck;
+        };
+        at = j;
+        i += 1;
+    }
+    Passage::To(at)
+}
+
+// Whether the walk over the tree passes every lock but those on the end.
+fn pass_all(pages: &[u8], d: &[u8], order: &[u8], m: usize, level: usize, root: usize) -> bool
+    requires { ⌜ Fine level (now pages) root ⌝ }
+    requires { ⌜ length (now d) ≡ 4672 ⌝ }
+    requires { ⌜ length (now order) ≡ 256 ⌝ }
+    requires { ⌜ m ≤ 256 ⌝ }
+    ensures { λ r. ⌜ AllPassed level (now (pages .entry)) (now (d .entry)) (now (order .entry)) m root r ⌝ }
+{
+    let passage = pass_tree(pages, d, order, m, level, root, 0);
+    let Passage::To(j) = passage else {
+        return false;
+    };
+    pass_name(d, order, m, j, Key::end()) == m
+}
+
+// Whether the locks stand in an order in which they are in order against one another and against the entries of the tree from its root down.
+pub fn stand_in_order(pages: &[u8], d: &[u8], level: usize, root: usize) -> bool
+    requires { ⌜ Fine level (now pages) root ⌝ }
+    requires { ⌜ length (now d) ≡ 4672 ⌝ }
+    ensures { λ r. ⌜ Sure r (locksOk level (now (pages .entry)) (now (d .entry)) root) ⌝ }
+{
+    let mut order = [0u8; 256];
+    let mut places = [0u8; 256];
+    let m = sorting::put_in_order(d, &mut order, &mut places);
+    let up = is_ascending(d, &order, m);
+    let all = have_places(d, &order, &places, m);
+    up & all & pass_all(pages, d, &order, m, level, root)
+}
