@@ -133,11 +133,14 @@ fn is_slot(d: &[u8], i: usize) -> bool
     transactions::is_running(d, holder) & ((mode == 1) | (mode == 2)) & (rest == 0)
 }
 
-// Whether every slot is in order.
+// Whether every slot is in order. Where none is in use, one wide look tells.
 fn are_slots(d: &[u8]) -> bool
     requires { ⌜ length (now d) ≡ 4672 ⌝ }
     ensures { λ r. ⌜ r ≡ all (slotOk (now (d .entry))) (tab 256 0 (λ i. i)) ⌝ }
 {
+    if numbers::is_zero(d, 576, 4096) {
+        return true;
+    }
     let mut i: usize = 0;
     while i < 256 {
         if !is_slot(d, i) {

@@ -1,9 +1,11 @@
 // The quick way through the locks: they are put in order of name and holder, and one walk over the entries passes along it. Nothing is
 // promised of the order (`sorting`); so it is looked at first. Yes is sure; where anything is amiss, the plain tests tell (`locks`).
 ghost use mathlib.Core.Path.{_≡_};
+ghost use mathlib.Core.Bool.{true};
 ghost use Prim.Native.Nat.{_<_, _≤_, _+_, _-_};
 ghost use lib.ListN.{length};
 ghost use Rattle.lists.specs.Lists.{tab, all, any};
+ghost use Rattle.numbers.specs.Numbers.{zeroAt};
 ghost use Rattle.pages.specs.Layout.{countOf};
 ghost use Rattle.index.specs.Pictures.{pageAt};
 ghost use Rattle.tables.specs.Layout.{bookSlot};
@@ -276,8 +278,8 @@ fn pass_all(pages: &[u8], d: &[u8], order: &[u8], m: usize, level: usize, root: 
     pass_name(d, order, m, j, Key::end()) == m
 }
 
-// Whether the locks stand in an order in which they are in order against one another and against the entries of the tree from its root down.
-pub fn stand_in_order(pages: &[u8], d: &[u8], level: usize, root: usize) -> bool
+// The same as `stand_in_order`, where some slot is in use.
+fn stand_sorted(pages: &[u8], d: &[u8], level: usize, root: usize) -> bool
     requires { ⌜ Fine level (now pages) root ⌝ }
     requires { ⌜ length (now d) ≡ 4672 ⌝ }
     ensures { λ r. ⌜ Sure r (locksOk level (now (pages .entry)) (now (d .entry)) root) ⌝ }
@@ -288,4 +290,27 @@ pub fn stand_in_order(pages: &[u8], d: &[u8], level: usize, root: usize) -> bool
     let up = is_ascending(d, &order, m);
     let all = have_places(d, &order, &places, m);
     up & all & pass_all(pages, d, &order, m, level, root)
+}
+
+// The same where none is: only owners are left to look for.
+fn stand_free(pages: &[u8], d: &[u8], level: usize, root: usize) -> bool
+    requires { ⌜ Fine level (now pages) root ⌝ }
+    requires { ⌜ length (now d) ≡ 4672 ⌝ }
+    requires { ⌜ zeroAt 4096 576 (now d) ≡ true ⌝ }
+    ensures { λ r. ⌜ Sure r (locksOk level (now (pages .entry)) (now (d .entry)) root) ⌝ }
+{
+    let order = [0u8; 256];
+    pass_all(pages, d, &order, 0, level, root)
+}
+
+// Whether the locks stand in an order in which they are in order against one another and against the entries of the tree from its root down.
+pub fn stand_in_order(pages: &[u8], d: &[u8], level: usize, root: usize) -> bool
+    requires { ⌜ Fine level (now pages) root ⌝ }
+    requires { ⌜ length (now d) ≡ 4672 ⌝ }
+    ensures { λ r. ⌜ Sure r (locksOk level (now (pages .entry)) (now (d .entry)) root) ⌝ }
+{
+    if numbers::is_zero(d, 576, 4096) {
+        return stand_free(pages, d, level, root);
+    }
+    stand_sorted(pages, d, level, root)
 }

@@ -6,6 +6,7 @@ use Prim.Native.Nat.{_-_, _≤_}
 use Rattle.lists.specs.Lists.{tab, all}
 use Rattle.whole.specs.Checks.{slotOk}
 use Rattle.whole.proofs.DeskTurns.{each-bad, each-next, each-end}
+use Rattle.whole.proofs.Free.{zero-slots}
 use Rattle.whole.proofs.desk.are_slots.Statement.{statement}
 use Rattle.whole.proofs.desk.are_slots.Tie as tie
 
@@ -15,14 +16,20 @@ Inv-loop d i₀ i = (i ≤ 256) × (all (slotOk d) (tab 256 0 (λ k. k)) ≡ all
 abbrev μ-loop : tie.MeasureT-loop
 μ-loop d i₀ i = 256 - i
 
+is-zero-requires : tie.Need-is-zero-requires Inv-loop μ-loop
+is-zero-requires c κs = search needs
+
+returns : tie.Need-returns Inv-loop μ-loop
+returns c = search (needs, zero-slots)
+
 loop-holds : tie.Need-loop-holds Inv-loop μ-loop
 loop-holds c = search needs
 
 is-slot-requires : tie.Need-is-slot-requires Inv-loop μ-loop
 is-slot-requires c κs = search needs
 
-returns : tie.Need-returns Inv-loop μ-loop
-returns c = search (needs, each-bad)
+returns-2 : tie.Need-returns-2 Inv-loop μ-loop
+returns-2 c = search (needs, each-bad)
 
 add-i : tie.Need-add-i Inv-loop μ-loop
 add-i c = search needs
@@ -33,8 +40,8 @@ loop-less c = search needs
 loop-again : tie.Need-loop-again Inv-loop μ-loop
 loop-again c = (search needs, search (needs, each-next))
 
-returns-2 : tie.Need-returns-2 Inv-loop μ-loop
-returns-2 c = search (needs, each-end)
+returns-3 : tie.Need-returns-3 Inv-loop μ-loop
+returns-3 c = search (needs, each-end)
 
 pub are-slots-spec : {M : Type 1} → statement M
 are-slots-spec =
@@ -42,10 +49,12 @@ are-slots-spec =
     (tie.spec
     Inv-loop
     μ-loop
+    is-zero-requires
+    returns
     loop-holds
     is-slot-requires
-    returns
+    returns-2
     add-i
     loop-less
     loop-again
-    returns-2)
+    returns-3)
