@@ -1,4 +1,5 @@
-//! For build scripts: builds the static library of a crate, which `rt` proves first, and links it.
+//! For build scripts: builds the static library of a crate, which `rt` proves first, and links it;
+//! or a program.
 
 use std::fs::{self, File};
 use std::path::{Path, PathBuf};
@@ -9,19 +10,30 @@ use std::{env, io};
 /// since `rt ci` removes what `rt` has built. The script runs again when the crate or one below it
 /// changes.
 pub fn link(name: &str) -> PathBuf {
+    let library = format!("lib{name}.a");
+    let out = build("staticlib", name, &Path::new("target/staticlib").join(&library));
+    println!("cargo::rustc-link-search=native={}", out.display());
+    println!("cargo::rustc-link-lib=static={name}");
+    out
+}
+
+/// Builds a program, and gives the path of a copy.
+pub fn program(name: &str) -> PathBuf {
+    build("check", name, &Path::new("target/bin").join(name)).join(name)
+}
+
+/// Has `rt` build a crate, and copies the file that it makes into the script's own directory.
+fn build(command: &str, name: &str, made: &Path) -> PathBuf {
     let out = PathBuf::from(env::var("OUT_DIR").expect("cargo names the directory"));
     let here = Path::new(env!("CARGO_MANIFEST_DIR"));
     let root = here.ancestors().nth(2).expect("the repository's root is two levels up");
-    let library = format!("lib{name}.a");
     let turn = wait_for_turn(root).expect("a lock can be taken under target/");
-    eprintln!("rt staticlib {name}: proves and compiles it, some minutes the first time");
-    let built = Command::new("rt").args(["staticlib", name]).current_dir(root).status();
-    assert!(built.expect("rt is to be found").success(), "rt staticlib {name} failed");
-    fs::copy(root.join("target/staticlib").join(&library), out.join(&library))
-        .expect("rt has written the library");
+    eprintln!("rt {command} {name}: proves and compiles it, some minutes the first time");
+    let built = Command::new("rt").args([command, name]).current_dir(root).status();
+    assert!(built.expect("rt is to be found").success(), "rt {command} {name} failed");
+    let file = made.file_name().expect("a file is made");
+    fs::copy(root.join(made), out.join(file)).expect("rt has written what it makes");
     drop(turn);
-    println!("cargo::rustc-link-search=native={}", out.display());
-    println!("cargo::rustc-link-lib=static={name}");
     println!("cargo::rerun-if-changed={}", root.join("crates.txt").display());
     for known in crates_below(root, name) {
         println!("cargo::rerun-if-changed={}", root.join("crates").join(known).display());

@@ -1,0 +1,5 @@
+//! Builds the program `keydesk`.
+
+fn main() {
+    println!("cargo::rustc-env=KEYDESK={}", linking::program("keydesk").display());
+}
