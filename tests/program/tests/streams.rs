@@ -78,3 +78,12 @@ fn no_input_gives_no_output() {
     assert_eq!(output_of(&[], 1), []);
     assert_eq!(output_of(&[8], 1), []);
 }
+
+/// The stream that `rt check keydesk` runs: its expected output was written by hand from document 01.
+#[test]
+fn the_stream_beside_the_program_is_answered_as_the_model_does() {
+    let input = include_bytes!("../../../crates/keydesk/stdin");
+    let expected = include_bytes!("../../../crates/keydesk/stdout");
+    assert_eq!(program(input), expected);
+    assert_eq!(output_of(input, 5), expected);
+}
