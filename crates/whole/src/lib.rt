@@ -1,7 +1,9 @@
 // Judging a picture: pages and desk. (Document 01, **Whole**.)
 pub mod desk;
 pub mod locks;
+pub mod merging;
 pub mod order;
+pub mod radix;
 pub mod sorting;
 
 ghost use mathlib.Core.Path.{_≡_};
