@@ -6,7 +6,7 @@ mod machine;
 mod timing;
 mod work;
 
-use desk::pictures::{all_locks_s, all_locks_x, settled};
+use desk::pictures::{FAR, all_locks_s, all_locks_x, settled};
 use model::desk::Picture;
 use model::picture::Tables;
 use timing::{Times, single_calls};
@@ -42,7 +42,8 @@ fn judging() {
     let pictures = [
         ("fresh", Tables::fresh()),
         ("778 entries, no locks", settled(778)),
-        ("778 entries, 256 S locks of 16 holders", all_locks_s(778)),
+        ("778 entries, 256 S locks of 16 holders", all_locks_s(778, 1)),
+        ("the same, keys that differ in every byte", all_locks_s(778, FAR)),
         ("256 entries, each owned, 256 X locks of 16 holders", all_locks_x(256)),
         ("778 entries, 256 of them owned, 256 X locks of 16 holders", all_locks_x(778)),
     ];

@@ -40,20 +40,28 @@ pub fn at_rest() -> Vec<Tables> {
 
 /// So many ascending keys from 1 on, each settled: 778 fill the pages (document 01, Overs).
 pub fn settled(keys: u64) -> Tables {
+    settled_apart(keys, 1)
+}
+
+/// How far apart up to 778 keys can lie: they then differ in every byte.
+pub const FAR: u64 = 0x0053_9b17_6d2f_a3c5;
+
+/// So many keys this far apart, each settled.
+pub fn settled_apart(keys: u64, apart: u64) -> Tables {
     let mut tables = Tables::fresh();
     for key in 1..=keys {
-        tables.index.add(Entry::settled(Key(key), key as u32));
+        tables.index.add(Entry::settled(Key(key * apart), key as u32));
     }
     tables
 }
 
 /// All slots in use by S locks: sixteen transactions have each read the same sixteen keys of an
-/// index with so many.
-pub fn all_locks_s(keys: u64) -> Tables {
-    let mut tables = settled(keys);
+/// index with so many, this far apart.
+pub fn all_locks_s(keys: u64, apart: u64) -> Tables {
+    let mut tables = settled_apart(keys, apart);
     run_all(&mut tables);
     for slot in 0..LOCK_COUNT {
-        let name = Key(1 + (slot / 16) as u64 * (keys / 16));
+        let name = Key((1 + (slot / 16) as u64 * (keys / 16)) * apart);
         let holder = (slot % 16) as u16 + 1;
         tables.desk.slots[slot] = Slot::Taken(Lock { name, holder, mode: Mode::S });
     }

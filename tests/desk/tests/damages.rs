@@ -2,7 +2,7 @@
 //! verdict is the model's, and nothing is changed.
 
 use desk::judging::{CLAUSES, Judge, Verdicts};
-use desk::pictures::{all_locks_s, all_locks_x, at_rest, not_at_rest, settled};
+use desk::pictures::{FAR, all_locks_s, all_locks_x, at_rest, not_at_rest, settled};
 use desk::under_test::LIBRARY;
 use model::desk::Picture;
 
@@ -41,8 +41,13 @@ fn of_pictures_not_at_rest() {
 /// All pages in use, all locks in use, or both.
 #[test]
 fn of_full_pictures() {
-    let pictures =
-        [settled(778), all_locks_s(256), all_locks_x(256), all_locks_s(778), all_locks_x(778)];
+    let pictures = [
+        settled(778),
+        all_locks_s(256, 1),
+        all_locks_x(256),
+        all_locks_s(778, FAR),
+        all_locks_x(778),
+    ];
     let mut judge = Judge::new(LIBRARY, 3);
     judge.damage_each(&pictures, 200);
     let verdicts = judge.verdicts();
