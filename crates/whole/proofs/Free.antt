@@ -1,45 +1,24 @@
--- Where the lock table is all zero, every slot is free and in order, and the walk over the entries has only their owners to look for.
--- By the fields of a slot, all zero. Assumes nothing.
-use Prim.Native.Nat.{ℕ, _+_, _*_, _<_}
-use mathlib.Core.Path.{_≡_, refl, sym, ap, _∙_}
+-- Where the lock table is all zero, the walk over the entries has only their owners to look for.
+-- By the slots, all free. Assumes nothing.
+use Prim.Native.Nat.{ℕ, _<_}
+use mathlib.Core.Path.{_≡_, refl, sym}
 use mathlib.Core.Bool.{Bool, true, not, _||_}
 use mathlib.Core.List.{List, []}
-use mathlib.Core.Option.{none}
 use native.Mathlib.Omega.{arith}
-use lib.ListN.{length, getD, replicate}
+use lib.ListN.{length}
 use Rattle.lists.specs.Lists.{all, tab}
-use Rattle.numbers.specs.Numbers.{widthOf, fieldsAt, zeroAt}
-use Rattle.numbers.proofs.Agree.{Agree, agree-within}
-use Rattle.numbers.proofs.Fields.{fields-zero}
-use Rattle.numbers.proofs.Moves.{zeroAt-true}
+use Rattle.numbers.specs.Numbers.{zeroAt}
 use Rattle.rules.specs.Entries.{isThere}
-use Rattle.tables.specs.Layout.{lockWidths, lockPlace, slotIn, slotAt}
 use Rattle.whole_pages.proofs.Tabs.{all-of-tab}
-use Rattle.whole.specs.Checks.{fieldsOk, slotOk, locksOk}
+use Rattle.whole_desk.proofs.Free.{zero-free}
+use Rattle.whole.specs.Checks.{locksOk}
 use Rattle.whole.specs.Orders.{hasPlace, AllPassed, Sure}
 use Rattle.whole.proofs.Passing.{in-order}
 
 module _ (d : List ℕ) (size : length d ≡ 4672) (zero : zeroAt 4096 576 d ≡ true) where
-  zero-fields : (i : ℕ) → i < 256 → fieldsAt lockWidths d (lockPlace i) ≡ replicate 4 0
-  unfolding widthOf
-  zero-fields i h =
-      let a = agree-within (16 * i) 16 (omega arith) (zeroAt-true 4096 576 d zero (omega (arith, size))) in
-      fields-zero lockWidths (record { byte = λ k l. a .byte k l })
-
-  zero-free : (i : ℕ) → i < 256 → slotAt d i ≡ none
-  unfolding slotAt slotIn
-  zero-free i h = ap slotIn (zero-fields i h)
-
-  zero-slot : (i : ℕ) → i < 256 → slotOk d i ≡ true
-  unfolding slotOk
-  zero-slot i h = ap (λ vs. fieldsOk d (getD vs 0 0) (getD vs 1 0) (getD vs 2 0) (getD vs 3 0)) (zero-fields i h)
-
-  all-in-order : true ≡ all (slotOk d) (tab 256 0 (λ i. i))
-  all-in-order = sym (all-of-tab (slotOk d) 256 0 (λ i. i) (λ i _ h. zero-slot i (omega arith)))
-
   zero-placed : (o p : List ℕ) (i : ℕ) → i < 256 → hasPlace d o p 0 i ≡ true
   unfolding hasPlace
-  zero-placed o p i h = rw (zero-free i h)
+  zero-placed o p i h = rw (zero-free d size zero i h)
 
   zero-places : (o p : List ℕ) → true ≡ all (hasPlace d o p 0) (tab 256 0 (λ i. i))
   zero-places o p = sym (all-of-tab (hasPlace d o p 0) 256 0 (λ i. i) (λ i _ h. zero-placed o p i (omega arith)))
@@ -47,11 +26,3 @@ module _ (d : List ℕ) (size : length d ≡ 4672) (zero : zeroAt 4096 576 d ≡
   pub free-stands : (n : ℕ) (s o : List ℕ) (q : ℕ) (c : Bool) → AllPassed n s d o 0 q c → Sure c (locksOk n s d q)
   unfolding all tab
   free-stands n s o q c h = in-order n s d o 0 q [] true true c refl (zero-places o []) h
-
--- ---- as the code finds it
-module _ (d : List ℕ) (b : Bool) (told : b ≡ zeroAt 4096 576 d) (yes : b ≡ true) where
-  pub is-free : zeroAt 4096 576 d ≡ true
-  is-free = sym told ∙ yes
-
-  pub zero-slots : length d ≡ 4672 → true ≡ all (slotOk d) (tab 256 0 (λ i. i))
-  zero-slots size = all-in-order d size is-free

@@ -38,9 +38,10 @@ use Rattle.whole_pages.proofs.Pages.{PagesFacts, pages-sound, pages-complete}
 use Rattle.desks.specs.States.{book, stateOf, deskWith}
 use Rattle.desks.proofs.Itself.{itself-fits}
 use Rattle.whole.specs.Whole.{Whole, Judged}
-use Rattle.whole.specs.Checks.{slotTogether, slotHolds, entryHeld, hasKey, findAt, ownersAt, named, slotNamed, deskOk, locksOk, wholeOk}
-use Rattle.whole.proofs.Slots.{in-use, use-in}
-use Rattle.whole.proofs.Desks.{DeskGood, desk-sound, desk-complete}
+use Rattle.whole.specs.Checks.{slotTogether, slotHolds, entryHeld, hasKey, findAt, ownersAt, named, slotNamed, locksOk, wholeOk}
+use Rattle.whole_desk.specs.Checks.{deskOk}
+use Rattle.whole_desk.proofs.Slots.{in-use, use-in}
+use Rattle.whole_desk.proofs.Desks.{DeskGood, desk-sound, desk-complete}
 
 -- ---- over the tree
 any-kids : (n : ℕ) (s : List ℕ) (k : ℕ) → ((q : ℕ) → findAt n s k q ≡ any (hasKey k) (flat ℕ Item n (treeOf n s q))) → (cs : List P.Child)

@@ -1,8 +1,3 @@
-pub mod DeskTurns
-pub mod Slots
-pub mod Askers
-pub mod Records
-pub mod Desks
 pub mod LockTurns
 pub mod Fines
 pub mod Ascending

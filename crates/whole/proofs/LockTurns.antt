@@ -37,7 +37,8 @@ use Prim.Native.Nat.{compare}
 use Rattle.pages.specs.Layout.{countOf, entryAt, entriesOf, rootOf, usedOf, heightOf}
 use Rattle.index.specs.Pictures.{pageAt}
 use Rattle.whole_pages.proofs.Fronts.{lent-page}
-use Rattle.whole.specs.Checks.{slotTogether, slotHasX, slotHolds, entryHeld, hasKey, findAt, ownersAt, named, slotNamed, locksOk, wholeOk, deskOk, Fine}
+use Rattle.whole_desk.specs.Checks.{deskOk}
+use Rattle.whole.specs.Checks.{slotTogether, slotHasX, slotHolds, entryHeld, hasKey, findAt, ownersAt, named, slotNamed, locksOk, wholeOk, Fine}
 use Rattle.whole.specs.Orders.{Sure}
 
 -- ---- two slots

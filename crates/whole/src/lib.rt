@@ -1,5 +1,4 @@
 // Judging a picture: pages and desk. (Document 01, **Whole**.)
-pub mod desk;
 pub mod locks;
 pub mod order;
 pub mod sorting;
@@ -26,7 +25,7 @@ fn passes(pages: &[u8], desk: &[u8]) -> bool
     if !whole_pages::are_pages(pages) {
         return false;
     }
-    if !desk::is_desk(desk) {
+    if !whole_desk::is_desk(desk) {
         return false;
     }
     let root = numbers::number_at(pages, 16);

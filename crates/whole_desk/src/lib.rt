@@ -5,7 +5,7 @@ ghost use Prim.Native.Nat.{_<_, _≤_, _+_, _*_};
 ghost use lib.ListN.{length};
 ghost use Rattle.lists.specs.Lists.{tab, all};
 ghost use Rattle.tables.specs.Layout.{queued, recordPlace, recordAt};
-ghost use Rattle.whole.specs.Checks.{headOk, askersIn, formOk, plainOk, recordOk, slotOk, deskOk};
+ghost use Rattle.whole_desk.specs.Checks.{headOk, askersIn, formOk, plainOk, recordOk, slotOk, deskOk};
 use tables::transactions;
 use whole_pages::Trail;
 

@@ -37,10 +37,10 @@ use Rattle.whole_pages.proofs.Pages.{one-at, one-past}
 use Rattle.desks.specs.States.{book, deskWith}
 use Rattle.desks.specs.Fitting.{Fitting}
 use Rattle.desks.proofs.Itself.{reads-desk, itself-reads}
-use Rattle.whole.specs.Checks.{headOk, askersIn, listed, recordOk, recordsOk, slotOk, deskOk}
-use Rattle.whole.proofs.Slots.{use-in, slot-back-at, slot-there-at, slots-run}
-use Rattle.whole.proofs.Askers.{there-counts, counts-there, apart-once, once-apart}
-use Rattle.whole.proofs.Records.{mark-only, record-told, record-stands, told-record}
+use Rattle.whole_desk.specs.Checks.{headOk, askersIn, listed, recordOk, recordsOk, slotOk, deskOk}
+use Rattle.whole_desk.proofs.Slots.{use-in, slot-back-at, slot-there-at, slots-run}
+use Rattle.whole_desk.proofs.Queued.{there-counts, counts-there, apart-once, once-apart}
+use Rattle.whole_desk.proofs.Records.{mark-only, record-told, record-stands, told-record}
 
 -- a request in the queue: its asker runs, and it is legal
 abbrev pub stands : List ℕ → Queued ℕ ℕ → Bool

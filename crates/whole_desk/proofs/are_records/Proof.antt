@@ -1,13 +1,13 @@
--- `whole::desk::are_records` meets its contract. The invariant: the test of all records is the test of those from t on.
+-- `whole_desk::are_records` meets its contract. The invariant: the test of all records is the test of those from t on.
 -- The measure is the number of records left. Assumes nothing.
 use borrow.Author.Needs.{needs}
 use mathlib.Core.Path.{_≡_}
 use Prim.Native.Nat.{_-_, _≤_}
 use Rattle.lists.specs.Lists.{tab, all}
-use Rattle.whole.specs.Checks.{recordOk}
-use Rattle.whole.proofs.DeskTurns.{each-bad, each-next, each-end}
-use Rattle.whole.proofs.desk.are_records.Statement.{statement}
-use Rattle.whole.proofs.desk.are_records.Tie as tie
+use Rattle.whole_desk.specs.Checks.{recordOk}
+use Rattle.whole_desk.proofs.DeskTurns.{each-bad, each-next, each-end}
+use Rattle.whole_desk.proofs.are_records.Statement.{statement}
+use Rattle.whole_desk.proofs.are_records.Tie as tie
 
 abbrev Inv-loop : tie.InvT-loop
 Inv-loop d seen t₀ t = (1 ≤ t) × ((t ≤ 17) × (all (recordOk d seen) (tab 16 1 (λ k. k)) ≡ all (recordOk d seen) (tab (17 - t) t (λ k. k))))

@@ -22,8 +22,8 @@ use Rattle.tables.specs.Layout.{recordPlace, recordAt, markIn, isRunning, isWai
 use Rattle.tables.proofs.Back.{isAsk, ask-back}
 use Rattle.tables.proofs.Marks.{length-marks}
 use Rattle.desks.specs.States.{waitingFields, markNumber}
-use Rattle.whole.specs.Checks.{formOk, plainOk, listed, recordOk}
-use Rattle.whole.proofs.Askers.{first-none, first-own}
+use Rattle.whole_desk.specs.Checks.{formOk, plainOk, listed, recordOk}
+use Rattle.whole_desk.proofs.Queued.{first-none, first-own}
 
 -- ---- marks
 pub mark-at : (d : List ℕ) (t : ℕ) → 1 ≤ t → t ≤ 16 → getD (marksOf d) t idle ≡ markIn (numberAt 2 d (recordPlace t))

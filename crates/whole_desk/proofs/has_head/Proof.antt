@@ -1,10 +1,10 @@
--- `whole::desk::has_head` meets its contract: the tests are made in their order.
+-- `whole_desk::has_head` meets its contract: the tests are made in their order.
 -- Assumes nothing.
 use borrow.Author.Needs.{needs}
-use Rattle.whole.proofs.DeskTurns.{head-bad, head-room, head-end, head-done}
+use Rattle.whole_desk.proofs.DeskTurns.{head-bad, head-room, head-end, head-done}
 use borrow.Author.Needs.{needs}
-use Rattle.whole.proofs.desk.has_head.Statement.{statement}
-use Rattle.whole.proofs.desk.has_head.Tie as tie
+use Rattle.whole_desk.proofs.has_head.Statement.{statement}
+use Rattle.whole_desk.proofs.has_head.Tie as tie
 
 number-at-requires : tie.Need-number-at-requires
 number-at-requires c κs = search needs

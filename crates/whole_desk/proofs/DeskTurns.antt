@@ -17,7 +17,7 @@ use Rattle.tables.specs.Layout.{queued, inPlace, isRunning}
 use Rattle.whole_pages.specs.declared.Trail.{Trail}
 use Rattle.whole_pages.specs.declared.Trail.the-variants.{Went, Bad}
 use Rattle.whole_pages.specs.Walks.{markAt, marks, after}
-use Rattle.whole.specs.Checks.{headOk, askersIn, recordOk, recordsOk, fieldsOk, slotOk, deskOk}
+use Rattle.whole_desk.specs.Checks.{headOk, askersIn, recordOk, recordsOk, fieldsOk, slotOk, deskOk}
 
 -- ---- the head
 module _ (d : List ℕ) (size kind n : ℕ) (z : Bool) (e : size ≡ numberAt 2 d 0) (f : kind ≡ numberAt 2 d 2) (g : n ≡ numberAt 2 d 4) (h : z ≡ zeroAt 26 6 d) where

@@ -1,4 +1,4 @@
--- `whole::desk::askers` meets its contract. The invariant: the askers are those set down from place i on.
+-- `whole_desk::askers` meets its contract. The invariant: the askers are those set down from place i on.
 -- The measure is the number of places left. Assumes nothing.
 use borrow.Author.Needs.{needs}
 use mathlib.Core.Path.{_≡_}
@@ -6,10 +6,10 @@ use Prim.Native.Nat.{_-_, _≤_}
 use Rattle.lists.specs.Lists.{tab}
 use Rattle.tables.specs.Layout.{inPlace}
 use Rattle.whole_pages.specs.Walks.{marks}
-use Rattle.whole.specs.Checks.{askersIn}
-use Rattle.whole.proofs.DeskTurns.{askers-few, askers-start, askers-twice, askers-next, askers-end}
-use Rattle.whole.proofs.desk.askers.Statement.{statement}
-use Rattle.whole.proofs.desk.askers.Tie as tie
+use Rattle.whole_desk.specs.Checks.{askersIn}
+use Rattle.whole_desk.proofs.DeskTurns.{askers-few, askers-start, askers-twice, askers-next, askers-end}
+use Rattle.whole_desk.proofs.askers.Statement.{statement}
+use Rattle.whole_desk.proofs.askers.Tie as tie
 
 abbrev Inv-loop : tie.InvT-loop
 Inv-loop d n m₀ i₀ m i = (n ≤ 16) × ((i ≤ n) × (askersIn d ≡ marks 17 (tab (n - i) i (inPlace d)) m))

@@ -1,10 +1,10 @@
--- `whole::desk::is_slot` meets its contract: the fields are read in their order, and the test goes by the holder.
+-- `whole_desk::is_slot` meets its contract: the fields are read in their order, and the test goes by the holder.
 -- Assumes nothing.
 use borrow.Author.Needs.{needs}
-use Rattle.whole.proofs.DeskTurns.{slot-free, slot-nobody, slot-held}
+use Rattle.whole_desk.proofs.DeskTurns.{slot-free, slot-nobody, slot-held}
 use borrow.Author.Needs.{needs}
-use Rattle.whole.proofs.desk.is_slot.Statement.{statement}
-use Rattle.whole.proofs.desk.is_slot.Tie as tie
+use Rattle.whole_desk.proofs.is_slot.Statement.{statement}
+use Rattle.whole_desk.proofs.is_slot.Tie as tie
 
 mul-name-at : tie.Need-mul-name-at
 mul-name-at c = search needs

@@ -1,10 +1,10 @@
--- `whole::desk::is_record` meets its contract: its test is the definition's.
+-- `whole_desk::is_record` meets its contract: its test is the definition's.
 -- Assumes nothing.
 use borrow.Author.Needs.{needs}
-use Rattle.whole.specs.Checks.{recordOk}
+use Rattle.whole_desk.specs.Checks.{recordOk}
 use borrow.Author.Needs.{needs}
-use Rattle.whole.proofs.desk.is_record.Statement.{statement}
-use Rattle.whole.proofs.desk.is_record.Tie as tie
+use Rattle.whole_desk.proofs.is_record.Statement.{statement}
+use Rattle.whole_desk.proofs.is_record.Tie as tie
 
 shr-listed : tie.Need-shr-listed
 shr-listed c = search needs

@@ -1,10 +1,10 @@
--- `whole::desk::is_desk` meets its contract: the tests are made in their order.
+-- `whole_desk::is_desk` meets its contract: the tests are made in their order.
 -- Assumes nothing.
 use borrow.Author.Needs.{needs}
-use Rattle.whole.proofs.DeskTurns.{desk-headless, desk-few, desk-lost, desk-done}
+use Rattle.whole_desk.proofs.DeskTurns.{desk-headless, desk-few, desk-lost, desk-done}
 use borrow.Author.Needs.{needs}
-use Rattle.whole.proofs.desk.is_desk.Statement.{statement}
-use Rattle.whole.proofs.desk.is_desk.Tie as tie
+use Rattle.whole_desk.proofs.is_desk.Statement.{statement}
+use Rattle.whole_desk.proofs.is_desk.Tie as tie
 
 has-head-requires : tie.Need-has-head-requires
 has-head-requires c κs = search needs

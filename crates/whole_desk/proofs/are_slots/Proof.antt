@@ -1,14 +1,14 @@
--- `whole::desk::are_slots` meets its contract. The invariant: the test of all slots is the test of those from i on.
+-- `whole_desk::are_slots` meets its contract. The invariant: the test of all slots is the test of those from i on.
 -- The measure is the number of slots left. Assumes nothing.
 use borrow.Author.Needs.{needs}
 use mathlib.Core.Path.{_≡_}
 use Prim.Native.Nat.{_-_, _≤_}
 use Rattle.lists.specs.Lists.{tab, all}
-use Rattle.whole.specs.Checks.{slotOk}
-use Rattle.whole.proofs.DeskTurns.{each-bad, each-next, each-end}
-use Rattle.whole.proofs.Free.{zero-slots}
-use Rattle.whole.proofs.desk.are_slots.Statement.{statement}
-use Rattle.whole.proofs.desk.are_slots.Tie as tie
+use Rattle.whole_desk.specs.Checks.{slotOk}
+use Rattle.whole_desk.proofs.DeskTurns.{each-bad, each-next, each-end}
+use Rattle.whole_desk.proofs.Free.{zero-slots}
+use Rattle.whole_desk.proofs.are_slots.Statement.{statement}
+use Rattle.whole_desk.proofs.are_slots.Tie as tie
 
 abbrev Inv-loop : tie.InvT-loop
 Inv-loop d i₀ i = (i ≤ 256) × (all (slotOk d) (tab 256 0 (λ k. k)) ≡ all (slotOk d) (tab (256 - i) i (λ k. k)))

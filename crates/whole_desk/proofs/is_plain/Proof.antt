@@ -1,12 +1,12 @@
--- `whole::desk::is_plain` meets its contract: the fields are read in their order.
+-- `whole_desk::is_plain` meets its contract: the fields are read in their order.
 -- Assumes nothing.
 use borrow.Author.Needs.{needs}
-use Rattle.whole.specs.Checks.{plainOk}
+use Rattle.whole_desk.specs.Checks.{plainOk}
 use Rattle.numbers.specs.Numbers.{fieldsAt}
 use Rattle.tables.specs.Layout.{recordAt}
 use borrow.Author.Needs.{needs}
-use Rattle.whole.proofs.desk.is_plain.Statement.{statement}
-use Rattle.whole.proofs.desk.is_plain.Tie as tie
+use Rattle.whole_desk.proofs.is_plain.Statement.{statement}
+use Rattle.whole_desk.proofs.is_plain.Tie as tie
 
 place-of-requires : tie.Need-place-of-requires
 place-of-requires c κs = search needs

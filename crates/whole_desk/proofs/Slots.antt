@@ -19,7 +19,7 @@ use Rattle.rules.specs.Locks.{inUse}
 use Rattle.tables.specs.Layout.{lockWidths, lockPlace, nameIn, modeIn, modeNumber, slotIn, slotFields, slotAt, slotsOf, isRunning}
 use Rattle.tables.proofs.Back.{isMode, isRow, slot-back}
 use Rattle.whole_pages.proofs.Tabs.{in-tab}
-use Rattle.whole.specs.Checks.{fieldsOk, slotOk}
+use Rattle.whole_desk.specs.Checks.{fieldsOk, slotOk}
 
 -- the locks in use stand in slots
 pub in-use : (ls : List (Option (Lock ℕ))) (l : Lock ℕ) → In l (inUse ls) → In (some l) ls
