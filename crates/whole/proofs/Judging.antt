@@ -5,13 +5,13 @@ use mathlib.Core.Logic.{⊎-elim}
 use mathlib.Core.Bool.{Bool, true, false, _&&_, _||_}
 use mathlib.Core.List.{List, [], _∷_, map}
 use mathlib.Core.Option.{Option, none, some}
-use Prim.Native.Nat.{ℕ, zero, suc, _-_, _<_, compare}
+use Prim.Native.Nat.{ℕ, _-_, _<_, compare}
 use native.Mathlib.Omega.{arith}
 use borrow.Author.Tests.{eqb-true, lt-ltb}
 use lib.Dec.{eqb, ltb}
 use lib.ListN.{length, getD}
 use Rattle.lists.specs.Lists.{all, any, pairs, join, In}
-use Rattle.lists.proofs.Tests.{all-append, any-append, both, and-both, either, or-left, or-right}
+use Rattle.lists.proofs.Tests.{both, and-both, either, or-left, or-right}
 use Rattle.lists.proofs.Elements.{all-in, in-all, any-in}
 use Rattle.numbers.specs.Numbers.{Bytes}
 use Rattle.rules.specs.Kinds.{Lock, Name, on, end, idle}
@@ -39,36 +39,10 @@ use Rattle.desks.specs.States.{book, stateOf, deskWith}
 use Rattle.desks.proofs.Itself.{itself-fits}
 use Rattle.whole.specs.Whole.{Whole, Judged}
 use Rattle.whole.specs.Checks.{slotTogether, slotHolds, entryHeld, hasKey, findAt, ownersAt, named, slotNamed, locksOk, wholeOk}
+use Rattle.whole.proofs.Flats.{find-is, owners-is}
 use Rattle.whole_desk.specs.Checks.{deskOk}
 use Rattle.whole_desk.proofs.Slots.{in-use, use-in}
 use Rattle.whole_desk.proofs.Desks.{DeskGood, desk-sound, desk-complete}
-
--- ---- over the tree
-any-kids : (n : ℕ) (s : List ℕ) (k : ℕ) → ((q : ℕ) → findAt n s k q ≡ any (hasKey k) (flat ℕ Item n (treeOf n s q))) → (cs : List P.Child)
-    → any (λ c. findAt n s k (c .page)) cs ≡ any (hasKey k) (join (λ c. flat ℕ Item n (c .tree)) (map (kid n s) cs))
-unfolding any join
-any-kids n s k h [] = refl
-any-kids n s k h (c ∷ cs) =
-    ap₂ (λ x y. x || y) (h (c .page)) (any-kids n s k h cs)
-    ∙ sym (any-append (hasKey k) (flat ℕ Item n (treeOf n s (c .page))) (join (λ c. flat ℕ Item n (c .tree)) (map (kid n s) cs)))
-
-pub find-is : (n : ℕ) (s : List ℕ) (k q : ℕ) → findAt n s k q ≡ any (hasKey k) (flat ℕ Item n (treeOf n s q))
-unfolding findAt flat treeOf
-find-is zero s k q = refl
-find-is (suc n) s k q = any-kids n s k (find-is n s k) (childrenOf (pageAt s q))
-
-all-kids : (n : ℕ) (s d : List ℕ) → ((q : ℕ) → ownersAt n s d q ≡ all (entryHeld d) (flat ℕ Item n (treeOf n s q))) → (cs : List P.Child)
-    → all (λ c. ownersAt n s d (c .page)) cs ≡ all (entryHeld d) (join (λ c. flat ℕ Item n (c .tree)) (map (kid n s) cs))
-unfolding all join
-all-kids n s d h [] = refl
-all-kids n s d h (c ∷ cs) =
-    ap₂ (λ x y. x && y) (h (c .page)) (all-kids n s d h cs)
-    ∙ sym (all-append (entryHeld d) (flat ℕ Item n (treeOf n s (c .page))) (join (λ c. flat ℕ Item n (c .tree)) (map (kid n s) cs)))
-
-pub owners-is : (n : ℕ) (s d : List ℕ) (q : ℕ) → ownersAt n s d q ≡ all (entryHeld d) (flat ℕ Item n (treeOf n s q))
-unfolding ownersAt flat treeOf
-owners-is zero s d q = refl
-owners-is (suc n) s d q = all-kids n s d (owners-is n s d) (childrenOf (pageAt s q))
 
 -- ---- over the slots in use
 all-use : (l : Lock ℕ) (ls : List (Option (Lock ℕ))) → all (together book l) (inUse ls) ≡ all (slotTogether (some l)) ls

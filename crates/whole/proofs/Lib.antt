@@ -1,8 +1,10 @@
 pub mod LockTurns
 pub mod Fines
+pub mod Flats
 pub mod Ascending
+pub mod Walks
 pub mod Passing
-pub mod Free
+pub mod Verdicts
 pub mod Judging
 pub mod Tell
 pub mod Fresh

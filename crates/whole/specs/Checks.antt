@@ -8,6 +8,7 @@ use mathlib.Core.Option.{Option, none, some}
 use lib.Dec.{eqb}
 use lib.ListN.{length}
 use Rattle.lists.specs.Lists.{all, any, pairs}
+use Rattle.numbers.specs.Numbers.{Bytes}
 use Rattle.rules.specs.Kinds.{Lock, Entry, Name, on, end}
 use Rattle.rules.specs.Good.{isX, together}
 use Rattle.tables.specs.Layout.{nameIn, slotsOf}
@@ -61,6 +62,7 @@ pub record Fine (n : ℕ) (s : List ℕ) (q : ℕ) : Type 0 where
   pub low : ℕ
   pub high : ℕ
   pub one : 1 ≤ least
+  pub bytes : Bytes s
   pub size : length s ≡ 32768
   pub ok : treeOk n least s (spanOf q low high) ≡ true
 

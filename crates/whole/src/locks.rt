@@ -31,7 +31,7 @@ fn go_together(a: Slot, b: Slot) -> bool
 }
 
 // Whether slot i goes together with slot j.
-fn stand_together(d: &[u8], i: usize, j: usize) -> bool
+pub fn stand_together(d: &[u8], i: usize, j: usize) -> bool
     requires { ⌜ length (now d) ≡ 4672 ⌝ }
     requires { ⌜ i < 256 ⌝ }
     requires { ⌜ j < 256 ⌝ }

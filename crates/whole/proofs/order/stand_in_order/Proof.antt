@@ -1,4 +1,4 @@
--- `whole::order::stand_in_order` meets its contract: each way is sure of its yes.
+-- `whole::order::stand_in_order` meets its contract: each way is exact.
 -- Assumes nothing.
 use borrow.Author.Needs.{needs}
 use Rattle.whole_desk.proofs.Free.{is-free}
