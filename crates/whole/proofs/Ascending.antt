@@ -6,14 +6,14 @@ use mathlib.Core.Logic.{_⊎_, inl, inr, ⊎-elim}
 use mathlib.Core.Bool.{Bool, true, false, not, _&&_, _||_, false≢true, true≢false}
 use mathlib.Core.List.{List, []}
 use mathlib.Core.Option.{Option, none, some}
-use Prim.Native.Nat.{ℕ, zero, suc, _+_, _*_, _-_, _≤_, _<_}
-use native.Mathlib.Decide.{decLt, ℕ-discrete}
+use Prim.Native.Nat.{ℕ, zero, suc, _+_, _-_, _≤_, _<_}
+use native.Mathlib.Decide.{decLt}
 use native.Mathlib.Omega.{arith}
-use borrow.Author.Tests.{eqb-true, eqb-false, eq-eqb, ne-eqb, ltb-true, lt-ltb, not-true}
+use borrow.Author.Tests.{eqb-true, eqb-false, eq-eqb, ltb-true, lt-ltb, not-true}
 use lib.Dec.{eqb, ltb}
 use lib.ListN.{length, getD, List·getD-eq-default}
 use Rattle.lists.specs.Lists.{tab, all, pairs}
-use Rattle.lists.proofs.Tests.{both, and-both, either, or-left, or-right, fails}
+use Rattle.lists.proofs.Tests.{both, and-both, either, or-left, or-right, fails, eqb-turn}
 use Rattle.lists.proofs.Tables.{all-tab}
 use Rattle.numbers.specs.Numbers.{numberAt, fieldsAt}
 use Rattle.numbers.proofs.Numbers.{numberAt-ext, number-none}
@@ -261,12 +261,8 @@ module _ (d o p : List ℕ) (m : ℕ) (up : all (goesUp d o) (tab (m - 1) 1 (λ 
       second-there (placed d o (suc a - 1)) (placed d o (suc a)) (all-tab (goesUp d o) (m - 1) 1 (λ a. a) (suc a) up (omega arith) (omega arith))
 
 -- ---- neighbours that do not go together
-turn : (a b : ℕ) → eqb a b ≡ eqb b a
-turn a b =
-    elim (ℕ-discrete a b) [ yes e ↦ eq-eqb a b e ∙ sym (eq-eqb b a (sym e)) | no e ↦ ne-eqb a b e ∙ sym (ne-eqb b a (λ z. e (sym z))) ]
-
 names-turn : (x y : Name ℕ) → sameName book x y ≡ sameName book y x
-names-turn (on a) (on b) = turn a b
+names-turn (on a) (on b) = eqb-turn a b
 names-turn (on a) end = refl
 names-turn end (on b) = refl
 names-turn end end = refl
@@ -275,7 +271,7 @@ together-turn : (x y : Option (Lock ℕ)) → slotTogether x y ≡ slotTogether 
 unfolding together
 together-turn none y = sym (free-second y)
 together-turn (some k) none = refl
-together-turn (some k) (some l) = rw (names-turn (k .name) (l .name), turn (k .holder) (l .holder), modes-turn (k .mode) (l .mode))
+together-turn (some k) (some l) = rw (names-turn (k .name) (l .name), eqb-turn (k .holder) (l .holder), modes-turn (k .mode) (l .mode))
 
 pub clash-apart : (d o : List ℕ) (a : ℕ) → length d ≡ 4672 → clashes d o a ≡ true → pairs slotTogether (slotsOf d) ≡ false
 unfolding clashes slotsOf

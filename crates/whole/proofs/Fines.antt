@@ -93,7 +93,7 @@ module _ (s : List ℕ) (q : ℕ) where
       let same : n ≡ suc n - 1 = omega arith in
       subst (λ m. Fine m s c) same w
 
-one-more : (n : ℕ) → (n ≡ 0 → ⊥) → n ≡ suc (n - 1)
+pub one-more : (n : ℕ) → (n ≡ 0 → ⊥) → n ≡ suc (n - 1)
 one-more n h = omega arith
 
 -- ---- owners

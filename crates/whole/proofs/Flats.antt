@@ -1,6 +1,6 @@
 -- The tests made page by page are tests of the tree's entries in their order; where the pages are in order, these ascend, and no key is
 -- above the end. By induction on the level and the children. Assumes nothing.
-use mathlib.Core.Path.{_≡_, refl, sym, ap, ap₂, _∙_}
+use mathlib.Core.Path.{_≡_, refl, sym, ap₂, _∙_}
 use mathlib.Core.Bool.{Bool, true, _&&_, _||_}
 use mathlib.Core.List.{List, [], _∷_, map}
 use mathlib.Core.Option.{some}

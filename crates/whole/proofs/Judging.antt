@@ -3,14 +3,14 @@
 use mathlib.Core.Path.{_≡_, refl, sym, ap, ap₂, subst, _∙_}
 use mathlib.Core.Logic.{⊎-elim}
 use mathlib.Core.Bool.{Bool, true, false, _&&_, _||_}
-use mathlib.Core.List.{List, [], _∷_, map}
+use mathlib.Core.List.{List, [], _∷_}
 use mathlib.Core.Option.{Option, none, some}
 use Prim.Native.Nat.{ℕ, _-_, _<_, compare}
 use native.Mathlib.Omega.{arith}
 use borrow.Author.Tests.{eqb-true, lt-ltb}
 use lib.Dec.{eqb, ltb}
 use lib.ListN.{length, getD}
-use Rattle.lists.specs.Lists.{all, any, pairs, join, In}
+use Rattle.lists.specs.Lists.{all, any, pairs, In}
 use Rattle.lists.proofs.Tests.{both, and-both, either, or-left, or-right}
 use Rattle.lists.proofs.Elements.{all-in, in-all, any-in}
 use Rattle.numbers.specs.Numbers.{Bytes}
@@ -20,11 +20,10 @@ use Rattle.rules.specs.Good.{isX, ascending, isName, lockStands, together, hold
 use Rattle.rules.specs.Desk as D
 use Rattle.rules.specs.Document.{endMark}
 use Rattle.rules.proofs.Orders.{numbers-ordered}
-use Rattle.trees.specs.Trees.{Child, flat, under, inside}
+use Rattle.trees.specs.Trees.{flat, under, inside}
 use Rattle.trees.proofs.Sorted.{Sorted}
 use Rattle.trees.proofs.Order.{flat-sorted}
-use Rattle.pages.specs.Layout.{childrenOf, rootOf, heightOf}
-use Rattle.pages.specs.declared.Child as P
+use Rattle.pages.specs.Layout.{rootOf, heightOf}
 use Rattle.index.specs.Pictures.{Item, keyOf, pageAt, treeOf, indexOf, entriesIn}
 use Rattle.tables.specs.Layout.{nameIn, slotsOf, queueOf, marksOf}
 use Rattle.tables.proofs.Slots.{length-slots}
@@ -33,12 +32,11 @@ use Rattle.tables.proofs.Back.{name-there}
 use Rattle.whole_pages.specs.Walks.{pagesOk}
 use Rattle.whole_pages.proofs.Entries.{Rests}
 use Rattle.whole_pages.proofs.Leaves.{is-under}
-use Rattle.whole_pages.proofs.Trees.{kid}
 use Rattle.whole_pages.proofs.Pages.{PagesFacts, pages-sound, pages-complete}
 use Rattle.desks.specs.States.{book, stateOf, deskWith}
 use Rattle.desks.proofs.Itself.{itself-fits}
 use Rattle.whole.specs.Whole.{Whole, Judged}
-use Rattle.whole.specs.Checks.{slotTogether, slotHolds, entryHeld, hasKey, findAt, ownersAt, named, slotNamed, locksOk, wholeOk}
+use Rattle.whole.specs.Checks.{slotTogether, slotHolds, entryHeld, hasKey, ownersAt, named, slotNamed, locksOk, wholeOk}
 use Rattle.whole.proofs.Flats.{find-is, owners-is}
 use Rattle.whole_desk.specs.Checks.{deskOk}
 use Rattle.whole_desk.proofs.Slots.{in-use, use-in}

@@ -1,12 +1,12 @@
 -- What one way through the walk along the order comes to, in the very facts that the code has there: a name, an entry, the entries of a
 -- leaf, the children of a page. Each by one step of the list that is walked. Assumes nothing.
-use mathlib.Core.Path.{_≡_, refl, sym, ap, ap₂, subst, _∙_}
+use mathlib.Core.Path.{_≡_, refl, sym, ap, ap₂, _∙_}
 use mathlib.Core.Bool.{Bool, true, false, cond, not, _&&_, _||_}
-use mathlib.Core.List.{List, [], _++_, map}
-use Prim.Native.Nat.{ℕ, zero, suc, _+_, _*_, _-_, _≤_, _<_}
+use mathlib.Core.List.{List}
+use Prim.Native.Nat.{ℕ, suc, _+_, _*_, _-_, _≤_, _<_}
 use native.Mathlib.Nat.{sub-zero, add-zero}
 use native.Mathlib.Omega.{arith}
-use borrow.Author.Tests.{eq-eqb, ne-eqb, le-leb, lt-leb, not-true, not-false}
+use borrow.Author.Tests.{eq-eqb, ne-eqb, le-leb, lt-leb, not-true}
 use lib.Dec.{eqb, ltb, leb}
 use lib.ListN.{getD, take, drop}
 use Rattle.lists.specs.Lists.{tab, all, any, place, join}
@@ -18,7 +18,7 @@ use Rattle.rules.specs.Document.{endMark}
 use Rattle.trees.specs.Trees.{flat}
 use Rattle.entries.specs.Meaning.{bookEntry}
 use Rattle.entries.specs.declared.Entry as E
-use Rattle.tables.specs.Layout.{nameNumber, slotAt, bookMode, bookSlot}
+use Rattle.tables.specs.Layout.{slotAt, bookMode, bookSlot}
 use Rattle.tables.proofs.Values.{name-back}
 use Rattle.tables.specs.declared.Slot as Sl
 use Rattle.tables.specs.declared.Slot.the-variants as SV
@@ -33,6 +33,7 @@ use Rattle.whole.specs.declared.Passage.the-variants.{To, Stuck}
 use Rattle.whole.specs.Checks.{slotTogether, slotHolds}
 use Rattle.whole.specs.Orders.{placed, comesFirst, goesUp, clashes, begins, hasPlace, slotOn, after, stretch, pastEntry, past, ended, walked}
 use Rattle.whole.proofs.LockTurns.{entries-start}
+use Rattle.whole.proofs.Fines.{one-more}
 use Rattle.whole.proofs.Walks.{stretch-is, past-append, entry-most, past-passed}
 
 -- ---- slots
@@ -191,9 +192,6 @@ below n s c = flat ℕ Item n (treeOf n s (c .page))
 flat-step : (n : ℕ) (s : List ℕ) (q : ℕ) → flat ℕ Item (suc n) (treeOf (suc n) s q) ≡ join (below n s) (childrenOf (pageAt s q))
 unfolding flat treeOf
 flat-step n s q = join-map (λ c. flat ℕ Item n (c .tree)) (kid n s) (childrenOf (pageAt s q))
-
-one-more : (n : ℕ) → (n ≡ 0 → ⊥) → n ≡ suc (n - 1)
-one-more n h = omega arith
 
 module _ (s d o : List ℕ) (m q k n : ℕ) where
   pub tree-leaf : (r : Passage) → n ≡ 0 → r ≡ past (placed d o) m (entriesOf (pageAt s q)) k → r ≡ past (placed d o) m (flat ℕ Item n (treeOf n s q)) k

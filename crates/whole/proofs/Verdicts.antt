@@ -1,9 +1,9 @@
 -- The quick way through the locks comes to their tests: where the order is one, the walk along it tells of names and owners, and every two
 -- locks go together; where neighbours clash, not every two do; where the lock table is all zero, the order of no locks is one.
 -- By what each walk over the entries shows, both ways. Assumes nothing.
-use mathlib.Core.Path.{_≡_, refl, sym, ap, ap₂, subst, _∙_}
-use mathlib.Core.Logic.{_⊎_, inl, inr, ⊎-elim}
-use mathlib.Core.Bool.{Bool, true, false, cond, not, _&&_, _||_, false≢true, true≢false}
+use mathlib.Core.Path.{_≡_, refl, sym, ap, _∙_}
+use mathlib.Core.Logic.{_⊎_, inl, inr}
+use mathlib.Core.Bool.{Bool, true, false, cond, not, _&&_, _||_, false≢true}
 use mathlib.Core.List.{List, []}
 use mathlib.Core.Option.{Option, none, some}
 use Prim.Native.Nat.{ℕ, _+_, _-_, _≤_, _<_}
@@ -13,7 +13,7 @@ use borrow.Author.Tests.{eqb-true, eq-eqb, le-leb, not-false}
 use lib.Dec.{eqb, leb}
 use lib.ListN.{length, getD}
 use Rattle.lists.specs.Lists.{tab, all, any, pairs, In}
-use Rattle.lists.proofs.Tests.{both, and-both, either, or-left, or-right}
+use Rattle.lists.proofs.Tests.{both, and-both}
 use Rattle.lists.proofs.Elements.{all-in, in-all, any-in, in-any}
 use Rattle.numbers.specs.Numbers.{fieldsAt, zeroAt}
 use Rattle.rules.specs.Kinds.{Lock, Name, on, end}
@@ -31,7 +31,7 @@ use Rattle.whole.specs.Checks.{slotTogether, slotHolds, entryHeld, hasKe
 use Rattle.whole.specs.Orders.{placed, goesUp, clashes, begins, hasPlace, slotOn, stretch, past, ended, walked}
 use Rattle.whole.proofs.Flats.{find-is, owners-is, fine-sorted, fine-small}
 use Rattle.whole.proofs.Ascending.{nameOf, slot-some, order-pairs, order-all, place-some, names-up, each-there, clash-apart}
-use Rattle.whole.proofs.Walks.{heldIn, Stretch, stretch-is, Passed, past-passed, Ready, Arrives, walk-arrives}
+use Rattle.whole.proofs.Walks.{heldIn, stretch-is, Passed, past-passed, Ready, walk-arrives}
 
 alike : (a b : Bool) → (a ≡ true → b ≡ true) → (b ≡ true → a ≡ true) → a ≡ b
 alike true b f g = sym (f refl)
@@ -186,7 +186,7 @@ module _ (n : ℕ) (s : List ℕ) (q : ℕ) (fine : Fine n s q) (d o p : List �
       and-both (pairs slotTogether (slotsOf d) && all (slotNamed n s q) (slotsOf d)) (ownersAt n s d q)
       (and-both (pairs slotTogether (slotsOf d)) (all (slotNamed n s q) (slotsOf d)) (order-pairs d o p m up whole) a) b
 
-  pub walked-is : walked n s d o m q ≡ locksOk n s d q
+  walked-is : walked n s d o m q ≡ locksOk n s d q
   unfolding walked
   walked-is = alike (ended f m (past f m es 0)) (locksOk n s d q) (yes-right (past f m es 0) refl) (λ h. let w = locks-tell h in walk-ends (w .0) (w .1))
     where

@@ -3,16 +3,16 @@
 -- the end, the locks on the next entry are the next ones. Assumes nothing.
 use mathlib.Core.Path.{_≡_, refl, sym, ap, subst, _∙_}
 use mathlib.Core.Logic.{_⊎_, inl, inr, ⊎-elim}
-use mathlib.Core.Bool.{Bool, true, false, cond, not, _&&_, _||_, false≢true}
+use mathlib.Core.Bool.{Bool, true, false, cond, not, _||_, false≢true}
 use mathlib.Core.List.{List, [], _∷_, _++_}
 use mathlib.Core.Option.{Option, none, some}
 use Prim.Native.Nat.{ℕ, zero, suc, _+_, _-_, _≤_, _<_, compare}
-use native.Mathlib.Decide.{decLt, ℕ-discrete}
+use native.Mathlib.Decide.{decLt}
 use native.Mathlib.Omega.{arith}
-use borrow.Author.Tests.{eqb-true, eq-eqb, ne-eqb}
+use borrow.Author.Tests.{eqb-true, eq-eqb}
 use lib.Dec.{eqb}
 use Rattle.lists.specs.Lists.{tab, any, pairs, place, In}
-use Rattle.lists.proofs.Tests.{both, either, or-left, or-right}
+use Rattle.lists.proofs.Tests.{both, either, or-left, or-right, never}
 use Rattle.lists.proofs.Elements.{any-in, in-any}
 use Rattle.lists.proofs.Pairs.{pairs-split}
 use Rattle.rules.specs.Kinds.{Lock}
@@ -34,7 +34,7 @@ use Rattle.whole.specs.Orders.{slotOn, after, stretch, pastEntry, past}
 use Rattle.whole.proofs.Ascending.{nameOf}
 
 stuck-to : (j : ℕ) → Stuck ≡ To j → ⊥
-stuck-to j e = let z : _≡_ {A = ℕ} 0 1 = cc in omega arith
+stuck-to j e = never (cc)
 
 -- ---- a stretch of places
 pub record Stretch (f : ℕ → Option (Lock ℕ)) (m x k j : ℕ) : Type 0 where

@@ -60,7 +60,7 @@ fn stands_with_later(d: &[u8], i: usize) -> bool
 }
 
 // Whether all locks go together: "compatible, one per holder and name".
-pub fn are_together(d: &[u8]) -> bool
+fn are_together(d: &[u8]) -> bool
     requires { ⌜ length (now d) ≡ 4672 ⌝ }
     ensures { λ r. ⌜ r ≡ pairs slotTogether (slotsOf (now (d .entry))) ⌝ }
 {

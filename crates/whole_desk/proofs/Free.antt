@@ -1,7 +1,7 @@
 -- Where the lock table is all zero, every slot is free and in order.
 -- By the fields of a slot, all zero. Assumes nothing.
-use Prim.Native.Nat.{ℕ, _+_, _*_, _<_}
-use mathlib.Core.Path.{_≡_, refl, sym, ap, _∙_}
+use Prim.Native.Nat.{ℕ, _*_, _<_}
+use mathlib.Core.Path.{_≡_, sym, ap, _∙_}
 use mathlib.Core.Bool.{Bool, true}
 use mathlib.Core.List.{List}
 use mathlib.Core.Option.{none}
@@ -9,7 +9,7 @@ use native.Mathlib.Omega.{arith}
 use lib.ListN.{length, getD, replicate}
 use Rattle.lists.specs.Lists.{all, tab}
 use Rattle.numbers.specs.Numbers.{widthOf, fieldsAt, zeroAt}
-use Rattle.numbers.proofs.Agree.{Agree, agree-within}
+use Rattle.numbers.proofs.Agree.{agree-within}
 use Rattle.numbers.proofs.Fields.{fields-zero}
 use Rattle.numbers.proofs.Moves.{zeroAt-true}
 use Rattle.tables.specs.Layout.{lockWidths, lockPlace, slotIn, slotAt}

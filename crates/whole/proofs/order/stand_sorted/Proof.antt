@@ -1,7 +1,6 @@
 -- `whole::order::stand_sorted` meets its contract: whatever the order, it is looked at.
 -- Assumes nothing.
 use borrow.Author.Needs.{needs}
-use native.Mathlib.Omega.{arith}
 use Rattle.whole.proofs.Verdicts.{sorted-done}
 use Rattle.whole.proofs.order.stand_sorted.Statement.{statement}
 use Rattle.whole.proofs.order.stand_sorted.Tie as tie
