@@ -107,11 +107,14 @@ first-then (some k) (some l) none e f = absurd (false≢true f)
 first-then (some k) (some l) (some p) e f = first k p (lower-then k l p (lower k l e) (lower l p f))
 
 -- ---- going together
-goes-together : (k l : Lock ℕ) → (nameNumber (k .name) ≡ nameNumber (l .name) → ((k .holder ≡ l .holder → ⊥) × (conflict (k .mode) (l .mode) ≡ false))) → together book k l ≡ true
+goes-together : (k l : Lock ℕ)
+    → (nameNumber (k .name) ≡ nameNumber (l .name) → ((k .holder ≡ l .holder → ⊥) × (conflict (k .mode) (l .mode) ≡ false)))
+    → together book k l ≡ true
 unfolding together
 goes-together k l h = go (sameName book (k .name) (l .name)) refl
   where
-    go : (b : Bool) → sameName book (k .name) (l .name) ≡ b → (not b || (not (eqb (k .holder) (l .holder)) && not (conflict (k .mode) (l .mode)))) ≡ true
+    go : (b : Bool) → sameName book (k .name) (l .name) ≡ b
+        → (not b || (not (eqb (k .holder) (l .holder)) && not (conflict (k .mode) (l .mode)))) ≡ true
     go false e = refl
     go true e =
         let s = h (ap nameNumber (name-equal book numbers-ordered (k .name) (l .name) e)) in
@@ -125,11 +128,13 @@ first-together (some k) none e = absurd (false≢true e)
 first-together (some k) (some l) e =
     let f = lower k l e in (
       goes-together k l (λ n. let s = f .same n in let h : k .holder < l .holder = s .0 in ((λ z. omega arith), s .1)),
-      goes-together l k (λ n. let s = f .same (sym n) in let h : k .holder < l .holder = s .0 in ((λ z. omega arith), modes-turn (l .mode) (k .mode) ∙ s .1)),
+      goes-together l k
+          (λ n. let s = f .same (sym n) in let h : k .holder < l .holder = s .0 in ((λ z. omega arith), modes-turn (l .mode) (k .mode) ∙ s .1)),
     )
 
 -- ---- every two
-pairs-of-tab : {A : Type 0} (r : A → A → Bool) (n i : ℕ) (f : ℕ → A) → ((a b : ℕ) → i ≤ a → a < b → b < i + n → r (f a) (f b) ≡ true) → pairs r (tab n i f) ≡ true
+pairs-of-tab : {A : Type 0} (r : A → A → Bool) (n i : ℕ) (f : ℕ → A) → ((a b : ℕ) → i ≤ a → a < b → b < i + n → r (f a) (f b) ≡ true)
+    → pairs r (tab n i f) ≡ true
 unfolding pairs tab
 pairs-of-tab r zero i f h = refl
 pairs-of-tab r (suc n) i f h =
@@ -137,7 +142,8 @@ pairs-of-tab r (suc n) i f h =
     (all-of-tab (r (f i)) n (i + 1) f (λ b l u. h i b (omega arith) (omega arith) (omega arith)))
     (pairs-of-tab r n (i + 1) f (λ a b l m u. h a b (omega arith) m (omega arith)))
 
-pairs-in-tab : {A : Type 0} (r : A → A → Bool) (n i : ℕ) (f : ℕ → A) → pairs r (tab n i f) ≡ true → (a b : ℕ) → i ≤ a → a < b → b < i + n → r (f a) (f b) ≡ true
+pairs-in-tab : {A : Type 0} (r : A → A → Bool) (n i : ℕ) (f : ℕ → A) → pairs r (tab n i f) ≡ true → (a b : ℕ) → i ≤ a → a < b → b < i + n
+    → r (f a) (f b) ≡ true
 unfolding pairs tab
 pairs-in-tab r zero i f h a b l k u = absurd (omega arith)
 pairs-in-tab r (suc n) i f h a b l k u =
@@ -181,14 +187,16 @@ free-second : (x : Option (Lock ℕ)) → slotTogether x none ≡ true
 free-second none = refl
 free-second (some k) = refl
 
-module _ (d o p : List ℕ) (m : ℕ) (up : all (goesUp d o) (tab (m - 1) 1 (λ a. a)) ≡ true) (whole : all (hasPlace d o p m) (tab 256 0 (λ i. i)) ≡ true) where
+module _ (d o p : List ℕ) (m : ℕ) (up : all (goesUp d o) (tab (m - 1) 1 (λ a. a)) ≡ true)
+    (whole : all (hasPlace d o p m) (tab 256 0 (λ i. i)) ≡ true) where
   climbs : (a b : ℕ) → a < b → b < m → comesFirst (placed d o a) (placed d o b) ≡ true
   unfolding goesUp
   climbs a zero l h = absurd (omega arith)
   climbs a (suc b) l h =
       let e : suc b - 1 ≡ b = omega arith in
       let step : comesFirst (placed d o b) (placed d o (suc b)) ≡ true =
-      subst (λ x. comesFirst (placed d o x) (placed d o (suc b)) ≡ true) e (all-tab (goesUp d o) (m - 1) 1 (λ a. a) (suc b) up (omega arith) (omega arith)) in
+      subst (λ x. comesFirst (placed d o x) (placed d o (suc b)) ≡ true) e
+      (all-tab (goesUp d o) (m - 1) 1 (λ a. a) (suc b) up (omega arith) (omega arith)) in
       elim (decLt a b) [
         | yes k ↦ first-then (placed d o a) (placed d o b) (placed d o (suc b)) (climbs a b k (omega arith)) step
         | no k ↦ subst (λ x. comesFirst (placed d o x) (placed d o (suc b)) ≡ true) (let z : b ≡ a = omega arith in z) step
@@ -204,7 +212,8 @@ module _ (d o p : List ℕ) (m : ℕ) (up : all (goesUp d o) (tab (m - 1) 1 (λ 
   unfolding hasPlace
   place-of i h = go (slotAt d i) refl (all-tab (hasPlace d o p m) 256 0 (λ i. i) i whole (omega arith) (omega arith))
     where
-      go : (x : Option (Lock ℕ)) → slotAt d i ≡ x → (not (isThere (slotAt d i)) || (ltb (getD p i 0) m && eqb (getD o (getD p i 0) 0) i)) ≡ true → (slotAt d i ≡ none) ⊎ Place i
+      go : (x : Option (Lock ℕ)) → slotAt d i ≡ x → (not (isThere (slotAt d i)) || (ltb (getD p i 0) m && eqb (getD o (getD p i 0) 0) i)) ≡ true
+          → (slotAt d i ≡ none) ⊎ Place i
       go none e t = inl e
       go (some l) e t =
           let u : (ltb (getD p i 0) m && eqb (getD o (getD p i 0) 0) i) ≡ true = rw e at t in
@@ -239,7 +248,8 @@ module _ (d o p : List ℕ) (m : ℕ) (up : all (goesUp d o) (tab (m - 1) 1 (λ 
       go i (inl e) = ap t e ∙ free
       go i (inr a) = ap (λ x. t (slotAt d x)) (sym (a .is)) ∙ h (a .at) (a .below)
 
-  pub place-some : (t : Option (Lock ℕ) → Bool) → t none ≡ false → (i : ℕ) → i < 256 → t (slotAt d i) ≡ true → (a : ℕ) × (a < m) × (t (placed d o a) ≡ true)
+  pub place-some : (t : Option (Lock ℕ) → Bool) → t none ≡ false → (i : ℕ) → i < 256 → t (slotAt d i) ≡ true
+      → (a : ℕ) × (a < m) × (t (placed d o a) ≡ true)
   place-some t free i h e = go (place-of i h)
     where
       go : (slotAt d i ≡ none) ⊎ Place i → (a : ℕ) × (a < m) × (t (placed d o a) ≡ true)
@@ -250,7 +260,11 @@ module _ (d o p : List ℕ) (m : ℕ) (up : all (goesUp d o) (tab (m - 1) 1 (λ 
   names-up a b l h =
       elim (decLt a b) [
         | yes c ↦ first-names (placed d o a) (placed d o b) (climbs a b c h)
-        | no c ↦ let z : a ≡ b = omega arith in subst (λ x. nameOf (placed d o a) ≤ nameOf (placed d o x)) z (let r : nameOf (placed d o a) ≤ nameOf (placed d o a) = omega arith in r)
+        | no c ↦ (
+            let z : a ≡ b = omega arith in
+            let e : nameOf (placed d o a) ≡ nameOf (placed d o b) = ap (λ x. nameOf (placed d o x)) z in
+            omega arith
+            )
       ]
 
   pub each-there : begins d o m ≡ true → (a : ℕ) → a < m → isThere (placed d o a) ≡ true
@@ -302,5 +316,6 @@ clash-apart d o a size h = fails (pairs slotTogether (tab 256 0 (slotAt d))) no-
           | no c ↦
               let n = eqb-false i j (not-true (eqb i j) (w .0)) in
               let l : j < i = omega (arith, n) in
-              true≢false (sym (together-turn (slotAt d i) (slotAt d j) ∙ pairs-in-tab slotTogether 256 0 (slotAt d) t j i (omega arith) l (omega (arith, first))) ∙ bad)
+              let w = pairs-in-tab slotTogether 256 0 (slotAt d) t j i (omega arith) l (omega (arith, first)) in
+              true≢false (sym (together-turn (slotAt d i) (slotAt d j) ∙ w) ∙ bad)
         ]

@@ -50,18 +50,22 @@ module _ (a b : Sl.Slot) where
   free-after k e f = sym (ap₂ (λ x y. comesFirst (bookSlot x) (bookSlot y)) e f)
 
   pub held-first : (k l : L.Lock) (c : Bool) → a ≡ SV.Held k → b ≡ SV.Held l → c ≡ conflict (bookMode (k .mode)) (bookMode (l .mode))
-      → (ltb (k .name .0) (l .name .0) || ((eqb (k .name .0) (l .name .0) && ltb (k .holder) (l .holder)) && not c)) ≡ comesFirst (bookSlot a) (bookSlot b)
+      → (ltb (k .name .0) (l .name .0) || ((eqb (k .name .0) (l .name .0) && ltb (k .holder) (l .holder)) && not c))
+      ≡ comesFirst (bookSlot a) (bookSlot b)
   unfolding comesFirst
   held-first k l c e f g =
       ap (λ x. ltb (k .name .0) (l .name .0) || ((eqb (k .name .0) (l .name .0) && ltb (k .holder) (l .holder)) && not x)) g
-      ∙ ap₂ (λ x y. ltb x y || ((eqb x y && ltb (k .holder) (l .holder)) && not (conflict (bookMode (k .mode)) (bookMode (l .mode))))) (sym (name-back (k .name .0))) (sym (name-back (l .name .0)))
+      ∙ ap₂ (λ x y. ltb x y || ((eqb x y && ltb (k .holder) (l .holder)) && not (conflict (bookMode (k .mode)) (bookMode (l .mode)))))
+      (sym (name-back (k .name .0))) (sym (name-back (l .name .0)))
       ∙ sym (ap₂ (λ x y. comesFirst (bookSlot x) (bookSlot y)) e f)
 
-pub above-last : (d o : List ℕ) (a : ℕ) (s t : Sl.Slot) (r : Bool) → bookSlot s ≡ placed d o (a - 1) → bookSlot t ≡ placed d o a → r ≡ comesFirst (bookSlot s) (bookSlot t) → r ≡ goesUp d o a
+pub above-last : (d o : List ℕ) (a : ℕ) (s t : Sl.Slot) (r : Bool) → bookSlot s ≡ placed d o (a - 1) → bookSlot t ≡ placed d o a
+    → r ≡ comesFirst (bookSlot s) (bookSlot t) → r ≡ goesUp d o a
 unfolding goesUp
 above-last d o a s t r e f g = g ∙ ap₂ comesFirst e f
 
-pub place-noted : (d o p : List ℕ) (m i a j : ℕ) (s : Sl.Slot) (b : Bool) → bookSlot s ≡ slotAt d i → b ≡ not (isThere (bookSlot s)) → a ≡ getD p i 0 → j ≡ getD o a 0
+pub place-noted : (d o p : List ℕ) (m i a j : ℕ) (s : Sl.Slot) (b : Bool) → bookSlot s ≡ slotAt d i → b ≡ not (isThere (bookSlot s)) → a ≡ getD p i 0
+    → j ≡ getD o a 0
     → (b || (ltb a m && eqb j i)) ≡ hasPlace d o p m i
 unfolding hasPlace
 place-noted d o p m i a j s b e f g h =
@@ -72,13 +76,16 @@ place-noted d o p m i a j s b e f g h =
 module _ (d o : List ℕ) (m a : ℕ) (inv : all (goesUp d o) (tab (m - 1) 1 (λ x. x)) ≡ all (goesUp d o) (tab (m - a) a (λ x. x))) where
   pub climb-stop : (b : Bool) → a < m → b ≡ goesUp d o a → not b ≡ true → leb m a ≡ all (goesUp d o) (tab (m - 1) 1 (λ x. x))
   climb-stop b l e t =
-      lt-leb m a l ∙ sym (inv ∙ all-next (goesUp d o) m a (λ x. x) l ∙ ap (λ x. x && all (goesUp d o) (tab (m - (a + 1)) (a + 1) (λ x. x))) (sym e ∙ not-true b t))
+      lt-leb m a l
+      ∙ sym (inv ∙ all-next (goesUp d o) m a (λ x. x) l
+      ∙ ap (λ x. x && all (goesUp d o) (tab (m - (a + 1)) (a + 1) (λ x. x))) (sym e ∙ not-true b t))
 
   pub climb-end : m ≤ a → leb m a ≡ all (goesUp d o) (tab (m - 1) 1 (λ x. x))
   climb-end l = le-leb m a l ∙ sym (inv ∙ all-done (goesUp d o) m a (λ x. x) l)
 
 -- ---- neighbours, and the first
-pub clash-at : (d o : List ℕ) (a i j : ℕ) (b : Bool) → i ≡ getD o (a - 1) 0 → j ≡ getD o a 0 → b ≡ slotTogether (slotAt d i) (slotAt d j) → (not (eqb i j) && not b) ≡ clashes d o a
+pub clash-at : (d o : List ℕ) (a i j : ℕ) (b : Bool) → i ≡ getD o (a - 1) 0 → j ≡ getD o a 0 → b ≡ slotTogether (slotAt d i) (slotAt d j)
+    → (not (eqb i j) && not b) ≡ clashes d o a
 unfolding clashes
 clash-at d o a i j b e f g =
     ap (λ x. not (eqb i j) && not x) g ∙ ap₂ (λ x y. not (eqb x y) && not (slotTogether (slotAt d x) (slotAt d y))) e f
@@ -87,7 +94,8 @@ not-not : (b : Bool) → not (not b) ≡ b
 not-not true = refl
 not-not false = refl
 
-pub first-there : (d o : List ℕ) (m : ℕ) (s : Sl.Slot) (b : Bool) → bookSlot s ≡ placed d o 0 → b ≡ not (isThere (bookSlot s)) → (eqb m 0 || not b) ≡ begins d o m
+pub first-there : (d o : List ℕ) (m : ℕ) (s : Sl.Slot) (b : Bool) → bookSlot s ≡ placed d o 0 → b ≡ not (isThere (bookSlot s))
+    → (eqb m 0 || not b) ≡ begins d o m
 unfolding begins
 first-there d o m s b e f = ap (λ x. eqb m 0 || not x) f ∙ ap (λ x. eqb m 0 || x) (not-not (isThere (bookSlot s)) ∙ ap isThere e)
 
@@ -100,26 +108,26 @@ pub held-on : (a : Sl.Slot) (x : ℕ) (l : L.Lock) → a ≡ SV.Held l → eqb (
 unfolding slotOn
 held-on a x l e = ap (λ y. eqb y x) (sym (name-back (l .name .0))) ∙ sym (ap (λ y. slotOn x (bookSlot y)) e)
 
-pub on-placed : (d o : List ℕ) (a x : ℕ) (s : Sl.Slot) (r : Bool) → bookSlot s ≡ placed d o a → r ≡ slotOn x (bookSlot s) → r ≡ slotOn x (placed d o a)
+pub on-placed : (d o : List ℕ) (a x : ℕ) (s : Sl.Slot) (r : Bool) → bookSlot s ≡ placed d o a → r ≡ slotOn x (bookSlot s)
+    → r ≡ slotOn x (placed d o a)
 on-placed d o a x s r e f = f ∙ ap (slotOn x) e
 
 module _ (d o : List ℕ) (m x k j : ℕ) (inv : stretch (placed d o) m x k ≡ stretch (placed d o) m x j) where
-  name-turn : j < m → stretch (placed d o) m x k ≡ j + cond (not (slotOn x (placed d o j))) 0 (suc (place (λ y. not (slotOn x y)) (tab (m - (j + 1)) (j + 1) (placed d o))))
+  abbrev left : ℕ
+  left = place (λ y. not (slotOn x y)) (tab (m - (j + 1)) (j + 1) (placed d o))
+
+  name-turn : j < m → stretch (placed d o) m x k ≡ j + cond (not (slotOn x (placed d o j))) 0 (suc left)
   unfolding stretch place
   name-turn l = inv ∙ ap (λ ys. j + place (λ y. not (slotOn x y)) ys) (tab-next m j (placed d o) l)
 
   pub name-other : (b : Bool) → j < m → b ≡ slotOn x (placed d o j) → not b ≡ true → j ≡ stretch (placed d o) m x k
   name-other b l e t =
-      sym (name-turn l
-      ∙ ap (λ c. j + cond c 0 (suc (place (λ y. not (slotOn x y)) (tab (m - (j + 1)) (j + 1) (placed d o))))) (ap not (sym e) ∙ t)
-      ∙ add-zero j)
+      sym (name-turn l ∙ ap (λ c. j + cond c 0 (suc left)) (ap not (sym e) ∙ t) ∙ add-zero j)
 
   pub name-more : (b : Bool) → j < m → b ≡ slotOn x (placed d o j) → not b ≡ false → stretch (placed d o) m x k ≡ stretch (placed d o) m x (j + 1)
   unfolding stretch
   name-more b l e t =
-      let p = place (λ y. not (slotOn x y)) (tab (m - (j + 1)) (j + 1) (placed d o)) in
-      let z : j + suc p ≡ j + 1 + p = omega arith in
-      name-turn l ∙ ap (λ c. j + cond c 0 (suc p)) (ap not (sym e) ∙ t) ∙ z
+      let z : j + suc left ≡ j + 1 + left = omega arith in name-turn l ∙ ap (λ c. j + cond c 0 (suc left)) (ap not (sym e) ∙ t) ∙ z
 
   pub name-end : m ≤ j → j ≡ stretch (placed d o) m x k
   unfolding stretch place
@@ -138,7 +146,8 @@ module _ (s d o : List ℕ) (m q i k j : ℕ) (e : E.Entry) (f : bookEntry e ≡
   entry-is : bookEntry e ≡ entryAt (pageAt s q) i
   entry-is = f ∙ ap (λ p. entryAt p i) (lent-page s q)
 
-  test-is : (b : Bool) → (eqb (e .owner) 0 || any (slotHolds (e .owner) (e .key .0)) (tab (j - k) k (placed d o))) ≡ b → cond b (To j) Stuck ≡ pastEntry (placed d o) m (entryAt (pageAt s q) i) k
+  test-is : (b : Bool) → (eqb (e .owner) 0 || any (slotHolds (e .owner) (e .key .0)) (tab (j - k) k (placed d o))) ≡ b
+      → cond b (To j) Stuck ≡ pastEntry (placed d o) m (entryAt (pageAt s q) i) k
   unfolding pastEntry
   test-is b h =
       ap (λ c. cond c (To j) Stuck) (sym h)
@@ -163,7 +172,8 @@ past-to-most d o m k j es r h f g = past-passed (placed d o) m es k j h (sym f �
 
 -- ---- the entries of a leaf
 module _ (s d o : List ℕ) (m q k n : ℕ) where
-  pub leaf-start : n ≡ countOf (pageAt s q) → past (placed d o) m (entriesOf (pageAt s q)) k ≡ past (placed d o) m (tab (n - 0) 0 (entryAt (pageAt s q))) k
+  pub leaf-start : n ≡ countOf (pageAt s q)
+      → past (placed d o) m (entriesOf (pageAt s q)) k ≡ past (placed d o) m (tab (n - 0) 0 (entryAt (pageAt s q))) k
   leaf-start e = ap (λ es. past (placed d o) m es k) (entries-start s q n e)
 
   module _ (i at : ℕ) (inv : past (placed d o) m (entriesOf (pageAt s q)) k ≡ past (placed d o) m (tab (n - i) i (entryAt (pageAt s q))) at) where
@@ -178,7 +188,8 @@ module _ (s d o : List ℕ) (m q k n : ℕ) where
       pub leaf-stuck : r ≡ Stuck → Stuck ≡ past (placed d o) m (entriesOf (pageAt s q)) k
       leaf-stuck t = sym (leaf-step ∙ ap (λ x. after x (past (placed d o) m (tab (n - (i + 1)) (i + 1) (entryAt (pageAt s q))))) t)
 
-      pub leaf-turn : (j : ℕ) → r ≡ To j → past (placed d o) m (entriesOf (pageAt s q)) k ≡ past (placed d o) m (tab (n - (i + 1)) (i + 1) (entryAt (pageAt s q))) j
+      pub leaf-turn : (j : ℕ) → r ≡ To j
+          → past (placed d o) m (entriesOf (pageAt s q)) k ≡ past (placed d o) m (tab (n - (i + 1)) (i + 1) (entryAt (pageAt s q))) j
       leaf-turn j t = leaf-step ∙ ap (λ x. after x (past (placed d o) m (tab (n - (i + 1)) (i + 1) (entryAt (pageAt s q))))) t
 
     pub leaf-end : n ≤ i → To at ≡ past (placed d o) m (entriesOf (pageAt s q)) k
@@ -186,48 +197,56 @@ module _ (s d o : List ℕ) (m q k n : ℕ) where
     leaf-end l = sym (inv ∙ ap (λ es. past (placed d o) m es at) (tab-done n i (entryAt (pageAt s q)) l))
 
 -- ---- the children of a page
-abbrev pub below : (n : ℕ) (s : List ℕ) → Child → List Item
-below n s c = flat ℕ Item n (treeOf n s (c .page))
+-- the entries of the w children of page q from i on, each a tree of level n
+abbrev pub entriesFrom : (n : ℕ) (s : List ℕ) (q w i : ℕ) → List Item
+entriesFrom n s q w i = join (λ (c : Child). flat ℕ Item n (treeOf n s (c .page))) (tab (w - i) i (childAt (pageAt s q)))
 
-flat-step : (n : ℕ) (s : List ℕ) (q : ℕ) → flat ℕ Item (suc n) (treeOf (suc n) s q) ≡ join (below n s) (childrenOf (pageAt s q))
+flat-step : (n : ℕ) (s : List ℕ) (q : ℕ)
+    → flat ℕ Item (suc n) (treeOf (suc n) s q) ≡ join (λ (c : Child). flat ℕ Item n (treeOf n s (c .page))) (childrenOf (pageAt s q))
 unfolding flat treeOf
 flat-step n s q = join-map (λ c. flat ℕ Item n (c .tree)) (kid n s) (childrenOf (pageAt s q))
 
 module _ (s d o : List ℕ) (m q k n : ℕ) where
-  pub tree-leaf : (r : Passage) → n ≡ 0 → r ≡ past (placed d o) m (entriesOf (pageAt s q)) k → r ≡ past (placed d o) m (flat ℕ Item n (treeOf n s q)) k
+  abbrev whole : Passage
+  whole = past (placed d o) m (flat ℕ Item n (treeOf n s q)) k
+
+  pub tree-leaf : (r : Passage) → n ≡ 0 → r ≡ past (placed d o) m (entriesOf (pageAt s q)) k → r ≡ whole
   unfolding flat treeOf
   tree-leaf r z e = e ∙ ap (λ x. past (placed d o) m (flat ℕ Item x (treeOf x s q)) k) (sym z)
 
-  pub tree-start : (w : ℕ) → (n ≡ 0 → ⊥) → w ≡ countOf (pageAt s q)
-      → past (placed d o) m (flat ℕ Item n (treeOf n s q)) k ≡ past (placed d o) m (join (below (n - 1) s) (tab (w - 0) 0 (childAt (pageAt s q)))) k
+  pub tree-start : (w : ℕ) → (n ≡ 0 → ⊥) → w ≡ countOf (pageAt s q) → whole ≡ past (placed d o) m (entriesFrom (n - 1) s q w 0) k
   unfolding childrenOf
   tree-start w z e =
       ap (λ x. past (placed d o) m (flat ℕ Item x (treeOf x s q)) k) (one-more n z)
       ∙ ap (λ es. past (placed d o) m es k) (flat-step (n - 1) s q)
-      ∙ ap (λ x. past (placed d o) m (join (below (n - 1) s) (tab x 0 (childAt (pageAt s q)))) k) (sym e ∙ sym (sub-zero w))
+      ∙ ap (λ x. past (placed d o) m (join (λ (c : Child). flat ℕ Item (n - 1) (treeOf (n - 1) s (c .page))) (tab x 0 (childAt (pageAt s q)))) k)
+      (sym e ∙ sym (sub-zero w))
 
-  module _ (w i at : ℕ) (inv : past (placed d o) m (flat ℕ Item n (treeOf n s q)) k ≡ past (placed d o) m (join (below (n - 1) s) (tab (w - i) i (childAt (pageAt s q)))) at) where
-    abbrev rest : List Item
-    rest = join (below (n - 1) s) (tab (w - (i + 1)) (i + 1) (childAt (pageAt s q)))
-
-    module _ (c : ℕ) (r : Passage) (l : i < w) (f : c ≡ childAt (pageAt s q) i .page) (e : r ≡ past (placed d o) m (flat ℕ Item (n - 1) (treeOf (n - 1) s c)) at) where
-      tree-step : past (placed d o) m (flat ℕ Item n (treeOf n s q)) k ≡ after r (past (placed d o) m rest)
+  module _ (w i at : ℕ) (inv : whole ≡ past (placed d o) m (entriesFrom (n - 1) s q w i) at) where
+    module _ (c : ℕ) (r : Passage) (l : i < w) (f : c ≡ childAt (pageAt s q) i .page)
+        (e : r ≡ past (placed d o) m (flat ℕ Item (n - 1) (treeOf (n - 1) s c)) at) where
+      tree-step : whole ≡ after r (past (placed d o) m (entriesFrom (n - 1) s q w (i + 1)))
       unfolding join
       tree-step =
           inv
-          ∙ ap (λ cs. past (placed d o) m (join (below (n - 1) s) cs) at) (tab-next w i (childAt (pageAt s q)) l)
-          ∙ past-append (placed d o) m (below (n - 1) s (childAt (pageAt s q) i)) rest at
-          ∙ ap (λ x. after x (past (placed d o) m rest)) (ap (λ y. past (placed d o) m (flat ℕ Item (n - 1) (treeOf (n - 1) s y)) at) (sym f) ∙ sym e)
+          ∙ ap (λ cs. past (placed d o) m (join (λ (c : Child). flat ℕ Item (n - 1) (treeOf (n - 1) s (c .page))) cs) at)
+          (tab-next w i (childAt (pageAt s q)) l)
+          ∙ past-append (placed d o) m (flat ℕ Item (n - 1) (treeOf (n - 1) s (childAt (pageAt s q) i .page))) (entriesFrom (n - 1) s q w (i + 1)) at
+          ∙ ap (λ x. after x (past (placed d o) m (entriesFrom (n - 1) s q w (i + 1))))
+          (ap (λ y. past (placed d o) m (flat ℕ Item (n - 1) (treeOf (n - 1) s y)) at) (sym f) ∙ sym e)
 
-      pub tree-stuck : r ≡ Stuck → Stuck ≡ past (placed d o) m (flat ℕ Item n (treeOf n s q)) k
-      tree-stuck t = sym (tree-step ∙ ap (λ x. after x (past (placed d o) m rest)) t)
+      pub tree-stuck : r ≡ Stuck → Stuck ≡ whole
+      tree-stuck t = sym (tree-step ∙ ap (λ x. after x (past (placed d o) m (entriesFrom (n - 1) s q w (i + 1)))) t)
 
-      pub tree-turn : (j : ℕ) → r ≡ To j → past (placed d o) m (flat ℕ Item n (treeOf n s q)) k ≡ past (placed d o) m rest j
-      tree-turn j t = tree-step ∙ ap (λ x. after x (past (placed d o) m rest)) t
+      pub tree-turn : (j : ℕ) → r ≡ To j → whole ≡ past (placed d o) m (entriesFrom (n - 1) s q w (i + 1)) j
+      tree-turn j t = tree-step ∙ ap (λ x. after x (past (placed d o) m (entriesFrom (n - 1) s q w (i + 1)))) t
 
-    pub tree-end : w ≤ i → To at ≡ past (placed d o) m (flat ℕ Item n (treeOf n s q)) k
+    pub tree-end : w ≤ i → To at ≡ whole
     unfolding past join
-    tree-end l = sym (inv ∙ ap (λ cs. past (placed d o) m (join (below (n - 1) s) cs) at) (tab-done w i (childAt (pageAt s q)) l))
+    tree-end l =
+        sym (inv
+        ∙ ap (λ cs. past (placed d o) m (join (λ (c : Child). flat ℕ Item (n - 1) (treeOf (n - 1) s (c .page))) cs) at)
+        (tab-done w i (childAt (pageAt s q)) l))
 
 -- ---- the whole tree, and then the end
 module _ (n : ℕ) (s d o : List ℕ) (m q : ℕ) (r : Passage) (e : r ≡ past (placed d o) m (flat ℕ Item n (treeOf n s q)) 0) where

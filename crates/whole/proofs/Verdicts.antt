@@ -61,7 +61,8 @@ module _ (n : ℕ) (s : List ℕ) (q : ℕ) where
       go end z = refl
       go (on k) z = find-is n s k q ∙ in-any (hasKey k) entries e i (eq-eqb (e .key) k (sym z))
 
-  named-key : (y : Option (Lock ℕ)) → isThere y ≡ true → slotNamed n s q y ≡ true → ((e : Item) × In e entries × (e .key ≡ nameOf y)) ⊎ (nameOf y ≡ endMark)
+  named-key : (y : Option (Lock ℕ)) → isThere y ≡ true → slotNamed n s q y ≡ true
+      → ((e : Item) × In e entries × (e .key ≡ nameOf y)) ⊎ (nameOf y ≡ endMark)
   named-key none t h = absurd (false≢true t)
   named-key (some l) t h = go (l .name) h
     where
@@ -87,7 +88,8 @@ module _ (n : ℕ) (s : List ℕ) (q : ℕ) where
 
 -- ---- an order that is one
 module _ (n : ℕ) (s : List ℕ) (q : ℕ) (fine : Fine n s q) (d o p : List ℕ) (m : ℕ) (size : length d ≡ 4672)
-    (first : begins d o m ≡ true) (up : all (goesUp d o) (tab (m - 1) 1 (λ a. a)) ≡ true) (whole : all (hasPlace d o p m) (tab 256 0 (λ i. i)) ≡ true) where
+    (first : begins d o m ≡ true) (up : all (goesUp d o) (tab (m - 1) 1 (λ a. a)) ≡ true)
+    (whole : all (hasPlace d o p m) (tab 256 0 (λ i. i)) ≡ true) where
   abbrev es : List Item
   es = flat ℕ Item n (treeOf n s q)
 
@@ -136,7 +138,10 @@ module _ (n : ℕ) (s : List ℕ) (q : ℕ) (fine : Fine n s q) (d o p : List �
               let w = any-in (λ (x : Item). slotOn (x .key) (f a)) es (passed .names a (omega arith) c) in
               key-named n s q (w .0) (w .1) (f a) (on-is (f a) (w .0 .key) (w .2))
               )
-          | no c ↦ end-named n s q d (getD o a 0) (stretch-is f m endMark j (passed .most) .names a (omega arith) (let z = eqb-true (stretch f m endMark j) m e in omega arith))
+          | no c ↦ (
+              let z = eqb-true (stretch f m endMark j) m e in
+              end-named n s q d (getD o a 0) (stretch-is f m endMark j (passed .most) .names a (omega arith) (omega arith))
+              )
         ]
 
     walk-names : all (slotNamed n s q) (slotsOf d) ≡ true
@@ -154,7 +159,9 @@ module _ (n : ℕ) (s : List ℕ) (q : ℕ) (fine : Fine n s q) (d o p : List �
     ready =
         record {
           below = λ a l. absurd (omega arith);
-          there = λ a _ l. let t = each-there d o p m up whole first a l in named-key n s q (f a) t (all-in (slotNamed n s q) (slotsOf d) (f a) names (place-slot isThere refl a t));
+          there = λ a _ l.
+              let t = each-there d o p m up whole first a l in
+              named-key n s q (f a) t (all-in (slotNamed n s q) (slotsOf d) (f a) names (place-slot isThere refl a t));
           held = λ e i. held-is e ∙ all-in (entryHeld d) es e (sym (owners-is n s d q) ∙ owners) i;
           order = fine-sorted n s q fine .order;
           small = fine-small n s q fine;
@@ -188,7 +195,9 @@ module _ (n : ℕ) (s : List ℕ) (q : ℕ) (fine : Fine n s q) (d o p : List �
 
   walked-is : walked n s d o m q ≡ locksOk n s d q
   unfolding walked
-  walked-is = alike (ended f m (past f m es 0)) (locksOk n s d q) (yes-right (past f m es 0) refl) (λ h. let w = locks-tell h in walk-ends (w .0) (w .1))
+  walked-is =
+      alike (ended f m (past f m es 0)) (locksOk n s d q) (yes-right (past f m es 0) refl)
+      (λ h. let w = locks-tell h in walk-ends (w .0) (w .1))
     where
       yes-right : (r : Passage) → past f m es 0 ≡ r → ended f m r ≡ true → locksOk n s d q ≡ true
       yes-right (To j) e h = tell-locks (walk-names j e h) (walk-owners j e h)

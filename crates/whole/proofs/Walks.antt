@@ -100,7 +100,8 @@ module _ (f : ℕ → Option (Lock ℕ)) (m : ℕ) where
   past-append [] fs k = refl
   past-append (e ∷ es) fs k = go (pastEntry f m e k) (past-append es fs)
     where
-      go : (r : Passage) → ((j : ℕ) → past f m (es ++ fs) j ≡ after (past f m es j) (past f m fs)) → after r (past f m (es ++ fs)) ≡ after (after r (past f m es)) (past f m fs)
+      go : (r : Passage) → ((j : ℕ) → past f m (es ++ fs) j ≡ after (past f m es j) (past f m fs))
+          → after r (past f m (es ++ fs)) ≡ after (after r (past f m es)) (past f m fs)
       go (To j) h = h j
       go Stuck h = refl
 
@@ -138,7 +139,8 @@ module _ (f : ℕ → Option (Lock ℕ)) (m : ℕ) where
       record { up = omega arith; most = omega arith; names = λ a l u. absurd (omega arith); owners = λ e i. absurd i }
   past-passed (e ∷ es) k j h t = go (pastEntry f m e k) refl t (λ w l u. past-passed es w j l u)
     where
-      go : (r : Passage) → pastEntry f m e k ≡ r → after r (past f m es) ≡ To j → ((w : ℕ) → w ≤ m → past f m es w ≡ To j → Passed es w j) → Passed (e ∷ es) k j
+      go : (r : Passage) → pastEntry f m e k ≡ r → after r (past f m es) ≡ To j → ((w : ℕ) → w ≤ m → past f m es w ≡ To j → Passed es w j)
+          → Passed (e ∷ es) k j
       go Stuck q u h = absurd (stuck-to j u)
       go (To w) q u i =
           let x = entry-to e k w q in
@@ -166,7 +168,8 @@ module _ (f : ℕ → Option (Lock ℕ)) (m : ℕ) where
               (either (eqb (e .owner) 0) (any (slotHolds (e .owner) (e .key)) (tab (w - k) k f)) y)
 
   -- ---- where all is well, the walk comes to the end
-  module _ (on : (a : ℕ) → a < m → (x : ℕ) → slotOn x (f a) ≡ eqb (nameOf (f a)) x) (up : (a b : ℕ) → a ≤ b → b < m → nameOf (f a) ≤ nameOf (f b)) where
+  module _ (on : (a : ℕ) → a < m → (x : ℕ) → slotOn x (f a) ≡ eqb (nameOf (f a)) x)
+      (up : (a b : ℕ) → a ≤ b → b < m → nameOf (f a) ≤ nameOf (f b)) where
     -- the locks before place k are on lower names than the entries to come, those from k on are on them or on the end
     pub record Ready (es : List Item) (k : ℕ) : Type 0 where
       pub below : (a : ℕ) → a < k → (e : Item) → In e es → nameOf (f a) < e .key
@@ -189,12 +192,14 @@ module _ (f : ℕ → Option (Lock ℕ)) (m : ℕ) where
       beyond : (a : ℕ) → j ≤ a → a < m → e .key < nameOf (f a)
       beyond a l u =
           let p = s .up in
-          let n : nameOf (f j) ≡ e .key → ⊥ = (λ z. false≢true (sym (s .stops (omega arith)) ∙ on j (omega arith) (e .key) ∙ eq-eqb (nameOf (f j)) (e .key) z)) in
+          let n : nameOf (f j) ≡ e .key → ⊥ =
+          (λ z. false≢true (sym (s .stops (omega arith)) ∙ on j (omega arith) (e .key) ∙ eq-eqb (nameOf (f j)) (e .key) z)) in
           let y = up j a l u in
           let h : e .key < nameOf (f j) = next n (g .there j p (omega arith)) in
           omega arith
         where
-          next : (nameOf (f j) ≡ e .key → ⊥) → ((c : Item) × In c (e ∷ es) × (c .key ≡ nameOf (f j))) ⊎ (nameOf (f j) ≡ endMark) → e .key < nameOf (f j)
+          next : (nameOf (f j) ≡ e .key → ⊥) → ((c : Item) × In c (e ∷ es) × (c .key ≡ nameOf (f j))) ⊎ (nameOf (f j) ≡ endMark)
+              → e .key < nameOf (f j)
           next n (inl (c, inl z, q)) = absurd (n (sym q ∙ ap (λ v. v .key) (sym z)))
           next n (inl (c, inr i, q)) = subst (λ v. e .key < v) q (higher c i)
           next n (inr q) = let b = g .small e (inl refl) in omega arith
@@ -218,8 +223,9 @@ module _ (f : ℕ → Option (Lock ℕ)) (m : ℕ) where
           let w = within (v .0) (omega arith) (holds-on (e .owner) (e .key) (f (v .0)) (ap (slotHolds (e .owner) (e .key)) (v .3) ∙ y .2)) in
           let b : k ≤ v .0 = w .0 in
           let c : v .0 < j = w .1 in
+          let i : In (y .0) (tab (j - k) k f) = subst (λ x. In x (tab (j - k) k f)) (v .3) (tab-in (j - k) k f (v .0) b (omega arith)) in
           or-right (eqb (e .owner) 0) (any (slotHolds (e .owner) (e .key)) (tab (j - k) k f))
-          (in-any (slotHolds (e .owner) (e .key)) (tab (j - k) k f) (y .0) (subst (λ x. In x (tab (j - k) k f)) (v .3) (tab-in (j - k) k f (v .0) b (omega arith))) (y .2)))
+          (in-any (slotHolds (e .owner) (e .key)) (tab (j - k) k f) (y .0) i (y .2)))
           (either (eqb (e .owner) 0) (any (slotHolds (e .owner) (e .key)) (tab m 0 f)) (g .held e (inl refl)))
 
       ready-next : Ready es j
@@ -236,7 +242,8 @@ module _ (f : ℕ → Option (Lock ℕ)) (m : ℕ) where
             small = λ c i. g .small c (inr i);
           }
         where
-          go : (a : ℕ) → j ≤ a → a < m → ((c : Item) × In c (e ∷ es) × (c .key ≡ nameOf (f a))) ⊎ (nameOf (f a) ≡ endMark) → ((c : Item) × In c es × (c .key ≡ nameOf (f a))) ⊎ (nameOf (f a) ≡ endMark)
+          go : (a : ℕ) → j ≤ a → a < m → ((c : Item) × In c (e ∷ es) × (c .key ≡ nameOf (f a))) ⊎ (nameOf (f a) ≡ endMark)
+              → ((c : Item) × In c es × (c .key ≡ nameOf (f a))) ⊎ (nameOf (f a) ≡ endMark)
           go a l u (inl (c, inl z, q)) = absurd (let b = beyond a l u in let y : e .key ≡ nameOf (f a) = ap (λ v. v .key) z ∙ q in omega arith)
           go a l u (inl (c, inr i, q)) = inl (c, i, q)
           go a l u (inr q) = inr q

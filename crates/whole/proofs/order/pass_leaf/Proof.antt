@@ -14,7 +14,11 @@ use Rattle.whole.proofs.order.pass_leaf.Statement.{statement}
 use Rattle.whole.proofs.order.pass_leaf.Tie as tie
 
 abbrev Inv-loop : tie.InvT-loop
-Inv-loop pages d order m q k n at₀ i₀ at i = (n ≤ 24) × ((i ≤ n) × ((at ≤ m) × (past (placed d order) m (entriesOf (pageAt pages q)) k ≡ past (placed d order) m (tab (n - i) i (entryAt (pageAt pages q))) at)))
+Inv-loop pages d order m q k n at₀ i₀ at i =
+    (n ≤ 24)
+    × ((i ≤ n)
+    × ((at ≤ m)
+    × (past (placed d order) m (entriesOf (pageAt pages q)) k ≡ past (placed d order) m (tab (n - i) i (entryAt (pageAt pages q))) at)))
 
 abbrev μ-loop : tie.MeasureT-loop
 μ-loop pages d order m q k n at₀ i₀ at i = n - i
