@@ -6,7 +6,7 @@ use mathlib.Core.List.{List}
 use Prim.Native.Nat.{ℕ, suc, _+_, _*_, _-_, _≤_, _<_}
 use native.Mathlib.Nat.{sub-zero, add-zero}
 use native.Mathlib.Omega.{arith}
-use borrow.Author.Tests.{eq-eqb, ne-eqb, le-leb, lt-leb, not-true}
+use borrow.Author.Tests.{eq-eqb, ne-eqb, le-leb, lt-leb, not-true, not-false}
 use lib.Dec.{eqb, ltb, leb}
 use lib.ListN.{getD, take, drop}
 use Rattle.lists.specs.Lists.{tab, all, any, place, join}
@@ -59,11 +59,6 @@ module _ (a b : Sl.Slot) where
       (sym (name-back (k .name .0))) (sym (name-back (l .name .0)))
       ∙ sym (ap₂ (λ x y. comesFirst (bookSlot x) (bookSlot y)) e f)
 
-pub above-last : (d o : List ℕ) (a : ℕ) (s t : Sl.Slot) (r : Bool) → bookSlot s ≡ placed d o (a - 1) → bookSlot t ≡ placed d o a
-    → r ≡ comesFirst (bookSlot s) (bookSlot t) → r ≡ goesUp d o a
-unfolding goesUp
-above-last d o a s t r e f g = g ∙ ap₂ comesFirst e f
-
 pub place-noted : (d o p : List ℕ) (m i a j : ℕ) (s : Sl.Slot) (b : Bool) → bookSlot s ≡ slotAt d i → b ≡ not (isThere (bookSlot s)) → a ≡ getD p i 0
     → j ≡ getD o a 0
     → (b || (ltb a m && eqb j i)) ≡ hasPlace d o p m i
@@ -73,12 +68,25 @@ place-noted d o p m i a j s b e f g h =
     ∙ ap (λ x. not (isThere (slotAt d i)) || (ltb x m && eqb (getD o x 0) i)) g
 
 -- ---- going up
+pub now-last : (d o : List ℕ) (a : ℕ) (t : Sl.Slot) → bookSlot t ≡ placed d o a → bookSlot t ≡ placed d o (a + 1 - 1)
+now-last d o a t e = let z : a ≡ a + 1 - 1 = omega arith in e ∙ ap (placed d o) z
+
 module _ (d o : List ℕ) (m a : ℕ) (inv : all (goesUp d o) (tab (m - 1) 1 (λ x. x)) ≡ all (goesUp d o) (tab (m - a) a (λ x. x))) where
-  pub climb-stop : (b : Bool) → a < m → b ≡ goesUp d o a → not b ≡ true → leb m a ≡ all (goesUp d o) (tab (m - 1) 1 (λ x. x))
-  climb-stop b l e t =
-      lt-leb m a l
-      ∙ sym (inv ∙ all-next (goesUp d o) m a (λ x. x) l
-      ∙ ap (λ x. x && all (goesUp d o) (tab (m - (a + 1)) (a + 1) (λ x. x))) (sym e ∙ not-true b t))
+  module _ (s t : Sl.Slot) (b : Bool) (l : a < m) (e : bookSlot s ≡ placed d o (a - 1)) (f : bookSlot t ≡ placed d o a)
+      (g : b ≡ comesFirst (bookSlot s) (bookSlot t)) where
+    climb-step : all (goesUp d o) (tab (m - 1) 1 (λ x. x)) ≡ (b && all (goesUp d o) (tab (m - (a + 1)) (a + 1) (λ x. x)))
+    unfolding goesUp
+    climb-step =
+        inv
+        ∙ all-next (goesUp d o) m a (λ x. x) l
+        ∙ ap (λ x. x && all (goesUp d o) (tab (m - (a + 1)) (a + 1) (λ x. x))) (sym (g ∙ ap₂ comesFirst e f))
+
+    pub climb-stop : not b ≡ true → leb m a ≡ all (goesUp d o) (tab (m - 1) 1 (λ x. x))
+    climb-stop n =
+        lt-leb m a l ∙ sym (climb-step ∙ ap (λ x. x && all (goesUp d o) (tab (m - (a + 1)) (a + 1) (λ x. x))) (not-true b n))
+
+    pub climb-next : not b ≡ false → all (goesUp d o) (tab (m - 1) 1 (λ x. x)) ≡ all (goesUp d o) (tab (m - (a + 1)) (a + 1) (λ x. x))
+    climb-next n = climb-step ∙ ap (λ x. x && all (goesUp d o) (tab (m - (a + 1)) (a + 1) (λ x. x))) (not-false b n)
 
   pub climb-end : m ≤ a → leb m a ≡ all (goesUp d o) (tab (m - 1) 1 (λ x. x))
   climb-end l = le-leb m a l ∙ sym (inv ∙ all-done (goesUp d o) m a (λ x. x) l)

@@ -48,17 +48,6 @@ fn comes_first(a: Slot, b: Slot) -> bool
     (name.0 < later.0) | ((name.0 == later.0) & (k.holder < l.holder) & !mode.conflicts(other))
 }
 
-// Whether the slot at a place comes after the one before it.
-fn is_above(d: &[u8], order: &[u8], a: usize) -> bool
-    requires { ⌜ length (now d) ≡ 4672 ⌝ }
-    requires { ⌜ length (now order) ≡ 256 ⌝ }
-    requires { ⌜ 1 ≤ a ⌝ }
-    requires { ⌜ a < 256 ⌝ }
-    ensures { λ r. ⌜ r ≡ goesUp (now (d .entry)) (now (order .entry)) a ⌝ }
-{
-    comes_first(slot_in(d, order, a - 1), slot_in(d, order, a))
-}
-
 // The first place, from 1 on, whose slot does not come after the one before it; m or more where the first m places go up.
 fn climb(d: &[u8], order: &[u8], m: usize) -> usize
     requires { ⌜ length (now d) ≡ 4672 ⌝ }
@@ -66,11 +55,14 @@ fn climb(d: &[u8], order: &[u8], m: usize) -> usize
     requires { ⌜ m ≤ 256 ⌝ }
     ensures { λ r. ⌜ (1 ≤ r) × (leb m r ≡ all (goesUp (now (d .entry)) (now (order .entry))) (tab (m - 1) 1 (λ a. a))) ⌝ }
 {
+    let mut last = slot_in(d, order, 0);
     let mut a: usize = 1;
     while a < m {
-        if !is_above(d, order, a) {
+        let next = slot_in(d, order, a);
+        if !comes_first(last, next) {
             return a;
         }
+        last = next;
         a += 1;
     }
     a
