@@ -1,30 +1,33 @@
--- An order of the locks that goes up, with no slot in use left out: every two slots go together.
--- To come first is transitive, so that one place comes before every later one, and each slot has a place of its own. Assumes nothing.
+-- An order of the locks that goes up, with no slot in use left out: every two slots go together, and the names ascend. Two different slots
+-- that do not go together, where they are neighbours, show that not all do. To come first is transitive, so that one place comes before
+-- every later one, and each slot has a place of its own. Assumes nothing.
 use mathlib.Core.Path.{_≡_, refl, sym, ap, ap₂, subst, _∙_}
-use mathlib.Core.Logic.{_⊎_, inl, inr}
-use mathlib.Core.Bool.{Bool, true, false, not, _&&_, _||_, false≢true}
-use mathlib.Core.List.{List}
+use mathlib.Core.Logic.{_⊎_, inl, inr, ⊎-elim}
+use mathlib.Core.Bool.{Bool, true, false, not, _&&_, _||_, false≢true, true≢false}
+use mathlib.Core.List.{List, []}
 use mathlib.Core.Option.{Option, none, some}
 use Prim.Native.Nat.{ℕ, zero, suc, _+_, _-_, _≤_, _<_}
 use native.Mathlib.Decide.{decLt}
 use native.Mathlib.Omega.{arith}
-use borrow.Author.Tests.{eqb-true, eq-eqb, ltb-true, lt-ltb, not-true}
+use borrow.Author.Tests.{eqb-true, eqb-false, eq-eqb, ltb-true, lt-ltb, not-true}
 use lib.Dec.{eqb, ltb}
-use lib.ListN.{getD}
+use lib.ListN.{length, getD, List·getD-eq-default}
 use Rattle.lists.specs.Lists.{tab, all, pairs}
-use Rattle.lists.proofs.Tests.{both, and-both, either, or-left, or-right, fails}
+use Rattle.lists.proofs.Tests.{both, and-both, either, or-left, or-right, fails, eqb-turn}
 use Rattle.lists.proofs.Tables.{all-tab}
-use Rattle.rules.specs.Kinds.{Lock, Mode, S, X}
+use Rattle.numbers.specs.Numbers.{numberAt, fieldsAt}
+use Rattle.numbers.proofs.Numbers.{numberAt-ext, number-none}
+use Rattle.rules.specs.Kinds.{Lock, Mode, S, X, Name, on, end}
 use Rattle.rules.specs.Entries.{isThere}
 use Rattle.rules.specs.Locks.{conflict, sameName}
 use Rattle.rules.specs.Good.{together}
 use Rattle.rules.proofs.Orders.{numbers-ordered}
 use Rattle.rules.proofs.Keys.{name-equal}
-use Rattle.tables.specs.Layout.{nameNumber, slotAt, slotsOf}
+use Rattle.tables.specs.Layout.{lockPlace, nameNumber, slotIn, slotAt, slotsOf}
 use Rattle.whole_pages.proofs.Tabs.{all-of-tab}
 use Rattle.desks.specs.States.{book}
 use Rattle.whole.specs.Checks.{slotTogether}
-use Rattle.whole.specs.Orders.{placed, comesFirst, goesUp, hasPlace}
+use Rattle.whole.specs.Orders.{placed, comesFirst, goesUp, clashes, begins, hasPlace}
 
 -- ---- coming first
 record Lower (k l : Lock ℕ) : Type 0 where
@@ -104,11 +107,14 @@ first-then (some k) (some l) none e f = absurd (false≢true f)
 first-then (some k) (some l) (some p) e f = first k p (lower-then k l p (lower k l e) (lower l p f))
 
 -- ---- going together
-goes-together : (k l : Lock ℕ) → (nameNumber (k .name) ≡ nameNumber (l .name) → ((k .holder ≡ l .holder → ⊥) × (conflict (k .mode) (l .mode) ≡ false))) → together book k l ≡ true
+goes-together : (k l : Lock ℕ)
+    → (nameNumber (k .name) ≡ nameNumber (l .name) → ((k .holder ≡ l .holder → ⊥) × (conflict (k .mode) (l .mode) ≡ false)))
+    → together book k l ≡ true
 unfolding together
 goes-together k l h = go (sameName book (k .name) (l .name)) refl
   where
-    go : (b : Bool) → sameName book (k .name) (l .name) ≡ b → (not b || (not (eqb (k .holder) (l .holder)) && not (conflict (k .mode) (l .mode)))) ≡ true
+    go : (b : Bool) → sameName book (k .name) (l .name) ≡ b
+        → (not b || (not (eqb (k .holder) (l .holder)) && not (conflict (k .mode) (l .mode)))) ≡ true
     go false e = refl
     go true e =
         let s = h (ap nameNumber (name-equal book numbers-ordered (k .name) (l .name) e)) in
@@ -122,11 +128,13 @@ first-together (some k) none e = absurd (false≢true e)
 first-together (some k) (some l) e =
     let f = lower k l e in (
       goes-together k l (λ n. let s = f .same n in let h : k .holder < l .holder = s .0 in ((λ z. omega arith), s .1)),
-      goes-together l k (λ n. let s = f .same (sym n) in let h : k .holder < l .holder = s .0 in ((λ z. omega arith), modes-turn (l .mode) (k .mode) ∙ s .1)),
+      goes-together l k
+          (λ n. let s = f .same (sym n) in let h : k .holder < l .holder = s .0 in ((λ z. omega arith), modes-turn (l .mode) (k .mode) ∙ s .1)),
     )
 
 -- ---- every two
-pairs-of-tab : {A : Type 0} (r : A → A → Bool) (n i : ℕ) (f : ℕ → A) → ((a b : ℕ) → i ≤ a → a < b → b < i + n → r (f a) (f b) ≡ true) → pairs r (tab n i f) ≡ true
+pairs-of-tab : {A : Type 0} (r : A → A → Bool) (n i : ℕ) (f : ℕ → A) → ((a b : ℕ) → i ≤ a → a < b → b < i + n → r (f a) (f b) ≡ true)
+    → pairs r (tab n i f) ≡ true
 unfolding pairs tab
 pairs-of-tab r zero i f h = refl
 pairs-of-tab r (suc n) i f h =
@@ -134,14 +142,61 @@ pairs-of-tab r (suc n) i f h =
     (all-of-tab (r (f i)) n (i + 1) f (λ b l u. h i b (omega arith) (omega arith) (omega arith)))
     (pairs-of-tab r n (i + 1) f (λ a b l m u. h a b (omega arith) m (omega arith)))
 
-module _ (d o p : List ℕ) (m : ℕ) (up : all (goesUp d o) (tab (m - 1) 1 (λ a. a)) ≡ true) (whole : all (hasPlace d o p m) (tab 256 0 (λ i. i)) ≡ true) where
+pairs-in-tab : {A : Type 0} (r : A → A → Bool) (n i : ℕ) (f : ℕ → A) → pairs r (tab n i f) ≡ true → (a b : ℕ) → i ≤ a → a < b → b < i + n
+    → r (f a) (f b) ≡ true
+unfolding pairs tab
+pairs-in-tab r zero i f h a b l k u = absurd (omega arith)
+pairs-in-tab r (suc n) i f h a b l k u =
+    let w = both (all (r (f i)) (tab n (i + 1) f)) (pairs r (tab n (i + 1) f)) h in
+    elim (decLt i a) [
+      | yes c ↦ pairs-in-tab r n (i + 1) f (w .1) a b (omega arith) k (omega arith)
+      | no c ↦ let z : i ≡ a = omega arith in subst (λ x. r (f x) (f b) ≡ true) z (all-tab (r (f i)) n (i + 1) f b (w .0) (omega arith) (omega arith))
+    ]
+
+-- ---- a lock at a place
+-- there is no lock past the last slot
+none-past : (d : List ℕ) (i : ℕ) → length d ≡ 4672 → 256 ≤ i → slotAt d i ≡ none
+unfolding slotAt slotIn fieldsAt
+none-past d i size h =
+    let z : numberAt 2 d (lockPlace i + 8) ≡ 0 =
+    numberAt-ext 2 {t = []} {b = 0} (record { byte = λ k l. List·getD-eq-default d 0 {n = lockPlace i + 8 + k} (omega arith) }) ∙ number-none 2 0 in
+    rw z refl
+
+-- so where a test fails or passes other than of a free slot, it is of a slot
+pub slot-some : (t : Option (Lock ℕ) → Bool) (b : Bool) (d : List ℕ) (i : ℕ) → length d ≡ 4672 → (t none ≡ b → ⊥) → t (slotAt d i) ≡ b → i < 256
+slot-some t b d i size free h =
+    elim (decLt i 256) [ yes l ↦ l | no l ↦ absurd (free (sym (ap t (none-past d i size (omega arith))) ∙ h)) ]
+
+abbrev pub nameOf : Option (Lock ℕ) → ℕ
+nameOf none = 0
+nameOf (some l) = nameNumber (l .name)
+
+first-names : (x y : Option (Lock ℕ)) → comesFirst x y ≡ true → nameOf x ≤ nameOf y
+unfolding comesFirst
+first-names none y e = absurd (false≢true e)
+first-names (some k) none e = absurd (false≢true e)
+first-names (some k) (some l) e = lower k l e .names
+
+second-there : (x y : Option (Lock ℕ)) → comesFirst x y ≡ true → isThere y ≡ true
+unfolding comesFirst
+second-there none y e = absurd (false≢true e)
+second-there (some k) none e = absurd (false≢true e)
+second-there (some k) (some l) e = refl
+
+free-second : (x : Option (Lock ℕ)) → slotTogether x none ≡ true
+free-second none = refl
+free-second (some k) = refl
+
+module _ (d o p : List ℕ) (m : ℕ) (up : all (goesUp d o) (tab (m - 1) 1 (λ a. a)) ≡ true)
+    (whole : all (hasPlace d o p m) (tab 256 0 (λ i. i)) ≡ true) where
   climbs : (a b : ℕ) → a < b → b < m → comesFirst (placed d o a) (placed d o b) ≡ true
   unfolding goesUp
   climbs a zero l h = absurd (omega arith)
   climbs a (suc b) l h =
       let e : suc b - 1 ≡ b = omega arith in
       let step : comesFirst (placed d o b) (placed d o (suc b)) ≡ true =
-      subst (λ x. comesFirst (placed d o x) (placed d o (suc b)) ≡ true) e (all-tab (goesUp d o) (m - 1) 1 (λ a. a) (suc b) up (omega arith) (omega arith)) in
+      subst (λ x. comesFirst (placed d o x) (placed d o (suc b)) ≡ true) e
+      (all-tab (goesUp d o) (m - 1) 1 (λ a. a) (suc b) up (omega arith) (omega arith)) in
       elim (decLt a b) [
         | yes k ↦ first-then (placed d o a) (placed d o b) (placed d o (suc b)) (climbs a b k (omega arith)) step
         | no k ↦ subst (λ x. comesFirst (placed d o x) (placed d o (suc b)) ≡ true) (let z : b ≡ a = omega arith in z) step
@@ -157,16 +212,13 @@ module _ (d o p : List ℕ) (m : ℕ) (up : all (goesUp d o) (tab (m - 1) 1 (λ 
   unfolding hasPlace
   place-of i h = go (slotAt d i) refl (all-tab (hasPlace d o p m) 256 0 (λ i. i) i whole (omega arith) (omega arith))
     where
-      go : (x : Option (Lock ℕ)) → slotAt d i ≡ x → (not (isThere (slotAt d i)) || (ltb (getD p i 0) m && eqb (getD o (getD p i 0) 0) i)) ≡ true → (slotAt d i ≡ none) ⊎ Place i
+      go : (x : Option (Lock ℕ)) → slotAt d i ≡ x → (not (isThere (slotAt d i)) || (ltb (getD p i 0) m && eqb (getD o (getD p i 0) 0) i)) ≡ true
+          → (slotAt d i ≡ none) ⊎ Place i
       go none e t = inl e
       go (some l) e t =
           let u : (ltb (getD p i 0) m && eqb (getD o (getD p i 0) 0) i) ≡ true = rw e at t in
           let v = both (ltb (getD p i 0) m) (eqb (getD o (getD p i 0) 0) i) u in
           inr (record { at = getD p i 0; below = ltb-true (getD p i 0) m (v .0); is = eqb-true (getD o (getD p i 0) 0) i (v .1) })
-
-  free-second : (x : Option (Lock ℕ)) → slotTogether x none ≡ true
-  free-second none = refl
-  free-second (some k) = refl
 
   two : (i j : ℕ) → i < j → (slotAt d i ≡ none) ⊎ Place i → (slotAt d j ≡ none) ⊎ Place j → slotTogether (slotAt d i) (slotAt d j) ≡ true
   two i j l (inl e) b = ap (λ x. slotTogether x (slotAt d j)) e
@@ -195,3 +247,75 @@ module _ (d o p : List ℕ) (m : ℕ) (up : all (goesUp d o) (tab (m - 1) 1 (λ 
       go : (i : ℕ) → (slotAt d i ≡ none) ⊎ Place i → t (slotAt d i) ≡ true
       go i (inl e) = ap t e ∙ free
       go i (inr a) = ap (λ x. t (slotAt d x)) (sym (a .is)) ∙ h (a .at) (a .below)
+
+  pub place-some : (t : Option (Lock ℕ) → Bool) → t none ≡ false → (i : ℕ) → i < 256 → t (slotAt d i) ≡ true
+      → (a : ℕ) × (a < m) × (t (placed d o a) ≡ true)
+  place-some t free i h e = go (place-of i h)
+    where
+      go : (slotAt d i ≡ none) ⊎ Place i → (a : ℕ) × (a < m) × (t (placed d o a) ≡ true)
+      go (inl z) = absurd (false≢true (sym free ∙ sym (ap t z) ∙ e))
+      go (inr a) = (a .at, a .below, ap (λ x. t (slotAt d x)) (a .is) ∙ e)
+
+  pub names-up : (a b : ℕ) → a ≤ b → b < m → nameOf (placed d o a) ≤ nameOf (placed d o b)
+  names-up a b l h =
+      elim (decLt a b) [
+        | yes c ↦ first-names (placed d o a) (placed d o b) (climbs a b c h)
+        | no c ↦ (
+            let z : a ≡ b = omega arith in
+            let e : nameOf (placed d o a) ≡ nameOf (placed d o b) = ap (λ x. nameOf (placed d o x)) z in
+            omega arith
+            )
+      ]
+
+  pub each-there : begins d o m ≡ true → (a : ℕ) → a < m → isThere (placed d o a) ≡ true
+  unfolding begins goesUp
+  each-there f zero h =
+      ⊎-elim (λ e. absurd (let z = eqb-true m 0 e in omega arith)) (λ e. e) (either (eqb m 0) (isThere (placed d o 0)) f)
+  each-there f (suc a) h =
+      second-there (placed d o (suc a - 1)) (placed d o (suc a)) (all-tab (goesUp d o) (m - 1) 1 (λ a. a) (suc a) up (omega arith) (omega arith))
+
+-- ---- neighbours that do not go together
+names-turn : (x y : Name ℕ) → sameName book x y ≡ sameName book y x
+names-turn (on a) (on b) = eqb-turn a b
+names-turn (on a) end = refl
+names-turn end (on b) = refl
+names-turn end end = refl
+
+together-turn : (x y : Option (Lock ℕ)) → slotTogether x y ≡ slotTogether y x
+unfolding together
+together-turn none y = sym (free-second y)
+together-turn (some k) none = refl
+together-turn (some k) (some l) = rw (names-turn (k .name) (l .name), eqb-turn (k .holder) (l .holder), modes-turn (k .mode) (l .mode))
+
+pub clash-apart : (d o : List ℕ) (a : ℕ) → length d ≡ 4672 → clashes d o a ≡ true → pairs slotTogether (slotsOf d) ≡ false
+unfolding clashes slotsOf
+clash-apart d o a size h = fails (pairs slotTogether (tab 256 0 (slotAt d))) no-way
+  where
+    i : ℕ
+    i = getD o (a - 1) 0
+
+    j : ℕ
+    j = getD o a 0
+
+    w : (not (eqb i j) ≡ true) × (not (slotTogether (slotAt d i) (slotAt d j)) ≡ true)
+    w = both (not (eqb i j)) (not (slotTogether (slotAt d i) (slotAt d j))) h
+
+    bad : slotTogether (slotAt d i) (slotAt d j) ≡ false
+    bad = not-true (slotTogether (slotAt d i) (slotAt d j)) (w .1)
+
+    first : i < 256
+    first = slot-some (λ x. slotTogether x (slotAt d j)) false d i size true≢false bad
+
+    second : j < 256
+    second = slot-some (slotTogether (slotAt d i)) false d j size (λ e. true≢false (sym (free-second (slotAt d i)) ∙ e)) bad
+
+    no-way : pairs slotTogether (tab 256 0 (slotAt d)) ≡ true → ⊥
+    no-way t =
+        elim (decLt i j) [
+          | yes c ↦ true≢false (sym (pairs-in-tab slotTogether 256 0 (slotAt d) t i j (omega arith) c (omega (arith, second))) ∙ bad)
+          | no c ↦
+              let n = eqb-false i j (not-true (eqb i j) (w .0)) in
+              let l : j < i = omega (arith, n) in
+              let w = pairs-in-tab slotTogether 256 0 (slotAt d) t j i (omega arith) l (omega (arith, first)) in
+              true≢false (sym (together-turn (slotAt d i) (slotAt d j) ∙ w) ∙ bad)
+        ]

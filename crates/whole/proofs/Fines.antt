@@ -89,11 +89,11 @@ module _ (s : List ℕ) (q : ℕ) where
   fine-child (suc n) i k c f z e l g =
       let a = both (pageOk (suc n) (f .least) s (spanOf q (f .low) (f .high))) (all (treeOk n 15 s) (spans (f .low) (f .high) (childrenOf (pageAt s q)))) (f .ok) in
       let b = span-there (treeOk n 15 s) (f .high) (f .low) (childrenOf (pageAt s q)) (a .1) (childAt (pageAt s q) i) (tab-in (countOf (pageAt s q)) 0 (childAt (pageAt s q)) i (omega arith) (omega arith)) in
-      let w : Fine n s c = record { least = 15; low = b .0; high = b .1; one = lit≤ tt; size = f .size; ok = subst (λ x. treeOk n 15 s (spanOf x (b .0) (b .1)) ≡ true) (sym g) (b .2) } in
+      let w : Fine n s c = record { least = 15; low = b .0; high = b .1; one = lit≤ tt; bytes = f .bytes; size = f .size; ok = subst (λ x. treeOk n 15 s (spanOf x (b .0) (b .1)) ≡ true) (sym g) (b .2) } in
       let same : n ≡ suc n - 1 = omega arith in
       subst (λ m. Fine m s c) same w
 
-one-more : (n : ℕ) → (n ≡ 0 → ⊥) → n ≡ suc (n - 1)
+pub one-more : (n : ℕ) → (n ≡ 0 → ⊥) → n ≡ suc (n - 1)
 one-more n h = omega arith
 
 -- ---- owners

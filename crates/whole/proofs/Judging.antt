@@ -3,15 +3,15 @@
 use mathlib.Core.Path.{_≡_, refl, sym, ap, ap₂, subst, _∙_}
 use mathlib.Core.Logic.{⊎-elim}
 use mathlib.Core.Bool.{Bool, true, false, _&&_, _||_}
-use mathlib.Core.List.{List, [], _∷_, map}
+use mathlib.Core.List.{List, [], _∷_}
 use mathlib.Core.Option.{Option, none, some}
-use Prim.Native.Nat.{ℕ, zero, suc, _-_, _<_, compare}
+use Prim.Native.Nat.{ℕ, _-_, _<_, compare}
 use native.Mathlib.Omega.{arith}
 use borrow.Author.Tests.{eqb-true, lt-ltb}
 use lib.Dec.{eqb, ltb}
 use lib.ListN.{length, getD}
-use Rattle.lists.specs.Lists.{all, any, pairs, join, In}
-use Rattle.lists.proofs.Tests.{all-append, any-append, both, and-both, either, or-left, or-right}
+use Rattle.lists.specs.Lists.{all, any, pairs, In}
+use Rattle.lists.proofs.Tests.{both, and-both, either, or-left, or-right}
 use Rattle.lists.proofs.Elements.{all-in, in-all, any-in}
 use Rattle.numbers.specs.Numbers.{Bytes}
 use Rattle.rules.specs.Kinds.{Lock, Name, on, end, idle}
@@ -20,11 +20,10 @@ use Rattle.rules.specs.Good.{isX, ascending, isName, lockStands, together, hold
 use Rattle.rules.specs.Desk as D
 use Rattle.rules.specs.Document.{endMark}
 use Rattle.rules.proofs.Orders.{numbers-ordered}
-use Rattle.trees.specs.Trees.{Child, flat, under, inside}
+use Rattle.trees.specs.Trees.{flat, under, inside}
 use Rattle.trees.proofs.Sorted.{Sorted}
 use Rattle.trees.proofs.Order.{flat-sorted}
-use Rattle.pages.specs.Layout.{childrenOf, rootOf, heightOf}
-use Rattle.pages.specs.declared.Child as P
+use Rattle.pages.specs.Layout.{rootOf, heightOf}
 use Rattle.index.specs.Pictures.{Item, keyOf, pageAt, treeOf, indexOf, entriesIn}
 use Rattle.tables.specs.Layout.{nameIn, slotsOf, queueOf, marksOf}
 use Rattle.tables.proofs.Slots.{length-slots}
@@ -33,41 +32,15 @@ use Rattle.tables.proofs.Back.{name-there}
 use Rattle.whole_pages.specs.Walks.{pagesOk}
 use Rattle.whole_pages.proofs.Entries.{Rests}
 use Rattle.whole_pages.proofs.Leaves.{is-under}
-use Rattle.whole_pages.proofs.Trees.{kid}
 use Rattle.whole_pages.proofs.Pages.{PagesFacts, pages-sound, pages-complete}
 use Rattle.desks.specs.States.{book, stateOf, deskWith}
 use Rattle.desks.proofs.Itself.{itself-fits}
 use Rattle.whole.specs.Whole.{Whole, Judged}
-use Rattle.whole.specs.Checks.{slotTogether, slotHolds, entryHeld, hasKey, findAt, ownersAt, named, slotNamed, deskOk, locksOk, wholeOk}
-use Rattle.whole.proofs.Slots.{in-use, use-in}
-use Rattle.whole.proofs.Desks.{DeskGood, desk-sound, desk-complete}
-
--- ---- over the tree
-any-kids : (n : ℕ) (s : List ℕ) (k : ℕ) → ((q : ℕ) → findAt n s k q ≡ any (hasKey k) (flat ℕ Item n (treeOf n s q))) → (cs : List P.Child)
-    → any (λ c. findAt n s k (c .page)) cs ≡ any (hasKey k) (join (λ c. flat ℕ Item n (c .tree)) (map (kid n s) cs))
-unfolding any join
-any-kids n s k h [] = refl
-any-kids n s k h (c ∷ cs) =
-    ap₂ (λ x y. x || y) (h (c .page)) (any-kids n s k h cs)
-    ∙ sym (any-append (hasKey k) (flat ℕ Item n (treeOf n s (c .page))) (join (λ c. flat ℕ Item n (c .tree)) (map (kid n s) cs)))
-
-pub find-is : (n : ℕ) (s : List ℕ) (k q : ℕ) → findAt n s k q ≡ any (hasKey k) (flat ℕ Item n (treeOf n s q))
-unfolding findAt flat treeOf
-find-is zero s k q = refl
-find-is (suc n) s k q = any-kids n s k (find-is n s k) (childrenOf (pageAt s q))
-
-all-kids : (n : ℕ) (s d : List ℕ) → ((q : ℕ) → ownersAt n s d q ≡ all (entryHeld d) (flat ℕ Item n (treeOf n s q))) → (cs : List P.Child)
-    → all (λ c. ownersAt n s d (c .page)) cs ≡ all (entryHeld d) (join (λ c. flat ℕ Item n (c .tree)) (map (kid n s) cs))
-unfolding all join
-all-kids n s d h [] = refl
-all-kids n s d h (c ∷ cs) =
-    ap₂ (λ x y. x && y) (h (c .page)) (all-kids n s d h cs)
-    ∙ sym (all-append (entryHeld d) (flat ℕ Item n (treeOf n s (c .page))) (join (λ c. flat ℕ Item n (c .tree)) (map (kid n s) cs)))
-
-pub owners-is : (n : ℕ) (s d : List ℕ) (q : ℕ) → ownersAt n s d q ≡ all (entryHeld d) (flat ℕ Item n (treeOf n s q))
-unfolding ownersAt flat treeOf
-owners-is zero s d q = refl
-owners-is (suc n) s d q = all-kids n s d (owners-is n s d) (childrenOf (pageAt s q))
+use Rattle.whole.specs.Checks.{slotTogether, slotHolds, entryHeld, hasKey, ownersAt, named, slotNamed, locksOk, wholeOk}
+use Rattle.whole.proofs.Flats.{find-is, owners-is}
+use Rattle.whole_desk.specs.Checks.{deskOk}
+use Rattle.whole_desk.proofs.Slots.{in-use, use-in}
+use Rattle.whole_desk.proofs.Desks.{DeskGood, desk-sound, desk-complete}
 
 -- ---- over the slots in use
 all-use : (l : Lock ℕ) (ls : List (Option (Lock ℕ))) → all (together book l) (inUse ls) ≡ all (slotTogether (some l)) ls

@@ -1,13 +1,10 @@
-pub mod DeskTurns
-pub mod Slots
-pub mod Askers
-pub mod Records
-pub mod Desks
 pub mod LockTurns
 pub mod Fines
+pub mod Flats
 pub mod Ascending
+pub mod Walks
 pub mod Passing
-pub mod Free
+pub mod Verdicts
 pub mod Judging
 pub mod Tell
 pub mod Fresh

@@ -15,7 +15,7 @@ use Rattle.lists.proofs.Tests.{both}
 use Rattle.lists.proofs.Tables.{tab-next, tab-done, all-next, all-done, any-next, any-done}
 use Rattle.rules.specs.Kinds.{Lock, Entry, on, end}
 use Rattle.rules.specs.Document.{endMark}
-use Rattle.numbers.specs.Numbers.{numberAt, zeroAt}
+use Rattle.numbers.specs.Numbers.{Bytes, numberAt, zeroAt}
 use Rattle.whole_pages.specs.Walks.{spanOf, marks, treeOk, wentOk, frontOk, treeIn, pagesOk}
 use Rattle.whole_pages.proofs.Marks.{reached, walk-is}
 use Rattle.whole_pages.proofs.Pages.{guard-went, went-ok}
@@ -37,8 +37,8 @@ use Prim.Native.Nat.{compare}
 use Rattle.pages.specs.Layout.{countOf, entryAt, entriesOf, rootOf, usedOf, heightOf}
 use Rattle.index.specs.Pictures.{pageAt}
 use Rattle.whole_pages.proofs.Fronts.{lent-page}
-use Rattle.whole.specs.Checks.{slotTogether, slotHasX, slotHolds, entryHeld, hasKey, findAt, ownersAt, named, slotNamed, locksOk, wholeOk, deskOk, Fine}
-use Rattle.whole.specs.Orders.{Sure}
+use Rattle.whole_desk.specs.Checks.{deskOk}
+use Rattle.whole.specs.Checks.{slotTogether, slotHasX, slotHolds, entryHeld, hasKey, findAt, ownersAt, named, slotNamed, locksOk, wholeOk, Fine}
 
 -- ---- two slots
 module _ (a b : Sl.Slot) where
@@ -198,11 +198,11 @@ module _ (s d : List ℕ) (a : Bool) (e : a ≡ pagesOk s) where
     pub tall-pages : (h : ℕ) → h ≡ numberAt 2 s 20 → 1 ≤ h
     tall-pages h f = height-some s h f (front-parts s (pages-front s good-pages) .2)
 
-    pub fine-root : (r h : ℕ) → length s ≡ 32768 → r ≡ numberAt 2 s 16 → h ≡ numberAt 2 s 20 → Fine (h - 1) s r
-    fine-root r h size f g =
+    pub fine-root : (r h : ℕ) → Bytes s → length s ≡ 32768 → r ≡ numberAt 2 s 16 → h ≡ numberAt 2 s 20 → Fine (h - 1) s r
+    fine-root r h b size f g =
         let x : r ≡ rootOf (pageAt s 0) = f ∙ read-first s 16 (lit≤ tt) in
         let y : h ≡ heightOf (pageAt s 0) = g ∙ read-first s 20 (lit≤ tt) in
-        record { least = 2; low = 0; high = endMark; one = lit≤ tt; size = size; ok = subst (λ k. treeOk (k - 1) 2 s (spanOf r 0 endMark) ≡ true) (sym y) (subst (λ v. treeOk (heightOf (pageAt s 0) - 1) 2 s (spanOf v 0 endMark) ≡ true) (sym x) (pages-tree s good-pages)) }
+        record { least = 2; low = 0; high = endMark; one = lit≤ tt; bytes = b; size = size; ok = subst (λ k. treeOk (k - 1) 2 s (spanOf r 0 endMark) ≡ true) (sym y) (subst (λ v. treeOk (heightOf (pageAt s 0) - 1) 2 s (spanOf v 0 endMark) ≡ true) (sym x) (pages-tree s good-pages)) }
 
     module _ (b : Bool) (f : b ≡ deskOk d) where
       pub not-desk : not b ≡ true → false ≡ wholeOk s d
@@ -217,6 +217,3 @@ module _ (s d : List ℕ) (a : Bool) (e : a ≡ pagesOk s) where
           z
           ∙ ap₂ (λ k m. locksOk (k - 1) s d m) w u
           ∙ sym (ap₂ (λ x y. (x && y) && locksOk (heightOf (pageAt s 0) - 1) s d (rootOf (pageAt s 0))) good-pages (sym f ∙ not-false b v))
-
-      pub order-done : (r h : ℕ) (c : Bool) → not b ≡ false → r ≡ numberAt 2 s 16 → h ≡ numberAt 2 s 20 → Sure c (locksOk (h - 1) s d r) → c ≡ true → true ≡ wholeOk s d
-      order-done r h c v x y z t = whole-done r h true v x y (sym (z .yes t))

@@ -1,21 +1,22 @@
--- What the quick way through the locks finds: the slots in use put in an order, place by place, and the entries passed along it. It is not
--- for readers: ../proofs shows that where nothing is amiss the tests of Checks are passed. Assumes nothing.
-use Prim.Native.Nat.{ℕ, _-_, _≤_, _<_}
-use mathlib.Core.Path.{_≡_}
-use mathlib.Core.Bool.{Bool, true, false, not, _&&_, _||_}
-use mathlib.Core.List.{List}
+-- What the quick way through the locks looks at: the slots in use put in an order, place by place, and the walk over the entries along it.
+-- It is not for readers: ../proofs shows that it comes to the tests of Checks. Assumes nothing.
+use Prim.Native.Nat.{ℕ, _+_, _-_}
+use mathlib.Core.Bool.{Bool, false, cond, not, _&&_, _||_}
+use mathlib.Core.List.{List, [], _∷_}
 use mathlib.Core.Option.{Option, none, some}
 use lib.Dec.{eqb, ltb}
 use lib.ListN.{getD}
-use Rattle.rules.specs.Kinds.{Lock}
+use Rattle.lists.specs.Lists.{tab, any, place}
+use Rattle.rules.specs.Kinds.{Lock, Entry}
 use Rattle.rules.specs.Entries.{isThere}
 use Rattle.rules.specs.Locks.{conflict}
+use Rattle.rules.specs.Document.{endMark}
+use Rattle.trees.specs.Trees.{flat}
 use Rattle.tables.specs.Layout.{nameNumber, slotAt}
-use Rattle.pages.specs.Layout.{entryAt}
-use Rattle.index.specs.Pictures.{pageAt}
+use Rattle.index.specs.Pictures.{Item, treeOf}
 use Rattle.whole.specs.declared.Passage.{Passage}
-use Rattle.whole.specs.declared.Passage.the-variants.{To}
-use Rattle.whole.specs.Checks.{entryHeld, ownersAt, slotNamed}
+use Rattle.whole.specs.declared.Passage.the-variants.{To, Stuck}
+use Rattle.whole.specs.Checks.{slotTogether, slotHolds}
 
 -- the slot at a place of the order
 abbrev pub placed : List ℕ → List ℕ → ℕ → Option (Lock ℕ)
@@ -32,6 +33,14 @@ comesFirst (some k) (some l) =
 unfoldable pub goesUp : List ℕ → List ℕ → ℕ → Bool
 goesUp d o a = comesFirst (placed d o (a - 1)) (placed d o a)
 
+-- two neighbours that are different slots and do not go together
+unfoldable pub clashes : List ℕ → List ℕ → ℕ → Bool
+clashes d o a = not (eqb (getD o (a - 1) 0) (getD o a 0)) && not (slotTogether (placed d o (a - 1)) (placed d o a))
+
+-- the first of m places, if there is one, has a lock
+unfoldable pub begins : List ℕ → List ℕ → ℕ → Bool
+begins d o m = eqb m 0 || isThere (placed d o 0)
+
 -- a slot that is free, or stands among the first m of the order at the place that is noted for it
 unfoldable pub hasPlace : List ℕ → List ℕ → List ℕ → ℕ → ℕ → Bool
 hasPlace d o p m i = not (isThere (slotAt d i)) || (ltb (getD p i 0) m && eqb (getD o (getD p i 0) 0) i)
@@ -41,36 +50,31 @@ unfoldable pub slotOn : ℕ → Option (Lock ℕ) → Bool
 slotOn k none = false
 slotOn k (some l) = eqb (nameNumber (l .name)) k
 
--- the locks from place k to place j are on one name
-pub record Stretch (d o : List ℕ) (m x k j : ℕ) : Type 0 where
-  pub up : k ≤ j
-  pub most : j ≤ m
-  pub names : (a : ℕ) → k ≤ a → a < j → slotOn x (placed d o a) ≡ true
+abbrev pub after : Passage → (ℕ → Passage) → Passage
+after (To k) f = f k
+after Stuck f = Stuck
 
--- an entry passed: the locks from place k to place j are on it, and its owner, if it has one, holds X
-pub record EntryPassed (s d o : List ℕ) (m q i k j : ℕ) : Type 0 where
-  pub held : entryHeld d (entryAt (pageAt s q) i) ≡ true
-  pub locks : Stretch d o m (entryAt (pageAt s q) i .key) k j
+-- the walk along the m places of an order
+module _ (f : ℕ → Option (Lock ℕ)) (m : ℕ) where
+  -- the first place from k on with a lock on another name, or m
+  unfoldable pub stretch : ℕ → ℕ → ℕ
+  stretch x k = k + place (λ y. not (slotOn x y)) (tab (m - k) k f)
 
--- a tree passed: the locks from place k to place j are on entries of it, and the owners of its entries hold X
-pub record TreePassed (n : ℕ) (s d o : List ℕ) (m q k j : ℕ) : Type 0 where
-  pub up : k ≤ j
-  pub most : j ≤ m
-  pub owners : ownersAt n s d q ≡ true
-  pub names : (a : ℕ) → k ≤ a → a < j → slotNamed n s q (placed d o a) ≡ true
+  -- an entry: the locks on it are passed, and its owner, if it has one, is to hold X among them
+  unfoldable pub pastEntry : Entry ℕ ℕ → ℕ → Passage
+  pastEntry e k =
+      cond (eqb (e .owner) 0 || any (slotHolds (e .owner) (e .key)) (tab (stretch (e .key) k - k) k f)) (To (stretch (e .key) k)) Stuck
 
--- what is known where the walk has come to a place
-pub record PastEntry (s d o : List ℕ) (m q i k : ℕ) (r : Passage) : Type 0 where
-  pub to : (j : ℕ) → r ≡ To j → EntryPassed s d o m q i k j
+  -- the entries one after the other
+  unfoldable pub past : List (Entry ℕ ℕ) → ℕ → Passage
+  past [] k = To k
+  past (e ∷ es) k = after (pastEntry e k) (past es)
 
-pub record PastTree (n : ℕ) (s d o : List ℕ) (m q k : ℕ) (r : Passage) : Type 0 where
-  pub to : (j : ℕ) → r ≡ To j → TreePassed n s d o m q k j
+  -- behind them only locks on the end are left
+  abbrev pub ended : Passage → Bool
+  ended (To k) = eqb (stretch endMark k) m
+  ended Stuck = false
 
--- every lock is on an entry or the end, and the owners hold X
-pub record AllPassed (n : ℕ) (s d o : List ℕ) (m q : ℕ) (r : Bool) : Type 0 where
-  pub owners : r ≡ true → ownersAt n s d q ≡ true
-  pub names : r ≡ true → (a : ℕ) → a < m → slotNamed n s q (placed d o a) ≡ true
-
--- yes is sure; no says nothing
-pub record Sure (r b : Bool) : Type 0 where
-  pub yes : r ≡ true → b ≡ true
+-- the walk over the entries of a tree
+unfoldable pub walked : ℕ → List ℕ → List ℕ → List ℕ → ℕ → ℕ → Bool
+walked n s d o m q = ended (placed d o) m (past (placed d o) m (flat ℕ Item n (treeOf n s q)) 0)

@@ -1,5 +1,4 @@
 // Judging a picture: pages and desk. (Document 01, **Whole**.)
-pub mod desk;
 pub mod locks;
 pub mod merging;
 pub mod order;
@@ -21,6 +20,7 @@ pub enum Passage {
 
 // Whether the picture passes every test: the pages, the desk by itself, the locks.
 fn passes(pages: &[u8], desk: &[u8]) -> bool
+    requires { ⌜ Bytes (now pages) ⌝ }
     requires { ⌜ length (now pages) ≡ 32768 ⌝ }
     requires { ⌜ length (now desk) ≡ 4672 ⌝ }
     ensures { λ r. ⌜ r ≡ wholeOk (now (pages .entry)) (now (desk .entry)) ⌝ }
@@ -28,15 +28,12 @@ fn passes(pages: &[u8], desk: &[u8]) -> bool
     if !whole_pages::are_pages(pages) {
         return false;
     }
-    if !desk::is_desk(desk) {
+    if !whole_desk::is_desk(desk) {
         return false;
     }
     let root = numbers::number_at(pages, 16);
     let height = numbers::number_at(pages, 20);
-    if order::stand_in_order(pages, desk, height - 1, root) {
-        return true;
-    }
-    locks::are_locks(pages, desk, height - 1, root)
+    order::stand_in_order(pages, desk, height - 1, root)
 }
 
 // The first byte of a slice; what is learnt is that every element is a byte.

@@ -31,7 +31,7 @@ fn go_together(a: Slot, b: Slot) -> bool
 }
 
 // Whether slot i goes together with slot j.
-fn stand_together(d: &[u8], i: usize, j: usize) -> bool
+pub fn stand_together(d: &[u8], i: usize, j: usize) -> bool
     requires { ⌜ length (now d) ≡ 4672 ⌝ }
     requires { ⌜ i < 256 ⌝ }
     requires { ⌜ j < 256 ⌝ }
@@ -60,7 +60,7 @@ fn stands_with_later(d: &[u8], i: usize) -> bool
 }
 
 // Whether all locks go together: "compatible, one per holder and name".
-pub fn are_together(d: &[u8]) -> bool
+fn are_together(d: &[u8]) -> bool
     requires { ⌜ length (now d) ≡ 4672 ⌝ }
     ensures { λ r. ⌜ r ≡ pairs slotTogether (slotsOf (now (d .entry))) ⌝ }
 {

@@ -1,18 +1,20 @@
 // The quick way through the locks: they are put in order of name and holder, and one walk over the entries passes along it. Nothing is
-// promised of the order (`sorting`); so it is looked at first. Yes is sure; where anything is amiss, the plain tests tell (`locks`).
+// promised of the order (`sorting`); so it is looked at first. Where it is none, the plain tests tell (`locks`).
 ghost use mathlib.Core.Path.{_≡_};
 ghost use mathlib.Core.Bool.{true};
-ghost use Prim.Native.Nat.{_<_, _≤_, _+_, _-_};
+ghost use Prim.Native.Nat.{ℕ, _<_, _≤_, _+_, _-_};
+ghost use lib.Dec.{leb};
 ghost use lib.ListN.{length};
 ghost use Rattle.lists.specs.Lists.{tab, all, any};
 ghost use Rattle.numbers.specs.Numbers.{zeroAt};
-ghost use Rattle.pages.specs.Layout.{countOf};
-ghost use Rattle.index.specs.Pictures.{pageAt};
+ghost use Rattle.trees.specs.Trees.{flat};
+ghost use Rattle.pages.specs.Layout.{countOf, entryAt, entriesOf};
+ghost use Rattle.index.specs.Pictures.{Item, pageAt, treeOf};
 ghost use Rattle.tables.specs.Layout.{bookSlot};
 ghost use Rattle.whole.specs.Checks.{slotHolds, locksOk, Fine};
-ghost use Rattle.whole.specs.Orders.{placed, comesFirst, goesUp, hasPlace, slotOn, Stretch, PastEntry, PastTree, AllPassed, Sure};
+ghost use Rattle.whole.specs.Orders.{placed, comesFirst, goesUp, clashes, begins, hasPlace, slotOn, stretch, pastEntry, past, walked};
 use super::Passage;
-use super::locks::is_x_of;
+use super::locks;
 use super::sorting;
 use super::sorting::number_in;
 use entries::Key;
@@ -46,32 +48,47 @@ fn comes_first(a: Slot, b: Slot) -> bool
     (name.0 < later.0) | ((name.0 == later.0) & (k.holder < l.holder) & !mode.conflicts(other))
 }
 
-// Whether the slot at a place comes after the one before it.
-fn is_above(d: &[u8], order: &[u8], a: usize) -> bool
+// The first place, from 1 on, whose slot does not come after the one before it; m or more where the first m places go up.
+fn climb(d: &[u8], order: &[u8], m: usize) -> usize
+    requires { ⌜ length (now d) ≡ 4672 ⌝ }
+    requires { ⌜ length (now order) ≡ 256 ⌝ }
+    requires { ⌜ m ≤ 256 ⌝ }
+    ensures { λ r. ⌜ (1 ≤ r) × (leb m r ≡ all (goesUp (now (d .entry)) (now (order .entry))) (tab (m - 1) 1 (λ a. a))) ⌝ }
+{
+    let mut last = slot_in(d, order, 0);
+    let mut a: usize = 1;
+    while a < m {
+        let next = slot_in(d, order, a);
+        if !comes_first(last, next) {
+            return a;
+        }
+        last = next;
+        a += 1;
+    }
+    a
+}
+
+// Whether a place and the one before it have different slots that do not go together.
+fn is_clash(d: &[u8], order: &[u8], a: usize) -> bool
     requires { ⌜ length (now d) ≡ 4672 ⌝ }
     requires { ⌜ length (now order) ≡ 256 ⌝ }
     requires { ⌜ 1 ≤ a ⌝ }
     requires { ⌜ a < 256 ⌝ }
-    ensures { λ r. ⌜ r ≡ goesUp (now (d .entry)) (now (order .entry)) a ⌝ }
+    ensures { λ r. ⌜ r ≡ clashes (now (d .entry)) (now (order .entry)) a ⌝ }
 {
-    comes_first(slot_in(d, order, a - 1), slot_in(d, order, a))
+    let i = number_in(order, a - 1);
+    let j = number_in(order, a);
+    (i != j) & !locks::stand_together(d, i, j)
 }
 
-// Whether the first m places go up.
-fn is_ascending(d: &[u8], order: &[u8], m: usize) -> bool
+// Whether the first of m places, if there is one, has a lock.
+fn has_first(d: &[u8], order: &[u8], m: usize) -> bool
     requires { ⌜ length (now d) ≡ 4672 ⌝ }
     requires { ⌜ length (now order) ≡ 256 ⌝ }
-    requires { ⌜ m ≤ 256 ⌝ }
-    ensures { λ r. ⌜ r ≡ all (goesUp (now (d .entry)) (now (order .entry))) (tab (m - 1) 1 (λ a. a)) ⌝ }
+    ensures { λ r. ⌜ r ≡ begins (now (d .entry)) (now (order .entry)) m ⌝ }
 {
-    let mut a: usize = 1;
-    while a < m {
-        if !is_above(d, order, a) {
-            return false;
-        }
-        a += 1;
-    }
-    true
+    let first = slot_in(d, order, 0);
+    (m == 0) | !first.is_free()
 }
 
 // Whether slot i is free, or stands among the first m at the place that is noted for it.
@@ -132,7 +149,7 @@ fn pass_name(d: &[u8], order: &[u8], m: usize, k: usize, name: Key) -> usize
     requires { ⌜ length (now order) ≡ 256 ⌝ }
     requires { ⌜ m ≤ 256 ⌝ }
     requires { ⌜ k ≤ m ⌝ }
-    ensures { λ r. ⌜ Stretch (now (d .entry)) (now (order .entry)) m (name .0) k r ⌝ }
+    ensures { λ r. ⌜ r ≡ stretch (placed (now (d .entry)) (now (order .entry))) m (name .0) k ⌝ }
 {
     let mut j = k;
     while j < m {
@@ -151,7 +168,7 @@ fn is_x_at(d: &[u8], order: &[u8], a: usize, t: u16, key: Key) -> bool
     requires { ⌜ a < 256 ⌝ }
     ensures { λ r. ⌜ r ≡ slotHolds t (key .0) (placed (now (d .entry)) (now (order .entry)) a) ⌝ }
 {
-    is_x_of(d, number_in(order, a), t, key)
+    locks::is_x_of(d, number_in(order, a), t, key)
 }
 
 // Whether one of the locks from place k to place j is t's X on a key.
@@ -188,7 +205,7 @@ fn pass_entry(
     requires { ⌜ q < 64 ⌝ }
     requires { ⌜ i < 24 ⌝ }
     requires { ⌜ k ≤ m ⌝ }
-    ensures { λ r. ⌜ PastEntry (now (pages .entry)) (now (d .entry)) (now (order .entry)) m q i k r ⌝ }
+    ensures { λ r. ⌜ r ≡ pastEntry (placed (now (d .entry)) (now (order .entry))) m (entryAt (pageAt (now (pages .entry)) q) i) k ⌝ }
 {
     let a = 512 * q;
     let e = pages::leaf::entry_at(&pages[a..a + 512], i);
@@ -212,7 +229,7 @@ fn pass_leaf(pages: &[u8], d: &[u8], order: &[u8], m: usize, q: usize, k: usize)
     requires { ⌜ q < 64 ⌝ }
     requires { ⌜ countOf (pageAt (now pages) q) ≤ 24 ⌝ }
     requires { ⌜ k ≤ m ⌝ }
-    ensures { λ r. ⌜ PastTree 0 (now (pages .entry)) (now (d .entry)) (now (order .entry)) m q k r ⌝ }
+    ensures { λ r. ⌜ r ≡ past (placed (now (d .entry)) (now (order .entry))) m (entriesOf (pageAt (now (pages .entry)) q)) k ⌝ }
 {
     let n = whole_pages::count_at(pages, q);
     let mut at = k;
@@ -243,7 +260,7 @@ fn pass_tree(
     requires { ⌜ length (now order) ≡ 256 ⌝ }
     requires { ⌜ m ≤ 256 ⌝ }
     requires { ⌜ k ≤ m ⌝ }
-    ensures { λ r. ⌜ PastTree level (now (pages .entry)) (now (d .entry)) (now (order .entry)) m q k r ⌝ }
+    ensures { λ r. ⌜ r ≡ past (placed (now (d .entry)) (now (order .entry))) m (flat ℕ Item level (treeOf level (now (pages .entry)) q)) k ⌝ }
 {
     if level == 0 {
         return pass_leaf(pages, d, order, m, q, k);
@@ -269,7 +286,7 @@ fn pass_all(pages: &[u8], d: &[u8], order: &[u8], m: usize, level: usize, root: 
     requires { ⌜ length (now d) ≡ 4672 ⌝ }
     requires { ⌜ length (now order) ≡ 256 ⌝ }
     requires { ⌜ m ≤ 256 ⌝ }
-    ensures { λ r. ⌜ AllPassed level (now (pages .entry)) (now (d .entry)) (now (order .entry)) m root r ⌝ }
+    ensures { λ r. ⌜ r ≡ walked level (now (pages .entry)) (now (d .entry)) (now (order .entry)) m root ⌝ }
 {
     let passage = pass_tree(pages, d, order, m, level, root, 0);
     let Passage::To(j) = passage else {
@@ -278,18 +295,38 @@ fn pass_all(pages: &[u8], d: &[u8], order: &[u8], m: usize, level: usize, root: 
     pass_name(d, order, m, j, Key::end()) == m
 }
 
-// The same as `stand_in_order`, where some slot is in use.
+// The same as `stand_in_order`, where the order does not go up at a place: its locks clash, or it is no order.
+fn stand_apart(pages: &[u8], d: &[u8], order: &[u8], a: usize, level: usize, root: usize) -> bool
+    requires { ⌜ Fine level (now pages) root ⌝ }
+    requires { ⌜ length (now d) ≡ 4672 ⌝ }
+    requires { ⌜ length (now order) ≡ 256 ⌝ }
+    requires { ⌜ 1 ≤ a ⌝ }
+    requires { ⌜ a < 256 ⌝ }
+    ensures { λ r. ⌜ r ≡ locksOk level (now (pages .entry)) (now (d .entry)) root ⌝ }
+{
+    if is_clash(d, order, a) {
+        return false;
+    }
+    locks::are_locks(pages, d, level, root)
+}
+
+// The same where some slot is in use.
 fn stand_sorted(pages: &[u8], d: &[u8], level: usize, root: usize) -> bool
     requires { ⌜ Fine level (now pages) root ⌝ }
     requires { ⌜ length (now d) ≡ 4672 ⌝ }
-    ensures { λ r. ⌜ Sure r (locksOk level (now (pages .entry)) (now (d .entry)) root) ⌝ }
+    ensures { λ r. ⌜ r ≡ locksOk level (now (pages .entry)) (now (d .entry)) root ⌝ }
 {
     let mut order = [0u8; 256];
     let mut places = [0u8; 256];
     let m = sorting::put_in_order(d, &mut order, &mut places);
-    let up = is_ascending(d, &order, m);
-    let all = have_places(d, &order, &places, m);
-    up & all & pass_all(pages, d, &order, m, level, root)
+    let a = climb(d, &order, m);
+    if a < m {
+        return stand_apart(pages, d, &order, a, level, root);
+    }
+    if !(has_first(d, &order, m) & have_places(d, &order, &places, m)) {
+        return locks::are_locks(pages, d, level, root);
+    }
+    pass_all(pages, d, &order, m, level, root)
 }
 
 // The same where none is: only owners are left to look for.
@@ -297,17 +334,17 @@ fn stand_free(pages: &[u8], d: &[u8], level: usize, root: usize) -> bool
     requires { ⌜ Fine level (now pages) root ⌝ }
     requires { ⌜ length (now d) ≡ 4672 ⌝ }
     requires { ⌜ zeroAt 4096 576 (now d) ≡ true ⌝ }
-    ensures { λ r. ⌜ Sure r (locksOk level (now (pages .entry)) (now (d .entry)) root) ⌝ }
+    ensures { λ r. ⌜ r ≡ locksOk level (now (pages .entry)) (now (d .entry)) root ⌝ }
 {
     let order = [0u8; 256];
     pass_all(pages, d, &order, 0, level, root)
 }
 
-// Whether the locks stand in an order in which they are in order against one another and against the entries of the tree from its root down.
+// Whether the locks are in order against one another and against the entries of the tree from its root down.
 pub fn stand_in_order(pages: &[u8], d: &[u8], level: usize, root: usize) -> bool
     requires { ⌜ Fine level (now pages) root ⌝ }
     requires { ⌜ length (now d) ≡ 4672 ⌝ }
-    ensures { λ r. ⌜ Sure r (locksOk level (now (pages .entry)) (now (d .entry)) root) ⌝ }
+    ensures { λ r. ⌜ r ≡ locksOk level (now (pages .entry)) (now (d .entry)) root ⌝ }
 {
     if numbers::is_zero(d, 576, 4096) {
         return stand_free(pages, d, level, root);

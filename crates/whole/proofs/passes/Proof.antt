@@ -1,7 +1,7 @@
 -- `whole::passes` meets its contract: the tests are made in their order.
 -- Assumes nothing.
 use borrow.Author.Needs.{needs}
-use Rattle.whole.proofs.LockTurns.{not-pages, tall-pages, fine-root, not-desk, order-done, whole-done}
+use Rattle.whole.proofs.LockTurns.{not-pages, tall-pages, fine-root, not-desk, whole-done}
 use Rattle.whole.proofs.passes.Statement.{statement}
 use Rattle.whole.proofs.passes.Tie as tie
 
@@ -30,16 +30,7 @@ stand-in-order-requires : tie.Need-stand-in-order-requires
 stand-in-order-requires c κs = (search (needs, fine-root), search needs)
 
 returns-3 : tie.Need-returns-3
-returns-3 c = search (needs, order-done)
-
-sub-are-locks : tie.Need-sub-are-locks
-sub-are-locks c = search (needs, tall-pages)
-
-are-locks-requires : tie.Need-are-locks-requires
-are-locks-requires c κs = (search (needs, fine-root), search needs)
-
-returns-4 : tie.Need-returns-4
-returns-4 c = search (needs, whole-done)
+returns-3 c = search (needs, whole-done)
 
 pub passes-spec : {M : Type 1} → statement M
 passes-spec =
@@ -53,7 +44,4 @@ passes-spec =
     number-at-requires-2
     sub-stand-in-order
     stand-in-order-requires
-    returns-3
-    sub-are-locks
-    are-locks-requires
-    returns-4)
+    returns-3)

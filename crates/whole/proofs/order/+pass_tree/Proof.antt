@@ -1,9 +1,13 @@
--- `whole::order::pass_tree` meets its contract. Measure: the level. The invariant: the children before i are passed, from place k to where
--- the walk is. Assumes nothing.
+-- `whole::order::pass_tree` meets its contract. Measure: the level. The invariant: the walk over the entries is the one over those of the
+-- children from i on, from where it is. Assumes nothing.
 use borrow.Author.Needs.{needs}
+use mathlib.Core.Path.{_≡_}
 use Prim.Native.Nat.{_-_, _≤_}
+use Rattle.trees.specs.Trees.{flat}
+use Rattle.index.specs.Pictures.{Item, treeOf}
+use Rattle.whole.specs.Orders.{placed, past}
 use Rattle.whole.proofs.Fines.{fine-page, fine-leaf, fine-few, fine-child}
-use Rattle.whole.proofs.Passing.{TreePart, tree-leaf, tree-start, tree-most, tree-turn, tree-end, tree-stuck}
+use Rattle.whole.proofs.Passing.{entriesFrom, past-to-most, tree-leaf, tree-start, tree-stuck, tree-turn, tree-end}
 use Prim.Native.Nat.{ℕ, _<_}
 use borrow.Fn.Kinds.{In}
 use borrow.Fn.PlainCycle.{Measures, is, falls, and}
@@ -27,7 +31,12 @@ pass-tree-below t =
     and 3 pass-tree-kinds.ps (falls 3 pass-tree-kinds.ps _<_ μ-pass-tree t) pass-tree.Pre
 
 abbrev pass-tree-Inv-loop : pass-tree-lts.InvT-loop
-pass-tree-Inv-loop pages d order m level q k n at₀ i₀ at i = (q < 64) × ((n ≤ 30) × ((i ≤ n) × ((at ≤ m) × TreePart level pages d order m q k i at)))
+pass-tree-Inv-loop pages d order m level q k n at₀ i₀ at i =
+    (q < 64)
+    × ((n ≤ 30)
+    × ((i ≤ n)
+    × ((at ≤ m)
+    × (past (placed d order) m (flat ℕ Item level (treeOf level pages q)) k ≡ past (placed d order) m (entriesFrom (level - 1) pages q n i) at))))
 
 abbrev pass-tree-μ-loop : pass-tree-lts.MeasureT-loop
 pass-tree-μ-loop pages d order m level q k n at₀ i₀ at i = n - i
@@ -42,7 +51,8 @@ pass-tree-pass-leaf-requires : (t : ℕ) → pass-tree-lts.Need-pass-leaf-requir
   pass-tree-below t,
   pass-tree.Post,
 ) (pass-tree-at t) pass-tree.Post pass-tree-Inv-loop pass-tree-μ-loop
-pass-tree-pass-leaf-requires t c κs = (search needs, (search needs, (search needs, (search needs, (search (needs, fine-page), (search (needs, fine-leaf), search needs))))))
+pass-tree-pass-leaf-requires t c κs =
+    (search needs, (search needs, (search needs, (search needs, (search (needs, fine-page), (search (needs, fine-leaf), search needs))))))
 
 pass-tree-returns : (t : ℕ) → pass-tree-lts.Need-returns (
   pass-leaf-reads.Asked,
@@ -186,7 +196,7 @@ pass-tree-loop-again : (t : ℕ) → pass-tree-lts.Need-loop-again (
   pass-tree-below t,
   pass-tree.Post,
 ) (pass-tree-at t) pass-tree.Post pass-tree-Inv-loop pass-tree-μ-loop
-pass-tree-loop-again t c = (search needs, (search needs, (search needs, (search (needs, tree-most), search (needs, tree-turn)))))
+pass-tree-loop-again t c = (search needs, (search needs, (search needs, (search (needs, past-to-most), search (needs, tree-turn)))))
 
 pass-tree-returns-3 : (t : ℕ) → pass-tree-lts.Need-returns-3 (
   pass-leaf-reads.Asked,

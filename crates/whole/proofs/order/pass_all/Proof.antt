@@ -1,7 +1,7 @@
 -- `whole::order::pass_all` meets its contract: the tree is passed, and then the locks on the end.
 -- Assumes nothing.
 use borrow.Author.Needs.{needs}
-use Rattle.whole.proofs.Passing.{none-passed, root-most, all-passed}
+use Rattle.whole.proofs.Passing.{past-to-most, all-stuck, all-walked}
 use Rattle.whole.proofs.order.pass_all.Statement.{statement}
 use Rattle.whole.proofs.order.pass_all.Tie as tie
 
@@ -15,16 +15,16 @@ enum-told : tie.Need-enum-told
 enum-told c = search needs
 
 returns : tie.Need-returns
-returns c = search (needs, none-passed)
+returns c = search (needs, all-stuck)
 
 end-requires : tie.Need-end-requires
 end-requires c κs = search needs
 
 pass-name-requires : tie.Need-pass-name-requires
-pass-name-requires c κs = (search needs, (search needs, (search needs, search (needs, root-most))))
+pass-name-requires c κs = (search needs, (search needs, (search needs, search (needs, past-to-most))))
 
 returns-2 : tie.Need-returns-2
-returns-2 c = search (needs, all-passed)
+returns-2 c = search (needs, all-walked)
 
 pub pass-all-spec : {M : Type 1} → statement M
 pass-all-spec =

@@ -1,7 +1,7 @@
 -- `whole::order::pass_entry` meets its contract in its three ways: no owner, an owner that holds X, one that doesn't.
 -- Assumes nothing.
 use borrow.Author.Needs.{needs}
-use Rattle.whole.proofs.Passing.{entry-settled, entry-owned, entry-stuck}
+use Rattle.whole.proofs.Passing.{stretch-few, entry-settled, entry-owned, entry-stuck}
 use Rattle.whole.proofs.order.pass_entry.Statement.{statement}
 use Rattle.whole.proofs.order.pass_entry.Tie as tie
 
@@ -30,7 +30,7 @@ returns : tie.Need-returns
 returns c = search (needs, entry-settled)
 
 holds-x-among-requires : tie.Need-holds-x-among-requires
-holds-x-among-requires c κs = search needs
+holds-x-among-requires c κs = (search needs, (search needs, search (needs, stretch-few)))
 
 returns-2 : tie.Need-returns-2
 returns-2 c = search (needs, entry-owned)

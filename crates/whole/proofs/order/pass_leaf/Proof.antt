@@ -1,15 +1,24 @@
--- `whole::order::pass_leaf` meets its contract. The invariant: the entries before i are passed, from place k to where the walk is.
+-- `whole::order::pass_leaf` meets its contract. The invariant: the walk over the entries is the one from i on, from where it is.
 -- The measure is the number of entries left.
 -- Assumes nothing.
 use borrow.Author.Needs.{needs}
+use mathlib.Core.Path.{_≡_}
 use Prim.Native.Nat.{_-_, _≤_}
+use Rattle.lists.specs.Lists.{tab}
+use Rattle.pages.specs.Layout.{entryAt, entriesOf}
+use Rattle.index.specs.Pictures.{pageAt}
+use Rattle.whole.specs.Orders.{placed, past}
 use Rattle.whole.proofs.LockTurns.{count-few}
-use Rattle.whole.proofs.Passing.{LeafPart, leaf-start, entry-most, leaf-turn, leaf-end, tree-stuck}
+use Rattle.whole.proofs.Passing.{leaf-start, entry-to-most, leaf-stuck, leaf-turn, leaf-end}
 use Rattle.whole.proofs.order.pass_leaf.Statement.{statement}
 use Rattle.whole.proofs.order.pass_leaf.Tie as tie
 
 abbrev Inv-loop : tie.InvT-loop
-Inv-loop pages d order m q k n at₀ i₀ at i = (n ≤ 24) × ((i ≤ n) × ((at ≤ m) × LeafPart pages d order m q k i at))
+Inv-loop pages d order m q k n at₀ i₀ at i =
+    (n ≤ 24)
+    × ((i ≤ n)
+    × ((at ≤ m)
+    × (past (placed d order) m (entriesOf (pageAt pages q)) k ≡ past (placed d order) m (tab (n - i) i (entryAt (pageAt pages q))) at)))
 
 abbrev μ-loop : tie.MeasureT-loop
 μ-loop pages d order m q k n at₀ i₀ at i = n - i
@@ -30,7 +39,7 @@ enum-told : tie.Need-enum-told Inv-loop μ-loop
 enum-told c = search needs
 
 returns : tie.Need-returns Inv-loop μ-loop
-returns c = search (needs, tree-stuck)
+returns c = search (needs, leaf-stuck)
 
 add-i : tie.Need-add-i Inv-loop μ-loop
 add-i c = search needs
@@ -39,7 +48,7 @@ loop-less : tie.Need-loop-less Inv-loop μ-loop
 loop-less c = search needs
 
 loop-again : tie.Need-loop-again Inv-loop μ-loop
-loop-again c = (search needs, (search needs, (search (needs, entry-most), search (needs, leaf-turn))))
+loop-again c = (search needs, (search needs, (search (needs, entry-to-most), search (needs, leaf-turn))))
 
 returns-2 : tie.Need-returns-2 Inv-loop μ-loop
 returns-2 c = search (needs, leaf-end)

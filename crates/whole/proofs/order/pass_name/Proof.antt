@@ -1,27 +1,28 @@
--- `whole::order::pass_name` meets its contract. The invariant: the locks from k to j are on the name.
+-- `whole::order::pass_name` meets its contract. The invariant: the stretch from k is the one from j.
 -- The measure is the number of places left.
 -- Assumes nothing.
 use borrow.Author.Needs.{needs}
+use mathlib.Core.Path.{_≡_}
 use Prim.Native.Nat.{_-_, _≤_}
-use Rattle.whole.specs.Orders.{Stretch}
-use Rattle.whole.proofs.Passing.{stretch-start, stretch-more}
+use Rattle.whole.specs.Orders.{placed, stretch}
+use Rattle.whole.proofs.Passing.{name-other, name-more, name-end}
 use Rattle.whole.proofs.order.pass_name.Statement.{statement}
 use Rattle.whole.proofs.order.pass_name.Tie as tie
 
 abbrev Inv-loop : tie.InvT-loop
-Inv-loop d order m k name j₀ j = (j ≤ m) × Stretch d order m (name .0) k j
+Inv-loop d order m k name j₀ j = (j ≤ m) × (stretch (placed d order) m (name .0) k ≡ stretch (placed d order) m (name .0) j)
 
 abbrev μ-loop : tie.MeasureT-loop
 μ-loop d order m k name j₀ j = m - j
 
 loop-holds : tie.Need-loop-holds Inv-loop μ-loop
-loop-holds c = (search needs, search (needs, stretch-start))
+loop-holds c = search needs
 
 is-on-at-requires : tie.Need-is-on-at-requires Inv-loop μ-loop
 is-on-at-requires c κs = search needs
 
 returns : tie.Need-returns Inv-loop μ-loop
-returns c = search needs
+returns c = search (needs, name-other)
 
 add-j : tie.Need-add-j Inv-loop μ-loop
 add-j c = search needs
@@ -30,10 +31,10 @@ loop-less : tie.Need-loop-less Inv-loop μ-loop
 loop-less c = search needs
 
 loop-again : tie.Need-loop-again Inv-loop μ-loop
-loop-again c = (search needs, search (needs, stretch-more))
+loop-again c = (search needs, search (needs, name-more))
 
 returns-2 : tie.Need-returns-2 Inv-loop μ-loop
-returns-2 c = search needs
+returns-2 c = search (needs, name-end)
 
 pub pass-name-spec : {M : Type 1} → statement M
 pass-name-spec =

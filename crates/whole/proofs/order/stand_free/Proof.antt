@@ -1,7 +1,7 @@
 -- `whole::order::stand_free` meets its contract: the order of no locks is one, whatever the array holds.
 -- Assumes nothing.
 use borrow.Author.Needs.{needs}
-use Rattle.whole.proofs.Free.{free-stands}
+use Rattle.whole.proofs.Verdicts.{free-done}
 use Rattle.whole.proofs.order.stand_free.Statement.{statement}
 use Rattle.whole.proofs.order.stand_free.Tie as tie
 
@@ -12,7 +12,7 @@ pass-all-requires : tie.Need-pass-all-requires
 pass-all-requires c κs = search needs
 
 returns : tie.Need-returns
-returns c = search (needs, free-stands)
+returns c = search (needs, free-done)
 
 pub stand-free-spec : {M : Type 1} → statement M
 stand-free-spec = tie.close (tie.spec slice-aggregate-pass-all pass-all-requires returns)

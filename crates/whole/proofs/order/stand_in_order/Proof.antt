@@ -1,7 +1,7 @@
--- `whole::order::stand_in_order` meets its contract: each way is sure of its yes.
+-- `whole::order::stand_in_order` meets its contract: each way is exact.
 -- Assumes nothing.
 use borrow.Author.Needs.{needs}
-use Rattle.whole.proofs.Free.{is-free}
+use Rattle.whole_desk.proofs.Free.{is-free}
 use Rattle.whole.proofs.order.stand_in_order.Statement.{statement}
 use Rattle.whole.proofs.order.stand_in_order.Tie as tie
 

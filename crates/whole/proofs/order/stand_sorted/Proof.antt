@@ -1,7 +1,7 @@
 -- `whole::order::stand_sorted` meets its contract: whatever the order, it is looked at.
 -- Assumes nothing.
 use borrow.Author.Needs.{needs}
-use Rattle.whole.proofs.Passing.{in-order}
+use Rattle.whole.proofs.Verdicts.{sorted-done}
 use Rattle.whole.proofs.order.stand_sorted.Statement.{statement}
 use Rattle.whole.proofs.order.stand_sorted.Tie as tie
 
@@ -14,11 +14,26 @@ slice-aggregate-put-in-order-2 c = search needs
 put-in-order-requires : tie.Need-put-in-order-requires
 put-in-order-requires c κs = search needs
 
-slice-aggregate-is-ascending : tie.Need-slice-aggregate-is-ascending
-slice-aggregate-is-ascending c = search needs
+slice-aggregate-climb : tie.Need-slice-aggregate-climb
+slice-aggregate-climb c = search needs
 
-is-ascending-requires : tie.Need-is-ascending-requires
-is-ascending-requires c κs = search needs
+climb-requires : tie.Need-climb-requires
+climb-requires c κs = search needs
+
+slice-aggregate-stand-apart : tie.Need-slice-aggregate-stand-apart
+slice-aggregate-stand-apart c = search needs
+
+stand-apart-requires : tie.Need-stand-apart-requires
+stand-apart-requires c κs = (search needs, (search needs, (search needs, (search needs, search needs))))
+
+returns : tie.Need-returns
+returns c = search needs
+
+slice-aggregate-has-first : tie.Need-slice-aggregate-has-first
+slice-aggregate-has-first c = search needs
+
+has-first-requires : tie.Need-has-first-requires
+has-first-requires c κs = search needs
 
 slice-aggregate-have-places : tie.Need-slice-aggregate-have-places
 slice-aggregate-have-places c = search needs
@@ -29,14 +44,20 @@ slice-aggregate-have-places-2 c = search needs
 have-places-requires : tie.Need-have-places-requires
 have-places-requires c κs = search needs
 
+are-locks-requires : tie.Need-are-locks-requires
+are-locks-requires c κs = search needs
+
+returns-2 : tie.Need-returns-2
+returns-2 c = search needs
+
 slice-aggregate-pass-all : tie.Need-slice-aggregate-pass-all
 slice-aggregate-pass-all c = search needs
 
 pass-all-requires : tie.Need-pass-all-requires
 pass-all-requires c κs = search needs
 
-returns : tie.Need-returns
-returns c = search (needs, in-order)
+returns-3 : tie.Need-returns-3
+returns-3 c = search (needs, sorted-done)
 
 pub stand-sorted-spec : {M : Type 1} → statement M
 stand-sorted-spec =
@@ -45,11 +66,18 @@ stand-sorted-spec =
     slice-aggregate-put-in-order
     slice-aggregate-put-in-order-2
     put-in-order-requires
-    slice-aggregate-is-ascending
-    is-ascending-requires
+    slice-aggregate-climb
+    climb-requires
+    slice-aggregate-stand-apart
+    stand-apart-requires
+    returns
+    slice-aggregate-has-first
+    has-first-requires
     slice-aggregate-have-places
     slice-aggregate-have-places-2
     have-places-requires
+    are-locks-requires
+    returns-2
     slice-aggregate-pass-all
     pass-all-requires
-    returns)
+    returns-3)

@@ -1,0 +1,136 @@
+-- What one way through the tests of the desk comes to, in the very facts that the code has there.
+-- Each unfolds the test and rewrites what is known of its parts. Assumes nothing.
+use mathlib.Core.Path.{_≡_, refl, sym, ap, ap₂, _∙_}
+use mathlib.Core.Bool.{Bool, true, false, not, cond, _&&_, _||_}
+use mathlib.Core.List.{List}
+use Prim.Native.Nat.{ℕ, _+_, _*_, _-_, _≤_, _<_}
+use native.Mathlib.Nat.{sub-zero}
+use native.Mathlib.Omega.{arith}
+use borrow.Author.Tests.{leb-true, not-true, not-false, eq-eqb, ne-eqb, le-leb, lt-leb}
+use lib.Dec.{eqb, leb}
+use lib.ListN.{length}
+use Rattle.lists.specs.Lists.{tab, all}
+use Rattle.lists.proofs.Tests.{and-left, and-right}
+use Rattle.lists.proofs.Tables.{tab-next, tab-done, all-next, all-done}
+use Rattle.numbers.specs.Numbers.{numberAt, fieldsAt, zeroAt}
+use Rattle.tables.specs.Layout.{queued, inPlace, isRunning}
+use Rattle.whole_pages.specs.declared.Trail.{Trail}
+use Rattle.whole_pages.specs.declared.Trail.the-variants.{Went, Bad}
+use Rattle.whole_pages.specs.Walks.{markAt, marks, after}
+use Rattle.whole_desk.specs.Checks.{headOk, askersIn, recordOk, recordsOk, fieldsOk, slotOk, deskOk}
+
+-- ---- the head
+module _ (d : List ℕ) (size kind n : ℕ) (z : Bool) (e : size ≡ numberAt 2 d 0) (f : kind ≡ numberAt 2 d 2) (g : n ≡ numberAt 2 d 4) (h : z ≡ zeroAt 26 6 d) where
+  front-is : (((eqb size 4672 && eqb kind 8) && leb n 16) && z) ≡ (((eqb (numberAt 2 d 0) 4672 && eqb (numberAt 2 d 2) 8) && leb (queued d) 16) && zeroAt 26 6 d)
+  front-is = rw (e, f, g, h) refl
+
+  pub head-bad : not (((eqb size 4672 && eqb kind 8) && leb n 16) && z) ≡ true → false ≡ headOk d
+  unfolding headOk
+  head-bad t =
+      sym (ap (λ b. b && zeroAt (32 - 2 * queued d) (32 + 2 * queued d) d) (sym front-is ∙ not-true (((eqb size 4672 && eqb kind 8) && leb n 16) && z) t))
+
+  module _ (t : not (((eqb size 4672 && eqb kind 8) && leb n 16) && z) ≡ false) where
+    head-few : n ≤ 16
+    head-few =
+        leb-true n 16 (and-right (eqb size 4672 && eqb kind 8) (leb n 16) (and-left ((eqb size 4672 && eqb kind 8) && leb n 16) z (not-false (((eqb size 4672 && eqb kind 8) && leb n 16) && z) t)))
+
+    pub head-room : 2 * n ≤ 32
+    head-room = let l = head-few in omega arith
+
+    pub head-end : length d ≡ 4672 → 32 + 2 * n + (32 - 2 * n) ≤ length d
+    head-end l = let m = head-few in omega arith
+
+    pub head-done : (y : Bool) → y ≡ zeroAt (32 - 2 * n) (32 + 2 * n) d → y ≡ headOk d
+    unfolding headOk
+    head-done y k =
+        k
+        ∙ ap (λ x. zeroAt (32 - 2 * x) (32 + 2 * x) d) g
+        ∙ sym (ap (λ b. b && zeroAt (32 - 2 * queued d) (32 + 2 * queued d) d) (sym front-is ∙ not-false (((eqb size 4672 && eqb kind 8) && leb n 16) && z) t))
+
+pub head-queue : (d : List ℕ) → headOk d ≡ true → queued d ≤ 16
+unfolding headOk
+head-queue d h =
+    leb-true (queued d) 16 (and-right (eqb (numberAt 2 d 0) 4672 && eqb (numberAt 2 d 2) 8) (leb (queued d) 16)
+    (and-left ((eqb (numberAt 2 d 0) 4672 && eqb (numberAt 2 d 2) 8) && leb (queued d) 16) (zeroAt 26 6 d)
+    (and-left (((eqb (numberAt 2 d 0) 4672 && eqb (numberAt 2 d 2) 8) && leb (queued d) 16) && zeroAt 26 6 d) (zeroAt (32 - 2 * queued d) (32 + 2 * queued d) d) h)))
+
+-- ---- the askers
+module _ (d : List ℕ) (n : ℕ) (c : n ≡ numberAt 2 d 4) where
+  pub askers-few : queued d ≤ 16 → n ≤ 16
+  askers-few h = omega arith
+
+  pub askers-start : askersIn d ≡ marks 17 (tab (n - 0) 0 (inPlace d)) 1
+  unfolding askersIn
+  askers-start = ap (λ k. marks 17 (tab k 0 (inPlace d)) 1) (sym c ∙ sym (sub-zero n))
+
+  module _ (m i t : ℕ) (w : Trail) (inv : askersIn d ≡ marks 17 (tab (n - i) i (inPlace d)) m) (l : i < n) (e : t ≡ numberAt 2 d (32 + 2 * i)) (f : w ≡ markAt 17 m t) where
+    step : askersIn d ≡ after w (marks 17 (tab (n - (i + 1)) (i + 1) (inPlace d)))
+    unfolding marks
+    step =
+        inv
+        ∙ ap (λ ts. marks 17 ts m) (tab-next n i (inPlace d) l)
+        ∙ ap (λ x. after x (marks 17 (tab (n - (i + 1)) (i + 1) (inPlace d)))) (ap (markAt 17 m) (sym e) ∙ sym f)
+
+    pub askers-twice : w ≡ Bad → Bad ≡ askersIn d
+    askers-twice b = sym (step ∙ ap (λ x. after x (marks 17 (tab (n - (i + 1)) (i + 1) (inPlace d)))) b)
+
+    pub askers-next : (more : ℕ) → w ≡ Went more → askersIn d ≡ marks 17 (tab (n - (i + 1)) (i + 1) (inPlace d)) more
+    askers-next more b = step ∙ ap (λ x. after x (marks 17 (tab (n - (i + 1)) (i + 1) (inPlace d)))) b
+
+  pub askers-end : (m i : ℕ) → askersIn d ≡ marks 17 (tab (n - i) i (inPlace d)) m → n ≤ i → Went m ≡ askersIn d
+  unfolding marks
+  askers-end m i inv l = sym (inv ∙ ap (λ ts. marks 17 ts m) (tab-done n i (inPlace d) l))
+
+-- ---- a test of each place, from one on
+module _ (p : ℕ → Bool) (whole : Bool) (n i : ℕ) (inv : whole ≡ all p (tab (n - i) i (λ k. k))) where
+  pub each-bad : (b : Bool) → i < n → b ≡ p i → not b ≡ true → false ≡ whole
+  each-bad b l e t = sym (inv ∙ all-next p n i (λ k. k) l ∙ ap (λ x. x && all p (tab (n - (i + 1)) (i + 1) (λ k. k))) (sym e ∙ not-true b t))
+
+  pub each-next : (b : Bool) → i < n → b ≡ p i → not b ≡ false → whole ≡ all p (tab (n - (i + 1)) (i + 1) (λ k. k))
+  each-next b l e t = inv ∙ all-next p n i (λ k. k) l ∙ ap (λ x. x && all p (tab (n - (i + 1)) (i + 1) (λ k. k))) (sym e ∙ not-false b t)
+
+  pub each-end : n ≤ i → true ≡ whole
+  each-end l = sym (inv ∙ all-done p n i (λ k. k) l)
+
+-- ---- a slot
+module _ (d : List ℕ) (i name holder mode rest : ℕ) (a : name ≡ numberAt 8 d (576 + 16 * i)) (b : holder ≡ numberAt 2 d (576 + 16 * i + 8))
+    (c : mode ≡ numberAt 2 d (576 + 16 * i + 8 + 2)) (e : rest ≡ numberAt 4 d (576 + 16 * i + 8 + 2 + 2)) where
+  slot-is : slotOk d i ≡ fieldsOk d name holder mode rest
+  unfolding slotOk fieldsAt
+  slot-is = rw (a, b, c, e) refl
+
+  pub slot-free : holder ≡ 0 → ((eqb name 0 && eqb mode 0) && eqb rest 0) ≡ slotOk d i
+  slot-free z =
+      sym (slot-is ∙ ap (λ x. cond x ((eqb name 0 && eqb mode 0) && eqb rest 0) (leb holder 16 && ((isRunning d holder && (eqb mode 1 || eqb mode 2)) && eqb rest 0))) (eq-eqb holder 0 z))
+
+  module _ (z : holder ≡ 0 → ⊥) where
+    held : slotOk d i ≡ (leb holder 16 && ((isRunning d holder && (eqb mode 1 || eqb mode 2)) && eqb rest 0))
+    held = slot-is ∙ ap (λ x. cond x ((eqb name 0 && eqb mode 0) && eqb rest 0) (leb holder 16 && ((isRunning d holder && (eqb mode 1 || eqb mode 2)) && eqb rest 0))) (ne-eqb holder 0 z)
+
+    pub slot-nobody : 16 < holder → false ≡ slotOk d i
+    slot-nobody h = sym (held ∙ ap (λ x. x && ((isRunning d holder && (eqb mode 1 || eqb mode 2)) && eqb rest 0)) (lt-leb holder 16 h))
+
+    pub slot-held : (r : Bool) → holder ≤ 16 → r ≡ isRunning d holder → ((r && (eqb mode 1 || eqb mode 2)) && eqb rest 0) ≡ slotOk d i
+    slot-held r h f =
+        sym (held ∙ ap₂ (λ x y. x && ((y && (eqb mode 1 || eqb mode 2)) && eqb rest 0)) (le-leb holder 16 h) (sym f))
+
+-- ---- the desk
+module _ (d : List ℕ) (h : Bool) (e : h ≡ headOk d) where
+  pub desk-headless : not h ≡ true → false ≡ deskOk d
+  unfolding deskOk
+  desk-headless t = sym (ap (λ b. (b && recordsOk d (askersIn d)) && all (slotOk d) (tab 256 0 (λ i. i))) (sym e ∙ not-true h t))
+
+  module _ (t : not h ≡ false) where
+    pub desk-few : queued d ≤ 16
+    desk-few = head-queue d (sym e ∙ not-false h t)
+
+    module _ (w : Trail) (f : w ≡ askersIn d) where
+      pub desk-lost : w ≡ Bad → false ≡ deskOk d
+      unfolding deskOk
+      desk-lost b = sym (ap₂ (λ x y. (x && recordsOk d y) && all (slotOk d) (tab 256 0 (λ i. i))) (sym e ∙ not-false h t) (sym f ∙ b))
+
+      pub desk-done : (m : ℕ) (r s : Bool) → w ≡ Went m → r ≡ all (recordOk d m) (tab 16 1 (λ t. t)) → s ≡ all (slotOk d) (tab 256 0 (λ i. i)) → (r && s) ≡ deskOk d
+      unfolding deskOk
+      desk-done m r s b a c =
+          ap₂ (λ x y. x && y) a c
+          ∙ sym (ap₂ (λ x y. (x && recordsOk d y) && all (slotOk d) (tab 256 0 (λ i. i))) (sym e ∙ not-false h t) (sym f ∙ b))

@@ -1,0 +1,51 @@
+-- `whole_desk::are_records` meets its contract. The invariant: the test of all records is the test of those from t on.
+-- The measure is the number of records left. Assumes nothing.
+use borrow.Author.Needs.{needs}
+use mathlib.Core.Path.{_≡_}
+use Prim.Native.Nat.{_-_, _≤_}
+use Rattle.lists.specs.Lists.{tab, all}
+use Rattle.whole_desk.specs.Checks.{recordOk}
+use Rattle.whole_desk.proofs.DeskTurns.{each-bad, each-next, each-end}
+use Rattle.whole_desk.proofs.are_records.Statement.{statement}
+use Rattle.whole_desk.proofs.are_records.Tie as tie
+
+abbrev Inv-loop : tie.InvT-loop
+Inv-loop d seen t₀ t = (1 ≤ t) × ((t ≤ 17) × (all (recordOk d seen) (tab 16 1 (λ k. k)) ≡ all (recordOk d seen) (tab (17 - t) t (λ k. k))))
+
+abbrev μ-loop : tie.MeasureT-loop
+μ-loop d seen t₀ t = 17 - t
+
+loop-holds : tie.Need-loop-holds Inv-loop μ-loop
+loop-holds c = search needs
+
+is-record-requires : tie.Need-is-record-requires Inv-loop μ-loop
+is-record-requires c κs = search needs
+
+returns : tie.Need-returns Inv-loop μ-loop
+returns c = search (needs, each-bad)
+
+add-t : tie.Need-add-t Inv-loop μ-loop
+add-t c = search needs
+
+loop-less : tie.Need-loop-less Inv-loop μ-loop
+loop-less c = search needs
+
+loop-again : tie.Need-loop-again Inv-loop μ-loop
+loop-again c = (search needs, (search needs, search (needs, each-next)))
+
+returns-2 : tie.Need-returns-2 Inv-loop μ-loop
+returns-2 c = search (needs, each-end)
+
+pub are-records-spec : {M : Type 1} → statement M
+are-records-spec =
+    tie.close
+    (tie.spec
+    Inv-loop
+    μ-loop
+    loop-holds
+    is-record-requires
+    returns
+    add-t
+    loop-less
+    loop-again
+    returns-2)

@@ -1,0 +1,59 @@
+-- The tests that the code makes of the desk's bytes, in the order in which it makes them. They are not for readers: what they come to is
+-- shown in ../proofs. Assumes nothing.
+use Prim.Native.Nat.{ℕ, _+_, _*_, _-_, _/_, _%_, _^_}
+use mathlib.Core.Bool.{Bool, false, cond, not, _&&_, _||_}
+use mathlib.Core.List.{List}
+use lib.Dec.{eqb, leb}
+use lib.ListN.{getD}
+use Rattle.lists.specs.Lists.{tab, all}
+use Rattle.numbers.specs.Numbers.{numberAt, fieldsAt, zeroAt}
+use Rattle.rules.specs.Desk.{legalAsk}
+use Rattle.rules.specs.Document.{document, endless}
+use Rattle.tables.specs.Layout.{queued, inPlace, recordAt, isRunning, isWaiting, askAt, lockWidths, lockPlace}
+use Rattle.whole_pages.specs.declared.Trail.{Trail}
+use Rattle.whole_pages.specs.declared.Trail.the-variants.{Went, Bad}
+use Rattle.whole_pages.specs.Walks.{marks}
+
+-- the head: length, kind, count, the 26 zeros, and nothing in the places of the queue that are not used
+unfoldable pub headOk : List ℕ → Bool
+headOk d =
+    (((eqb (numberAt 2 d 0) 4672 && eqb (numberAt 2 d 2) 8) && leb (queued d) 16) && zeroAt 26 6 d)
+    && zeroAt (32 - 2 * queued d) (32 + 2 * queued d) d
+
+-- the askers, each seen once; nobody, number 0, is set down beforehand, and there is no transaction from 17 on
+unfoldable pub askersIn : List ℕ → Trail
+askersIn d = marks 17 (tab (queued d) 0 (inPlace d)) 1
+
+-- a waiting request by its fields, kind, record, lo and hi: none, a read, an insert or a delete, each with what it does not use zero
+abbrev pub formOk : ℕ → ℕ → ℕ → ℕ → Bool
+formOk kind r lo hi =
+    (((((eqb kind 0 && eqb r 0) && eqb lo 0) && eqb hi 0) || (eqb kind 4 && eqb r 0)) || (eqb kind 5 && eqb hi 0))
+    || ((eqb kind 6 && eqb r 0) && eqb hi 0)
+
+unfoldable pub plainOk : List ℕ → Bool
+plainOk vs = (leb (getD vs 0 0) 1 && formOk (getD vs 1 0) (getD vs 2 0) (getD vs 3 0) (getD vs 4 0)) && eqb (getD vs 5 0) 0
+
+-- a transaction's record: it waits if it is in the queue, and then it runs and its request is legal
+abbrev pub listed : ℕ → ℕ → Bool
+listed m t = eqb (m / 2 ^ t % 2) 1
+
+unfoldable pub recordOk : List ℕ → ℕ → ℕ → Bool
+recordOk d m t =
+    plainOk (recordAt d t)
+    && ((((listed m t && isWaiting d t) && isRunning d t) && legalAsk (document endless) (askAt d t)) || (not (listed m t) && not (isWaiting d t)))
+
+-- a slot: free and zero, or held by one that runs, with a mode
+abbrev pub fieldsOk : List ℕ → ℕ → ℕ → ℕ → ℕ → Bool
+fieldsOk d k h m f =
+    cond (eqb h 0) ((eqb k 0 && eqb m 0) && eqb f 0) (leb h 16 && ((isRunning d h && (eqb m 1 || eqb m 2)) && eqb f 0))
+
+unfoldable pub slotOk : List ℕ → ℕ → Bool
+slotOk d i =
+    let vs = fieldsAt lockWidths d (lockPlace i) in fieldsOk d (getD vs 0 0) (getD vs 1 0) (getD vs 2 0) (getD vs 3 0)
+
+abbrev pub recordsOk : List ℕ → Trail → Bool
+recordsOk d (Went m) = all (recordOk d m) (tab 16 1 (λ t. t))
+recordsOk d Bad = false
+
+unfoldable pub deskOk : List ℕ → Bool
+deskOk d = (headOk d && recordsOk d (askersIn d)) && all (slotOk d) (tab 256 0 (λ i. i))
