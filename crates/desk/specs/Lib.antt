@@ -1,5 +1,2 @@
 pub mod Promise
-pub mod Calls
-pub mod Idle
-pub mod Overs
 pub mod Working

@@ -21,6 +21,9 @@ pub record Lent : Type 0 where
   pub desk : List ℕ
   pub answers : List ℕ
 
+abbrev pub lent : List ℕ → List ℕ → List ℕ → Lent
+lent p d o = record { pages = p; desk = d; answers = o }
+
 -- "10: pages not 32,768 bytes, desk not 4,672, or answers under 320"
 abbrev pub wrongPicture : List ℕ → List ℕ → Bool
 wrongPicture p d = not (eqb (length p) 32768) || not (eqb (length d) 4672)

@@ -5,8 +5,7 @@ mod joining;
 mod refusing;
 mod working;
 
-ghost use Rattle.desk.specs.Promise.{Freshened, Served};
-ghost use Rattle.desk.specs.Calls.{lent};
+ghost use Rattle.desk.specs.Promise.{Freshened, Served, lent};
 pub use answering::answer;
 use entries::Answer;
 use entries::Heard;

@@ -16,7 +16,7 @@ use Rattle.desks.specs.States.{stateOf}
 use Rattle.whole.specs.Whole.{Whole}
 use Rattle.desk.specs.Promise.{Lent, wrongSizes, returned, stepOf, Answered, Served}
 use Rattle.desk.proofs.Determined.{served-ten, served-eleven, served-twelve}
-use Rattle.desk.proofs.Runs.{few-bytes}
+use Rattle.cases.proofs.Runs.{few-bytes}
 use Rattle.promises.specs.Demand1.{Demand1}
 
 module _ (q : List ℕ) (x y : Lent) (r : ℕ) where

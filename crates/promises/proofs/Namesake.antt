@@ -11,8 +11,8 @@ use Rattle.rules.specs.Cases as C
 use Rattle.trees.specs.Growth as G
 use Rattle.numbers.specs.Numbers as M
 use Rattle.entries.specs.Records as W
-use Rattle.desk.specs.Overs as O
-use Rattle.desk.proofs.Overs.{Plays, plays-on-bytes}
+use Rattle.cases.specs.Overs as O
+use Rattle.cases.proofs.Overs.{Plays, plays-on-bytes}
 use Rattle.promises.specs.Namesake as N
 
 pub namesake-waits : N.NamesakeWaits

@@ -14,7 +14,7 @@ use Rattle.rules.specs.Desk.{step, fresh}
 use Rattle.entries.specs.Records.{heard, putAnswer, written}
 use Rattle.desks.specs.States.{book, stateOf}
 use Rattle.whole.specs.Whole.{Whole}
-use Rattle.desk.specs.Promise.{Lent, Served, shortSpace, returned}
+use Rattle.desk.specs.Promise.{Served, lent, shortSpace, returned}
 
 -- a call as it is sent: the request, and the space lent for its answers
 pub record Sent : Type 0 where
@@ -25,9 +25,6 @@ pub record Sent : Type 0 where
 pub record Back : Type 0 where
   pub result : ℕ
   pub space : List ℕ
-
-abbrev pub lent : List ℕ → List ℕ → List ℕ → Lent
-lent p d o = record { pages = p; desk = d; answers = o }
 
 -- from the picture p d, what was sent gave this back and left the picture p′ d′
 pub data Runs : List ℕ → List ℕ → List Sent → List Back → List ℕ → List ℕ → Type 0 where

@@ -24,12 +24,12 @@ use Rattle.entries.specs.Records as W
 use Rattle.trees.specs.Trees.{documentSizes}
 use Rattle.trees.specs.Shapes.{treePaging}
 use Rattle.desks.specs.States.{book}
 use Rattle.desk.specs.Promise.{shortSpace}
-use Rattle.desk.specs.Calls.{Sent, Back, callIn, with, callsIn, refuses, backIf, backOf, onward, backsFrom, wrote, bytesOf}
-use Rattle.desk.specs.Overs as O
-use Rattle.desk.proofs.Table.{cases-hold-in-pages}
-use Rattle.desk.proofs.Runs.{run-from-fresh}
-use Rattle.desk.proofs.Bytes.{refusal-wrote, answers-wrote}
+use Rattle.cases.specs.Calls.{Sent, Back, callIn, with, callsIn, refuses, backIf, backOf, onward, backsFrom, wrote, bytesOf}
+use Rattle.cases.specs.Overs as O
+use Rattle.cases.proofs.Table.{cases-hold-in-pages}
+use Rattle.cases.proofs.Runs.{run-from-fresh}
+use Rattle.cases.proofs.Bytes.{refusal-wrote, answers-wrote}
 
 -- ---- the records
 abbrev pub heardAs : C.Over → Option (Call ℕ ℕ)

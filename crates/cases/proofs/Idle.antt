@@ -21,12 +21,12 @@ use Rattle.desks.specs.States.{book, stateOf}
 use Rattle.whole.specs.Whole.{Whole}
 use Rattle.whole.specs.Fresh.{freshPages, freshDesk}
 use Rattle.whole.proofs.Fresh.{fresh-picture}
-use Rattle.desk.specs.Promise.{returned, shortSpace}
-use Rattle.desk.specs.Calls as C
-use Rattle.desk.specs.Overs as O
-use Rattle.desk.specs.Idle as I
+use Rattle.desk.specs.Promise.{lent, returned, shortSpace}
+use Rattle.cases.specs.Calls as C
+use Rattle.cases.specs.Overs as O
+use Rattle.cases.specs.Idle as I
 use Rattle.desk.proofs.Determined.{served-good}
-use Rattle.desk.proofs.Runs.{whole-sizes, serve-back, call-legal, after-with}
+use Rattle.cases.proofs.Runs.{whole-sizes, serve-back, call-legal, after-with}
 
 -- ---- calls to send: each request as its record, with just enough space
 abbrev asks : ℕ → Request ℕ ℕ → Call ℕ ℕ
@@ -97,7 +97,7 @@ known =
 -- ---- a desk that keeps the promise, sent calls from any whole picture
 module _ (f : I.Way) (k : I.Keeps f) where
   abbrev after : List ℕ → List ℕ → C.Sent → I.Left
-  after p d a = f (a .request) (C.lent p d (a .space))
+  after p d a = f (a .request) (lent p d (a .space))
 
   abbrev back : I.Left → C.Back
   back l = record { result = l .result; space = l .lent .answers }
@@ -106,7 +106,7 @@ module _ (f : I.Way) (k : I.Keeps f) where
       × Whole (after p d a .lent .pages) (after p d a .lent .desk)
       × (stateOf (after p d a .lent .pages) (after p d a .lent .desk) ≡ C.onward (stateOf p d) (C.callIn a))
   one p d a w =
-      serve-back p d (after p d a .lent .pages) (after p d a .lent .desk) a (back (after p d a)) w (k .each (a .request) (C.lent p d (a .space)))
+      serve-back p d (after p d a .lent .pages) (after p d a .lent .desk) a (back (after p d a)) w (k .each (a .request) (lent p d (a .space)))
 
   fresh-back : (a : C.Sent) → back (after freshPages freshDesk a) ≡ C.backOf (D.fresh book) a
   fresh-back a = one freshPages freshDesk a (fresh-picture .0) .0 ∙ ap (λ s. C.backOf s a) (fresh-picture .1)
@@ -133,29 +133,29 @@ module _ (f : I.Way) (k : I.Keeps f) where
       }
 
   -- a call on a whole picture, with that space, has no cause for 10, 11 or 12
-  sound : (p d q : List ℕ) (c : Call ℕ ℕ) → Whole p d → W.heard q ≡ some c → I.Sound q (C.lent p d space) c
+  sound : (p d q : List ℕ) (c : Call ℕ ℕ) → Whole p d → W.heard q ≡ some c → I.Sound q (lent p d space) c
   sound p d q c w h = record { sizes = whole-sizes p d space w ∙ known .roomy; whole = w; heard = h }
 
   pub refuses-all : I.RefusesAll f → ⊥
   refuses-all i =
       let n = ap (λ (b : C.Back). b .result) (fresh-back (sends 1 begin) ∙ known .begun) in
-      let m = i .refuses (sends 1 begin .request) (C.lent freshPages freshDesk space) in omega arith
+      let m = i .refuses (sends 1 begin .request) (lent freshPages freshDesk space) in omega arith
 
   pub always-waits : I.AlwaysSays R.waiting f → ⊥
   always-waits i =
-      let e = i .always (sends 1 begin .request) (C.lent freshPages freshDesk space) (asks 1 begin) (sound freshPages freshDesk _ _ (fresh-picture .0) (known .heardBegin)) in
+      let e = i .always (sends 1 begin .request) (lent freshPages freshDesk space) (asks 1 begin) (sound freshPages freshDesk _ _ (fresh-picture .0) (known .heardBegin)) in
       let d = ap (λ (b : C.Back). b .space) (fresh-back (sends 1 begin) ∙ known .begun) in
       let n = sym (known .waitingIs) ∙ ap (λ o. getD o 6 0) (sym e ∙ d) ∙ known .doneIs in omega arith
 
   pub always-done : I.AlwaysSays R.done f → ⊥
   always-done i =
-      let e = i .always (committer .request) (C.lent freshPages freshDesk space) (asks 1 commit) (sound freshPages freshDesk _ _ (fresh-picture .0) (known .heardCommit)) in
+      let e = i .always (committer .request) (lent freshPages freshDesk space) (asks 1 commit) (sound freshPages freshDesk _ _ (fresh-picture .0) (known .heardCommit)) in
       let d = ap (λ (b : C.Back). b .space) (fresh-back committer ∙ known .denied) in
       let n = sym (known .doneIs) ∙ ap (λ o. getD o 6 0) (sym e ∙ d) ∙ known .deniedIs in omega arith
 
   pub alters-nothing : I.AltersNothing f → ⊥
   alters-nothing i =
-      let x = C.lent freshPages freshDesk space in
+      let x = lent freshPages freshDesk space in
       let q = sends 1 begin .request in
       let s = one freshPages freshDesk (sends 1 begin) (fresh-picture .0) .2 ∙ ap (λ s. C.onward s (C.callIn (sends 1 begin))) (fresh-picture .1) in
       let t = ap₂ stateOf (i .pages q x) (i .desk q x) ∙ fresh-picture .1 in
@@ -177,14 +177,14 @@ module _ (f : I.Way) (k : I.Keeps f) where
   pub drops-queue : I.DropsQueue f → ⊥
   unfolding stateOf
   drops-queue i =
-      let e = i .drops (reader .request) (C.lent (led .pages) (led .desk) space) _ (sound (led .pages) (led .desk) _ _ (led .whole) (known .heardRead)) in
+      let e = i .drops (reader .request) (lent (led .pages) (led .desk) space) _ (sound (led .pages) (led .desk) _ _ (led .whole) (known .heardRead)) in
       absurd (true≢false (ap L.isNil (sym e) ∙ ap (λ (s : Q.St book). L.isNil (s .queue)) waited-is ∙ known .queued))
 
   pub answers-one : I.AnswersOne f → ⊥
   answers-one i =
       let w = one (led .pages) (led .desk) reader (led .whole) .1 in
       let n = ap (λ (b : C.Back). b .result) (one (heldUp .lent .pages) (heldUp .lent .desk) committer w .0 ∙ ap (λ s. C.backOf s committer) waited-is) ∙ known .twice in
-      let m = i .one (committer .request) (C.lent (heldUp .lent .pages) (heldUp .lent .desk) space) _ (sound _ _ _ _ w (known .heardCommit)) in
+      let m = i .one (committer .request) (lent (heldUp .lent .pages) (heldUp .lent .desk) space) _ (sound _ _ _ _ w (known .heardCommit)) in
       omega arith
 
   pub makes-up : I.MakesUp f → ⊥

@@ -1,0 +1,5 @@
+pub mod Runs
+pub mod Bytes
+pub mod Table
+pub mod Overs
+pub mod Idle
