@@ -19,7 +19,6 @@ use Rattle.rules.proofs.Index.{atOrAbove}
 use Rattle.rules.proofs.Targets.{own-cover}
 use Rattle.rules.proofs.Did.{target-in, itself-is}
 use Rattle.trees.specs.Shapes.{shape}
-use Rattle.trees.proofs.Settling.{shape-same}
 use Rattle.entries.specs.declared.Key.{Key}
 use Rattle.entries.specs.declared.Entry as E
 use Rattle.entries.specs.declared.Says as D
@@ -34,7 +33,7 @@ use Rattle.index.specs.Pictures.{Item, keyOf, indexOf, entriesIn, WholePages}
 use Rattle.index.specs.Searches.{bookFound}
 use Rattle.index.specs.Changes.{replaced, Becomes}
 use Rattle.index.proofs.Frame.{map-same}
-use Rattle.index.proofs.Entries.{entries-replaced}
+use Rattle.index.proofs.Entries.{entries-replaced, shape-replaced}
 use Rattle.desks.specs.States.{book, stateOf}
 use Rattle.whole.specs.Whole.{Whole}
 use Rattle.desks.specs.Fitting.{NameFits}
@@ -44,7 +43,7 @@ use Rattle.acts.specs.Exchanges.{Exchanged}
 use Rattle.acts.proofs.Runs.{given-if, refused, granted}
 use Rattle.acts.proofs.Looks.{target-fits}
 
--- ---- the entries, and their shape
+-- ---- the entries
 module _ (es : List Item) (h : ascending book es ≡ true) (e : Item) (i : In e es) where
   alone : (y : Item) → In y es → y .key ≡ e .key → y ≡ e
   alone y j k =
@@ -65,16 +64,6 @@ module _ (p p′ : List ℕ) where
   pub entries-changed : ascending book (entriesIn p) ≡ true → (e : Item) → In e (entriesIn p) → (f : Item → Item) → f e .key ≡ e .key
       → Becomes p′ (replaced (f e) (indexOf p)) → entriesIn p′ ≡ changed book (e .key) f (entriesIn p)
   entries-changed h e i f g b = entries-replaced p p′ (f e) b ∙ exchanged-changed (entriesIn p) h e i f g
-
-  pub shape-replaced : (x : Item) → Becomes p′ (replaced x (indexOf p)) → shape keyOf (indexOf p′) ≡ shape keyOf (indexOf p)
-  unfolding replaced
-  shape-replaced x b =
-      ap (shape keyOf) (b .index)
-      ∙ shape-same keyOf (λ (y : Item). cond (eqb (y .key) (x .key)) x y) (λ y. go y (eqb (y .key) (x .key)) refl) (indexOf p)
-    where
-      go : (y : Item) (c : Bool) → eqb (y .key) (x .key) ≡ c → keyOf (cond c x y) ≡ keyOf y
-      go y true q = sym (eqb-true (y .key) (x .key) q)
-      go y false q = refl
 
 -- ---- what is done with the lock
 pub record Done (p′ : List ℕ) (f : Slots book → Ran book) (x : D.Says) : Type 0 where

@@ -4,12 +4,12 @@ use Prim.Native.Nat.{ℕ, _≤_, _<_, compare}
 use mathlib.Core.Path.{_≡_, refl, sym, ap, ap₂, subst, _∙_}
 use mathlib.Core.Bool.{Bool, true, false, cond, not, true≢false}
 use mathlib.Core.List.{List}
-use mathlib.Core.Option.{Option, none, some}
+use mathlib.Core.Option.{Option, none, some, Option·none-ne-some}
 use borrow.Author.Tests.{lt-ltb, le-ltb}
-use lib.Dec.{ltb}
+use lib.Dec.{eqb, ltb}
 use Rattle.lists.specs.Lists.{first}
 use Rattle.lists.proofs.Tests.{fails, not-any}
-use Rattle.lists.proofs.Elements.{all-in, in-all, first-in}
+use Rattle.lists.proofs.Elements.{all-in, first-in}
 use Rattle.rules.specs.Kinds.{X, on, insert}
 use Rattle.rules.specs.Entries.{isThere, same, atMost, inserted, put}
 use Rattle.rules.specs.Locks.{Slots, holds, taken, target, itself}
@@ -17,7 +17,6 @@ use Rattle.rules.specs.Runs.{done, pagesShort, Ran, unmoved, taking, insertMiss
 use Rattle.rules.specs.Good.{isName}
 use Rattle.rules.specs.Document.{endMark}
 use Rattle.rules.proofs.Orders.{numbers-ordered}
-use Rattle.rules.proofs.Index as I
 use Rattle.rules.proofs.LockTable.{holds-held}
 use Rattle.rules.proofs.Unblocked.{good-sound}
 use Rattle.trees.specs.Trees.{documentSizes, flat}
@@ -35,7 +34,7 @@ use Rattle.index.specs.declared.Found.the-variants as FV
 use Rattle.index.specs.Searches.{bookFound}
 use Rattle.index.specs.Pictures.{Item, keyOf, indexOf, entriesIn}
 use Rattle.index.specs.Changes.{withEntry, entryFits, Becomes, Added}
-use Rattle.index.proofs.Entries.{entries-added, shape-added}
+use Rattle.index.proofs.Entries.{key-missing, entries-added, shape-added}
 use Rattle.desks.specs.States.{book, stateOf}
 use Rattle.desks.specs.Fitting.{AskFits}
 use Rattle.desks.proofs.Values.{name-read}
@@ -51,8 +50,10 @@ module _ (p d : List ℕ) (w : Whole p d) (k : ℕ) where
       → missing compare keyOf k (entriesIn p) ≡ true
   unfolding target stateOf
   is-missing t rec there i h =
-      in-all (λ e. not (same book (e .key) k)) (entriesIn p) (λ e j.
-      ap not (I.missing book numbers-ordered (entriesIn p) k (w .values .keys) (sym i ∙ ap bookFound h) e j))
+      key-missing p (w .pages) k (λ x e.
+      fails (eqb (x .key) k) (λ q.
+      let n = ap (itself book k) (sym e) ∙ sym i ∙ ap bookFound h in
+      Option·none-ne-some x (sym n ∙ ap (λ b. cond b (some x) none) q)))
 
   module _ (m : missing compare keyOf k (entriesIn p) ≡ true) where
     no-lock : (t : ℕ) → holds book (slotsOf d) t (on k) ≡ false
