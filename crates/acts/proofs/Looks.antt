@@ -70,15 +70,15 @@ module _ (found : Found) (hi : Key) where
 -- ---- the read
 pub read-ran : (p d : List ℕ) (w : Whole p d) (q : ℕ) (c : Clear p d q) (lo hi : Key) → queuedAt d q .asks ≡ read (lo .0) (hi .0)
     → (t : ℕ) (a : t ≡ inPlace d q) (found : Found) → bookFound found ≡ target book (entriesIn p) t (read (lo .0) (hi .0))
-    → (name : Key) → name .0 ≡ nameNumber (named book (bookFound found)) → (d₁ d₂ : List ℕ) (b : Bool) → d₁ ≡ lockTaken d t (nameIn (name .0)) S
-    → b ≡ lockGiven d t (nameIn (name .0)) → d₂ ≡ queueLeft d₁ q → (x y : D.Says) → bookSays y ≡ readSays book (hi .0) (bookFound found) → bookSays x ≡ cond b (bookSays y) locksShort
-    → Ran p d p d₂ q (record { asker = t; says = x })
+    → (name : Key) → name .0 ≡ nameNumber (named book (bookFound found)) → (d′ : List ℕ) (b : Bool) → d′ ≡ queueLeft (lockTaken d t (nameIn (name .0)) S) q
+    → b ≡ lockGiven d t (nameIn (name .0)) → (x y : D.Says) → bookSays y ≡ readSays book (hi .0) (bookFound found) → bookSays x ≡ cond b (bookSays y) locksShort
+    → Ran p d p d′ q (record { asker = t; says = x })
 unfolding run runOn stateOf queuedAt
-read-ran p d w q c lo hi k t a found f name e d₁ d₂ b e₁ g e₂ x y tells says =
+read-ran p d w q c lo hi k t a found f name e d′ b e₁ g x y tells says =
     let n = named book (bookFound found) in
     let ask : Ask ℕ ℕ = read (lo .0) (hi .0) in
     let is : nameIn (name .0) ≡ n = target-name p d w t ask found f name e in
     let goes : run book (stateOf p d) (queuedAt d q) ≡ taking book (stateOf p d) t n S (locked book (stateOf p d) (readSays book (hi .0) (bookFound found))) =
     ap₂ (λ u y. runOn book (stateOf p d) u y (target book (entriesIn p) u y)) (sym a) k ∙ ap (runOn book (stateOf p d) t ask) (sym f) in
-    looked p d w q c t a n S (target-fits p d w t ask found f) (readSays book (hi .0) (bookFound found)) goes d₁ d₂ b x
-    (e₁ ∙ ap (λ y. lockTaken d t y S) is) (g ∙ ap (lockGiven d t) is) e₂ (says ∙ ap (λ z. cond b z locksShort) tells)
+    looked p d w q c t a n S (target-fits p d w t ask found f) (readSays book (hi .0) (bookFound found)) goes d′
+    (e₁ ∙ ap (λ y. queueLeft (lockTaken d t y S) q) is) b x (g ∙ ap (lockGiven d t) is) (says ∙ ap (λ z. cond b z locksShort) tells)

@@ -110,7 +110,7 @@ module _ (p d : List ℕ) (w : Whole p d) (q : ℕ) (c : A.Clear p d q) (k rec :
     -- the lock is given exactly where a slot is free
     free-if : (o : Option (Slots book)) → taken book (slotsOf d) t (on k) X ≡ o → ltb (freeIn d) locksMost ≡ isThere o
     free-if o h =
-        sym (slot-needed p d w k m t) ∙ given-if p d w q c t a (on k) X key-fits act goes withLock (queueLeft withLock q) refl refl o h
+        sym (slot-needed p d w k m t) ∙ given-if p d w q c t a (on k) X key-fits o h
 
     -- 17: no slot is free
     pub locks-short : (free : ℕ) (d₁ : List ℕ) → free ≡ freeIn d → locksMost ≤ free → d₁ ≡ queueLeft d q
@@ -124,7 +124,7 @@ module _ (p d : List ℕ) (w : Whole p d) (q : ℕ) (c : A.Clear p d q) (k rec :
         same-desk = sym (refused-same d t (on k) X (slot-needed p d w k m t ∙ none-free))
 
         go : (o : Option (Slots book)) → taken book (slotsOf d) t (on k) X ≡ o → A.Ran p d p d₁ q (record { asker = t; says = S.LocksShort })
-        go none h = refused p d w q c t a (on k) X key-fits act goes d d₁ same-desk e S.LocksShort h refl
+        go none h = refused p d w q c t a (on k) X key-fits act goes d₁ (e ∙ ap (λ x. queueLeft x q) same-desk) S.LocksShort h refl
         go (some ks) h = absurd (true≢false (sym (free-if (some ks) h) ∙ none-free))
 
     -- a slot is free: the lock can be had, and the rest goes by the pages
@@ -161,7 +161,7 @@ module _ (p d : List ℕ) (w : Whole p d) (q : ℕ) (c : A.Clear p d q) (k rec :
           with-slots (λ ks h.
           let x = becomes false short in
           let r : run book (stateOf p d) (queuedAt d q) ≡ unmoved book (stateOf p d) pagesShort =
-          goes-if p d w q c t a (on k) X key-fits act goes withLock (queueLeft withLock q) refl refl (some ks) h ∙ comes-to false short ks in
+          goes-if p d q t (on k) X act goes (some ks) h ∙ comes-to false short ks in
           record {
             says = ran-says p d w q c p′ (x .whole) (unmoved book (stateOf p d) pagesShort) r (ap (λ i. flat ℕ Item (i .level) (i .tree)) (x .index))
                 (ap (shape keyOf) (x .index)) (whole-fits p d w) d d₁ (w .desk) l;
@@ -169,14 +169,13 @@ module _ (p d : List ℕ) (w : Whole p d) (q : ℕ) (c : A.Clear p d q) (k rec :
           })
 
       -- done: the entry is put in, and the lock is taken
-      pub put-in : (d₁ d₂ : List ℕ) → b ≡ true → d₁ ≡ lockTaken d t (nameIn k) X → d₂ ≡ queueLeft d₁ q
-          → A.Ran p d p′ d₂ q (record { asker = t; says = S.Done })
+      pub put-in : (d₁ : List ℕ) → b ≡ true → d₁ ≡ queueLeft (lockTaken d t (nameIn k) X) q → A.Ran p d p′ d₁ q (record { asker = t; says = S.Done })
       unfolding put
-      put-in d₁ d₂ room e₁ e₂ =
+      put-in d₁ room l =
           with-slots (λ ks h.
           let x = becomes true room in
           let r = sym (comes-to true room ks) in
-          granted p d w q c t a (on k) X key-fits act goes d₁ d₂ (e₁ ∙ ap (λ n. lockTaken d t n X) (name-read (on k) key-fits)) e₂ ks p′ S.Done h (x .whole)
+          granted p d w q c t a (on k) X key-fits act goes d₁ (l ∙ ap (λ n. queueLeft (lockTaken d t n X) q) (name-read (on k) key-fits)) ks p′ S.Done h (x .whole)
           (ap (λ (y : Ran book). y .slots) (sym r))
           (entries-added p p′ (inserted t k rec) (w .pages) key-fits x ∙ ap (λ (y : Ran book). y .entries) r)
           (shape-added p p′ (inserted t k rec) x ∙ ap (λ (y : Ran book). y .pages) r)

@@ -8,25 +8,22 @@ use mathlib.Core.Option.{some}
 use native.Mathlib.Omega.{arith}
 use lib.ListN.{getD, replicate}
 use Rattle.lists.specs.Lists as L
-use Rattle.numbers.specs.Numbers as N
 use Rattle.rules.specs.Kinds.{read, insert, Request, begin, commit, ask, Call}
-use Rattle.rules.specs.Entries as E
-use Rattle.rules.specs.Locks as K
 use Rattle.rules.specs.Queue as Q
 use Rattle.rules.specs.Runs as R
 use Rattle.rules.specs.Desk as D
-use Rattle.trees.specs.Growth as G
 use Rattle.entries.specs.Records as W
 use Rattle.desks.specs.States.{book, stateOf}
 use Rattle.whole.specs.Whole.{Whole}
 use Rattle.whole.specs.Fresh.{freshPages, freshDesk}
 use Rattle.whole.proofs.Fresh.{fresh-picture}
-use Rattle.desk.specs.Promise.{lent, returned, shortSpace}
-use Rattle.cases.specs.Calls as C
+use Rattle.calls.specs.Promise.{lent, returned, shortSpace}
+use Rattle.calls.specs.Calls as C
 use Rattle.cases.specs.Overs as O
 use Rattle.cases.specs.Idle as I
-use Rattle.desk.proofs.Determined.{served-good}
-use Rattle.cases.proofs.Runs.{whole-sizes, serve-back, call-legal, after-with}
+use Rattle.cases.proofs.Computing.{the-book, the-pages, the-records}
+use Rattle.calls.proofs.Determined.{served-good}
+use Rattle.calls.proofs.Runs.{whole-sizes, serve-back, call-legal, after-with}
 
 -- ---- calls to send: each request as its record, with just enough space
 abbrev asks : ℕ → Request ℕ ℕ → Call ℕ ℕ
@@ -76,7 +73,7 @@ record Known : Type 0 where
   runsThen : D.runs book (C.onward (D.fresh book) (C.callIn (sends 1 begin))) 1 ≡ true
 
 known : Known
-unfolding N.numberAt N.putNumber N.putFields N.fieldsAt N.widthOf W.forms W.requests W.callIn W.isBad W.heard W.answerFields W.putAnswer W.written O.requestRecord C.callIn C.callsIn C.backOf G.grown G.rooted G.withItem G.fullRun G.needed G.fits G.leaves G.inLeaves L.insertBefore L.any L.keep L.first L.last L.join L.tab E.left E.settled E.takenOut E.put E.changed K.inUse K.added K.taken K.released K.target K.mode K.wanted K.holders K.earlier K.blockers Q.waitsFrom Q.waits Q.oldest Q.further Q.reached Q.onCircle Q.newest Q.leave R.readSays R.insertMissing R.insertThere R.insertAs R.deleteThere R.deleteAs R.runOn R.run R.turn R.turns R.worked D.refusal D.begun D.ended D.joined D.acts D.step D.legalAsk D.legalRequest D.call D.fresh D.after
+unfolding the-book the-pages the-records W.answerFields W.putAnswer W.written C.callIn C.callsIn C.backOf
 known =
     record {
       begun = refl;

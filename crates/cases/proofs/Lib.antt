@@ -1,5 +1,4 @@
-pub mod Runs
-pub mod Bytes
+pub mod Computing
 pub mod Table
 pub mod Overs
 pub mod Idle

@@ -24,12 +24,13 @@ use Rattle.entries.specs.Records as W
 use Rattle.trees.specs.Trees.{documentSizes}
 use Rattle.trees.specs.Shapes.{treePaging}
 use Rattle.desks.specs.States.{book}
-use Rattle.desk.specs.Promise.{shortSpace}
-use Rattle.cases.specs.Calls.{Sent, Back, callIn, with, callsIn, refuses, backIf, backOf, onward, backsFrom, wrote, bytesOf}
+use Rattle.calls.specs.Promise.{shortSpace}
+use Rattle.calls.specs.Calls.{Sent, Back, callIn, with, callsIn, refuses, backIf, backOf, onward, backsFrom, wrote, bytesOf}
 use Rattle.cases.specs.Overs as O
+use Rattle.cases.proofs.Computing.{the-records, the-cases}
 use Rattle.cases.proofs.Table.{cases-hold-in-pages}
-use Rattle.cases.proofs.Runs.{run-from-fresh}
-use Rattle.cases.proofs.Bytes.{refusal-wrote, answers-wrote}
+use Rattle.calls.proofs.Runs.{run-from-fresh}
+use Rattle.calls.proofs.Bytes.{refusal-wrote, answers-wrote}
 
 -- ---- the records
 abbrev pub heardAs : C.Over → Option (Call ℕ ℕ)
@@ -39,7 +40,7 @@ abbrev pub legally : C.Over → Option (Call ℕ ℕ)
 legally o = cond (D.legalCall book (o .bowled)) (some (o .bowled)) none
 
 records-heard : map (λ (c : C.Case). map heardAs (c .overs)) C.cases ≡ map (λ (c : C.Case). map legally (c .overs)) C.cases
-unfolding N.numberAt N.putNumber N.putFields N.fieldsAt W.forms W.requests W.callIn W.isBad W.heard D.legalAsk D.legalRequest O.requestRecord C.readerWaits C.nothingStaysNothing C.twoReaders C.circleAtCommit C.ghostComesBack C.lastKey C.emptyIndex C.soleHolder C.targetMoves C.joiningFrees C.presentStaysPresent C.cases N.widthOf
+unfolding D.legalAsk D.legalRequest the-records the-cases
 records-heard = refl
 
 -- ---- what holds of every element of a list, as an equation of two lists, holds of each
@@ -154,7 +155,7 @@ backs-bytes (o ∷ os) (a ∷ as′) h r f =
     (backs-bytes os as′ (ap (drop 1) h) (and-right (not (shortSpace (a .space))) _ r) (and-right (fewIn o) _ f))
 
 cases-few : all (λ (c : C.Case). all fewIn (c .overs)) C.cases ≡ true
-unfolding all C.readerWaits C.nothingStaysNothing C.twoReaders C.circleAtCommit C.ghostComesBack C.lastKey C.emptyIndex C.soleHolder C.targetMoves C.joiningFrees C.presentStaysPresent C.cases
+unfolding all the-cases
 cases-few = refl
 
 pub first-bytes : O.FirstBytes

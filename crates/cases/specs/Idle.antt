@@ -13,7 +13,7 @@ use Rattle.entries.specs.Records.{heard, written}
 use Rattle.tables.specs.Layout.{queueOf}
 use Rattle.desks.specs.States.{book}
 use Rattle.whole.specs.Whole.{Whole}
-use Rattle.desk.specs.Promise.{Lent, Served, wrongSizes, returned, stepOf}
+use Rattle.calls.specs.Promise.{Lent, Served, wrongSizes, returned, stepOf}
 
 pub record Left : Type 0 where
   pub lent : Lent

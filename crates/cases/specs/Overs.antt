@@ -15,8 +15,8 @@ use Rattle.trees.specs.Trees.{documentSizes}
 use Rattle.trees.specs.Shapes.{treePaging}
 use Rattle.entries.specs.Records.{formOf}
 use Rattle.desks.specs.States.{stateOf}
-use Rattle.desk.specs.Promise.{shortSpace}
-use Rattle.cases.specs.Calls.{Sent, Back, FromFresh, gives, refuses, wrote, bytesOf}
+use Rattle.calls.specs.Promise.{shortSpace}
+use Rattle.calls.specs.Calls.{Sent, Back, FromFresh, gives, refuses, wrote, bytesOf}
 
 -- "Request: length, kind, transaction, two zero bytes; then by kind ..": a request's kind, what follows its head, and its record
 abbrev pub kindOf : Request ℕ ℕ → ℕ

@@ -36,7 +36,7 @@ use Rattle.acts.proofs.Tables.{whole-few}
 use Rattle.acts.proofs.Moves.{is-transaction, begin-says, join-room, join-says}
 use Rattle.desk.specs.declared.Refusal.{Refusal}
 use Rattle.desk.specs.declared.Refusal.the-variants.{By, Nothing}
-use Rattle.desk.specs.Promise.{Answered, lent}
+use Rattle.calls.specs.Promise.{Answered, lent}
 use Rattle.desk.specs.Working.{Wrote, workedOf, lastOf, LastFits, RoomFor, bookRefusal}
 use Rattle.desk.proofs.Refusals.{waits-is}
 

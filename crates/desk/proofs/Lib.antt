@@ -1,4 +1,3 @@
-pub mod Determined
 pub mod Refusals
 pub mod Turns
 pub mod Works

@@ -48,9 +48,6 @@ left-start p d o from w h = record { whole = w; room = h; pages = refl; desk = r
 
 module _ (p₀ d₀ o₀ : List ℕ) (from : ℕ) (p d o : List ℕ) (end : ℕ) (l : Left p₀ d₀ o₀ from p d o end) (p′ d′ : List ℕ) (x : Turned)
     (h : Turns p d p′ d′ x) where
-  pub left-whole : Whole p d
-  left-whole = l .whole
-
   module _ (a : Answer) (e : x ≡ Said a) where
     one : suc (queued d′) ≡ queued d
     one = takes-one p d p′ d′ (l .whole) x h a e

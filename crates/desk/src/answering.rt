@@ -10,7 +10,7 @@ ghost use Rattle.pages.specs.Rows.{endOf};
 ghost use Rattle.tables.specs.Layout.{transactionsMost};
 ghost use Rattle.desks.specs.States.{book, stateOf};
 ghost use Rattle.whole.specs.Whole.{Whole};
-ghost use Rattle.desk.specs.Promise.{Answered, lent};
+ghost use Rattle.calls.specs.Promise.{Answered, lent};
 ghost use Rattle.desk.specs.Working.{LastFits, RoomFor, Wrote, lastOf, workedOf};
 use super::Refusal;
 use super::joining;

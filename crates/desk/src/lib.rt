@@ -5,7 +5,7 @@ mod joining;
 mod refusing;
 mod working;
 
-ghost use Rattle.desk.specs.Promise.{Freshened, Served, lent};
+ghost use Rattle.calls.specs.Promise.{Freshened, Served, lent};
 pub use answering::answer;
 use entries::Answer;
 use entries::Heard;

@@ -9,7 +9,7 @@ use Rattle.rules.specs.Kinds.{Call}
 use Rattle.entries.specs.Records.{heard}
 use Rattle.whole.specs.Whole.{Whole}
 use Rattle.whole.proofs.Tell.{whole-inj}
-use Rattle.desk.specs.Promise.{Lent, lent, wrongSizes, returned, Answered, Served, Freshened}
+use Rattle.calls.specs.Promise.{Lent, lent, wrongSizes, returned, Answered, Served, Freshened}
 
 -- ---- what a call comes to, by its cause
 pub record Refused (x y : Lent) (number r : ℕ) : Type 0 where

@@ -13,8 +13,8 @@ use Rattle.entries.specs.Records.{answerWidths, answerFields, putAnswer, writte
 use Rattle.entries.proofs.Answers.{length-putAnswer}
 use Rattle.entries.proofs.Written.{touches-written}
 use Rattle.pages.proofs.Splices.{part-append, put-row}
-use Rattle.desk.specs.Promise.{returned}
-use Rattle.cases.specs.Calls.{gives, refuses, wrote, bytesOf}
+use Rattle.calls.specs.Promise.{returned}
+use Rattle.calls.specs.Calls.{gives, refuses, wrote, bytesOf}
 
 -- ---- answers written one after the other are their bytes, one after the other
 answer-bytes : (s : List ℕ) (at : ℕ) (x : Answer ℕ ℕ) → at + 20 ≤ length s → part at 20 (putAnswer s at x) ≡ bytesOf x

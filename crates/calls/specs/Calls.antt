@@ -14,7 +14,7 @@ use Rattle.rules.specs.Desk.{step, fresh}
 use Rattle.entries.specs.Records.{heard, putAnswer, written}
 use Rattle.desks.specs.States.{book, stateOf}
 use Rattle.whole.specs.Whole.{Whole}
-use Rattle.desk.specs.Promise.{Served, lent, shortSpace, returned}
+use Rattle.calls.specs.Promise.{Served, lent, shortSpace, returned}
 
 -- a call as it is sent: the request, and the space lent for its answers
 pub record Sent : Type 0 where
