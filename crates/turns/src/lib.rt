@@ -1,4 +1,4 @@
-// The queue worked to rest. (Document 01, "Working the queue".)
+// The queue worked to rest, turn by turn. (Document 01, "Working the queue".)
 ghost use mathlib.Core.Path.{_≡_};
 ghost use Prim.Native.Nat.{_+_, _*_, _<_, _≤_};
 ghost use mathlib.Core.Option.{none};
@@ -7,12 +7,17 @@ ghost use Rattle.rules.specs.Queue.{oldest};
 ghost use Rattle.tables.specs.Layout.{queued};
 ghost use Rattle.desks.specs.States.{book, stateOf};
 ghost use Rattle.whole.specs.Whole.{Whole};
-ghost use Rattle.desk.specs.Working.{GaveWay, Turns, Wrote, workedOf};
-use super::Turned;
+ghost use Rattle.turns.specs.Working.{GaveWay, Turns, Wrote, workedOf};
 use entries::Answer;
 use entries::Says;
 use tables::queue;
 use waits::Place;
+
+// What a turn of the queue brought: an answer, or the desk is at rest.
+pub enum Turned {
+    Said(Answer),
+    Rest,
+}
 
 // The request at place q of the queue gives way: it leaves, with answer 19.
 fn give_way(pages: &[u8], desk: &mut [u8], q: usize) -> Answer

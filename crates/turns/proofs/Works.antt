@@ -16,9 +16,9 @@ use Rattle.tables.specs.Layout.{queued}
 use Rattle.tables.proofs.Queues.{length-queue}
 use Rattle.desks.specs.States.{book, stateOf}
 use Rattle.whole.specs.Whole.{Whole}
-use Rattle.desk.specs.declared.Turned.{Turned}
-use Rattle.desk.specs.declared.Turned.the-variants.{Said, Rest}
-use Rattle.desk.specs.Working.{Wrote, workedOf, bookTurn, StillAt, Turns}
+use Rattle.turns.specs.declared.Turned.{Turned}
+use Rattle.turns.specs.declared.Turned.the-variants.{Said, Rest}
+use Rattle.turns.specs.Working.{Wrote, workedOf, bookTurn, StillAt, Turns}
 
 -- ---- a turn takes one request off the queue
 module _ (p d p′ d′ : List ℕ) (w : Whole p d) (x : Turned) (h : Turns p d p′ d′ x) (a : Answer) (e : x ≡ Said a) where

@@ -1,10 +1,10 @@
--- `desk::working::work` meets its contract. The invariant: what the whole queue says is what has been written and what the rest will say.
+-- `turns::work` meets its contract. The invariant: what the whole queue says is what has been written and what the rest will say.
 -- The measure is how many are queued. Assumes nothing.
 use borrow.Author.Needs.{needs}
 use Rattle.tables.specs.Layout.{queued}
-use Rattle.desk.proofs.Works.{Left, left-start, left-room, left-less, left-turn, left-done, left-pages, left-desk}
-use Rattle.desk.proofs.working.work.Statement.{statement}
-use Rattle.desk.proofs.working.work.Tie as tie
+use Rattle.turns.proofs.Works.{Left, left-start, left-room, left-less, left-turn, left-done, left-pages, left-desk}
+use Rattle.turns.proofs.work.Statement.{statement}
+use Rattle.turns.proofs.work.Tie as tie
 
 abbrev Inv-loop : tie.InvT-loop
 Inv-loop pages₀ desk₀ answers₀ at end₀ pages desk answers end = Left pages₀ desk₀ answers₀ at pages desk answers end

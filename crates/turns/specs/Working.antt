@@ -1,25 +1,20 @@
--- What the steps of a call leave, between the functions that take them: the queue worked to rest, and a request answered. Not for readers
--- of the promises. Assumes nothing.
-use Prim.Native.Nat.{ℕ, _+_, _*_, _≤_}
+-- What is left, and written, where the queue is worked: a turn, and the queue at rest. Not for readers of the promises. Assumes nothing.
+use Prim.Native.Nat.{ℕ, _+_, _*_}
 use mathlib.Core.Path.{_≡_}
-use mathlib.Core.Bool.{cond}
-use mathlib.Core.List.{List, [], _∷_}
+use mathlib.Core.List.{List}
 use mathlib.Core.Option.{Option, none, some}
 use lib.ListN.{length}
 use Rattle.rules.specs.Queue.{St}
-use Rattle.rules.specs.Desk.{waitsNow, says, waitingLast}
-use Rattle.rules.specs.Runs.{Sy, waiting, circle, unmoved, left, Turn, turn, Worked, worked}
+use Rattle.rules.specs.Runs.{circle, unmoved, left, Turn, turn, Worked, worked}
 use Rattle.entries.specs.declared.Answer.{Answer}
-use Rattle.entries.specs.Meaning.{bookSays, bookAnswer}
+use Rattle.entries.specs.Meaning.{bookAnswer}
 use Rattle.entries.specs.Records.{written}
-use Rattle.tables.specs.Layout.{queued, queuedAt}
+use Rattle.tables.specs.Layout.{queuedAt}
 use Rattle.desks.specs.States.{book, stateOf}
 use Rattle.whole.specs.Whole.{Whole}
 use Rattle.acts.specs.Acts.{Says}
-use Rattle.desk.specs.declared.Refusal.{Refusal}
-use Rattle.desk.specs.declared.Refusal.the-variants as RV
-use Rattle.desk.specs.declared.Turned.{Turned}
-use Rattle.desk.specs.declared.Turned.the-variants as TV
+use Rattle.turns.specs.declared.Turned.{Turned}
+use Rattle.turns.specs.declared.Turned.the-variants as TV
 
 -- from the picture p d, with the answers written into o from place `at` on: the picture p′ d′ says where w leads, and r is where they end
 pub record Wrote (o : List ℕ) (at : ℕ) (w : Worked book) (p′ d′ o′ : List ℕ) (r : ℕ) : Type 0 where
@@ -30,24 +25,6 @@ pub record Wrote (o : List ℕ) (at : ℕ) (w : Worked book) (p′ d′ o′ : L
 -- the queue worked
 abbrev pub workedOf : List ℕ → List ℕ → Worked book
 workedOf p d = worked book (stateOf p d)
-
--- "If the new request is still queued at rest, its answer 3 comes last.": nothing moves, and there is room for what is said
-unfoldable pub lastOf : List ℕ → List ℕ → ℕ → Worked book
-lastOf p d t =
-    record { state = stateOf p d; answers = cond (waitsNow book (stateOf p d) t) (says book t waiting ∷ []) [] }
-
-pub record LastFits (p d : List ℕ) (t end : ℕ) (o : List ℕ) : Type 0 where
-  pub room : end + 20 * length (lastOf p d t .answers) ≤ length o
-
--- room for all that the queue worked may say, and for that
-pub record RoomFor (p d : List ℕ) (t : ℕ) (o : List ℕ) : Type 0 where
-  pub queue : 20 * queued d ≤ length o
-  pub answers : 20 * length (waitingLast book t (workedOf p d) .answers) ≤ length o
-
--- 13 to 15, or no refusal
-abbrev pub bookRefusal : Refusal → Option (Sy book)
-bookRefusal (RV.By m) = some (bookSays m)
-bookRefusal RV.Nothing = none
 
 -- the request at place q of the queue answered 19
 unfoldable pub wayAt : List ℕ → List ℕ → ℕ → Turn book

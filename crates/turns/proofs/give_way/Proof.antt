@@ -1,11 +1,11 @@
--- `desk::working::give_way` meets its contract: the request leaves, and nothing else moves.
+-- `turns::give_way` meets its contract: the request leaves, and nothing else moves.
 -- Assumes nothing.
 use borrow.Author.Needs.{needs}
 use Rattle.acts.proofs.Tables.{whole-few}
 use Rattle.waits.proofs.Known.{place-low}
-use Rattle.desk.proofs.Turns.{place-high, gave-way}
-use Rattle.desk.proofs.working.give_way.Statement.{statement}
-use Rattle.desk.proofs.working.give_way.Tie as tie
+use Rattle.turns.proofs.Turns.{place-high, gave-way}
+use Rattle.turns.proofs.give_way.Statement.{statement}
+use Rattle.turns.proofs.give_way.Tie as tie
 
 in-place-requires : tie.Need-in-place-requires
 in-place-requires c κs = (search needs, search (needs, place-low))

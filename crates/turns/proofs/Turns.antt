@@ -33,8 +33,8 @@ use Rattle.waits.specs.Choices.{requestAt, requestOf, Inside, Chosen, OldestAt,
 use Rattle.acts.specs.Acts as A
 use Rattle.acts.proofs.Places.{place-waits}
 use Rattle.acts.proofs.Moves.{way-says}
-use Rattle.desk.specs.declared.Turned.the-variants.{Said, Rest}
-use Rattle.desk.specs.Working.{wayAt, GaveWay, Turns}
+use Rattle.turns.specs.declared.Turned.the-variants.{Said, Rest}
+use Rattle.turns.specs.Working.{wayAt, GaveWay, Turns}
 
 -- ---- what a choice found at its place is
 module _ (d : List ℕ) (c : Option (Wait book)) (r : Place) (h : Chosen d c r) where

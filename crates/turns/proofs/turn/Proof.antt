@@ -1,9 +1,9 @@
--- `desk::working::turn` meets its contract: nobody blocks the oldest that was found; where each is blocked, a circle is looked for.
+-- `turns::turn` meets its contract: nobody blocks the oldest that was found; where each is blocked, a circle is looked for.
 -- Assumes nothing.
 use borrow.Author.Needs.{needs}
-use Rattle.desk.proofs.Turns.{oldest-clear, oldest-nobody, turned-ran}
-use Rattle.desk.proofs.working.turn.Statement.{statement}
-use Rattle.desk.proofs.working.turn.Tie as tie
+use Rattle.turns.proofs.Turns.{oldest-clear, oldest-nobody, turned-ran}
+use Rattle.turns.proofs.turn.Statement.{statement}
+use Rattle.turns.proofs.turn.Tie as tie
 
 oldest-requires : tie.Need-oldest-requires
 oldest-requires c κs = search needs

@@ -1,9 +1,9 @@
--- `desk::working::circle_turn` meets its contract: the place found has the newest on a circle.
+-- `turns::circle_turn` meets its contract: the place found has the newest on a circle.
 -- Assumes nothing.
 use borrow.Author.Needs.{needs}
-use Rattle.desk.proofs.Turns.{newest-inside, turned-way, turned-rest}
-use Rattle.desk.proofs.working.circle_turn.Statement.{statement}
-use Rattle.desk.proofs.working.circle_turn.Tie as tie
+use Rattle.turns.proofs.Turns.{newest-inside, turned-way, turned-rest}
+use Rattle.turns.proofs.circle_turn.Statement.{statement}
+use Rattle.turns.proofs.circle_turn.Tie as tie
 
 newest-on-circle-requires : tie.Need-newest-on-circle-requires
 newest-on-circle-requires c κs = search needs
