@@ -4,47 +4,44 @@ use Prim.Native.Nat.{ℕ, _≤_, _<_}
 use mathlib.Core.Path.{_≡_, refl, sym, ap, ap₂, subst, _∙_}
 use mathlib.Core.Bool.{Bool, true, false, cond, not, _&&_, true≢false}
 use mathlib.Core.List.{List, map}
-use mathlib.Core.Option.{Option, none, some}
+use mathlib.Core.Option.{some}
 use native.Mathlib.Omega.{arith}
 use borrow.Author.Tests.{eqb-true, not-true, not-false}
 use lib.Dec.{eqb}
 use Rattle.lists.specs.Lists.{In}
 use Rattle.rules.specs.Kinds.{Mode, Name, on, Ask}
 use Rattle.rules.specs.Entries.{same, changed}
-use Rattle.rules.specs.Locks.{Slots, taken, target, itself}
-use Rattle.rules.specs.Runs.{Sy, locksShort, Ran, locked, taking, run}
+use Rattle.rules.specs.Locks.{target, itself}
+use Rattle.rules.specs.Runs.{Sy, locksShort}
 use Rattle.rules.specs.Good.{ascending}
 use Rattle.rules.proofs.Orders.{numbers-ordered}
 use Rattle.rules.proofs.Index.{atOrAbove}
 use Rattle.rules.proofs.Targets.{own-cover}
 use Rattle.rules.proofs.Did.{target-in, itself-is}
-use Rattle.trees.specs.Shapes.{shape}
-use Rattle.trees.proofs.Settling.{shape-same}
 use Rattle.entries.specs.declared.Key.{Key}
 use Rattle.entries.specs.declared.Entry as E
 use Rattle.entries.specs.declared.Says as D
 use Rattle.entries.specs.declared.Says.the-variants as DV
 use Rattle.entries.specs.Meaning.{bookEntry, bookSays}
-use Rattle.tables.specs.Layout.{transactionsMost, queued, inPlace, queuedAt, slotsOf, nameIn}
-use Rattle.tables.specs.Moves.{lockTaken, lockGiven, queueLeft}
+use Rattle.tables.specs.Layout.{transactionsMost, queued, inPlace, nameIn}
+use Rattle.tables.specs.Moves.{lockTaken, queueLeft}
 use Rattle.tables.proofs.Frames.{only-taken, queued-beside, place-beside}
 use Rattle.index.specs.declared.Found.{Found}
 use Rattle.index.specs.declared.Found.the-variants as FV
-use Rattle.index.specs.Pictures.{Item, keyOf, indexOf, entriesIn, WholePages}
+use Rattle.index.specs.Pictures.{Item, indexOf, entriesIn}
 use Rattle.index.specs.Searches.{bookFound}
 use Rattle.index.specs.Changes.{replaced, Becomes}
 use Rattle.index.proofs.Frame.{map-same}
-use Rattle.index.proofs.Entries.{entries-replaced}
+use Rattle.index.proofs.Entries.{entries-replaced, shape-replaced}
 use Rattle.desks.specs.States.{book, stateOf}
 use Rattle.whole.specs.Whole.{Whole}
 use Rattle.desks.specs.Fitting.{NameFits}
 use Rattle.desks.proofs.Values.{name-read}
-use Rattle.acts.specs.Acts as A
 use Rattle.acts.specs.Exchanges.{Exchanged}
-use Rattle.acts.proofs.Runs.{given-if, refused, granted}
+use Rattle.acts.proofs.Runs.{Done}
 use Rattle.acts.proofs.Looks.{target-fits}
 
--- ---- the entries, and their shape
+-- ---- the entries
 module _ (es : List Item) (h : ascending book es ≡ true) (e : Item) (i : In e es) where
   alone : (y : Item) → In y es → y .key ≡ e .key → y ≡ e
   alone y j k =
@@ -66,55 +63,19 @@ module _ (p p′ : List ℕ) where
       → Becomes p′ (replaced (f e) (indexOf p)) → entriesIn p′ ≡ changed book (e .key) f (entriesIn p)
   entries-changed h e i f g b = entries-replaced p p′ (f e) b ∙ exchanged-changed (entriesIn p) h e i f g
 
-  pub shape-replaced : (x : Item) → Becomes p′ (replaced x (indexOf p)) → shape keyOf (indexOf p′) ≡ shape keyOf (indexOf p)
-  unfolding replaced
-  shape-replaced x b =
-      ap (shape keyOf) (b .index)
-      ∙ shape-same keyOf (λ (y : Item). cond (eqb (y .key) (x .key)) x y) (λ y. go y (eqb (y .key) (x .key)) refl) (indexOf p)
-    where
-      go : (y : Item) (c : Bool) → eqb (y .key) (x .key) ≡ c → keyOf (cond c x y) ≡ keyOf y
-      go y true q = sym (eqb-true (y .key) (x .key) q)
-      go y false q = refl
-
--- ---- what is done with the lock
-pub record Done (p′ : List ℕ) (f : Slots book → Ran book) (x : D.Says) : Type 0 where
-  pub whole : WholePages p′
-  pub slots : (ks : Slots book) → f ks .slots ≡ ks
-  pub entries : (ks : Slots book) → entriesIn p′ ≡ f ks .entries
-  pub pages : (ks : Slots book) → shape keyOf (indexOf p′) ≡ f ks .pages
-  pub says : (ks : Slots book) → bookSays x ≡ f ks .says
-
-module _ (p d : List ℕ) (w : Whole p d) (m : Sy book) (x : D.Says) (h : bookSays x ≡ m) where
-  pub only-locked : Done p (locked book (stateOf p d) m) x
-  unfolding stateOf
-  only-locked = record { whole = w .pages; slots = λ ks. refl; entries = λ ks. refl; pages = λ ks. refl; says = λ ks. h }
-
-  pub one-changed : (p′ : List ℕ) (e : Item) → In e (entriesIn p) → (f : Item → Item) → f e .key ≡ e .key → Becomes p′ (replaced (f e) (indexOf p))
-      → Done p′ (λ ks. record { says = m; entries = changed book (e .key) f (stateOf p d .entries); pages = stateOf p d .pages; slots = ks }) x
-  unfolding stateOf
-  one-changed p′ e i f g b =
-      record {
-        whole = b .whole;
-        slots = λ ks. refl;
-        entries = λ ks. entries-changed p p′ (w .values .keys) e i f g b;
-        pages = λ ks. shape-replaced p p′ (f e) b;
-        says = λ ks. h;
-      }
-
--- ---- the run, by whether the lock is given
-module _ (p d : List ℕ) (w : Whole p d) (q : ℕ) (c : A.Clear p d q) (t : ℕ) (a : t ≡ inPlace d q) (n : Name ℕ) (m : Mode) (name : NameFits n)
-    (f : Slots book → Ran book) (goes : run book (stateOf p d) (queuedAt d q) ≡ taking book (stateOf p d) t n m f) where
-  pub acted : (p′ d₁ d₂ : List ℕ) (b : Bool) (x : D.Says) → d₁ ≡ lockTaken d t n m → b ≡ lockGiven d t n → d₂ ≡ queueLeft d₁ q
-      → (b ≡ true → Done p′ f x) → (b ≡ false → (p′ ≡ p) × (bookSays x ≡ locksShort)) → A.Ran p d p′ d₂ q (record { asker = t; says = x })
-  acted p′ d₁ d₂ b x e₁ g e₂ does short = go (taken book (slotsOf d) t n m) refl
-    where
-      go : (o : Option (Slots book)) → taken book (slotsOf d) t n m ≡ o → A.Ran p d p′ d₂ q (record { asker = t; says = x })
-      go none h =
-          let z = short (g ∙ given-if p d w q c t a n m name f goes d₁ d₂ e₁ e₂ none h) in
-          subst (λ s. A.Ran p d s d₂ q (record { asker = t; says = x })) (sym (z .0)) (refused p d w q c t a n m name f goes d₁ d₂ e₁ e₂ x h (z .1))
-      go (some ks) h =
-          let z = does (g ∙ given-if p d w q c t a n m name f goes d₁ d₂ e₁ e₂ (some ks) h) in
-          granted p d w q c t a n m name f goes d₁ d₂ e₁ e₂ ks p′ x h (z .whole) (z .slots ks) (z .entries ks) (z .pages ks) (z .says ks)
+-- ---- one entry changed under the lock
+pub one-changed : (p d : List ℕ) → Whole p d → (m : Sy book) (x : D.Says) → bookSays x ≡ m → (p′ : List ℕ) (e : Item) → In e (entriesIn p)
+    → (f : Item → Item) → f e .key ≡ e .key → Becomes p′ (replaced (f e) (indexOf p))
+    → Done p′ (λ ks. record { says = m; entries = changed book (e .key) f (stateOf p d .entries); pages = stateOf p d .pages; slots = ks }) x
+unfolding stateOf
+one-changed p d w m x h p′ e i f g b =
+    record {
+      whole = b .whole;
+      slots = λ ks. refl;
+      entries = λ ks. entries-changed p p′ (w .values .keys) e i f g b;
+      pages = λ ks. shape-replaced p p′ (f e) b;
+      says = λ ks. h;
+    }
 
 -- ---- the entry of the key, where the target is of that key
 module _ (p d : List ℕ) (w : Whole p d) (t : ℕ) (ask : Ask ℕ ℕ) (key : Key) (there : Found)

@@ -23,9 +23,9 @@ use Rattle.desks.specs.States.{book, stateOf}
 use Rattle.whole.specs.Whole.{Whole}
 use Rattle.acts.specs.Acts.{Clear, Ran}
 use Rattle.acts.specs.Exchanges.{Exchanged}
-use Rattle.acts.proofs.Runs.{looked}
+use Rattle.acts.proofs.Runs.{Done, only-locked, acted, looked}
 use Rattle.acts.proofs.Looks.{target-fits, target-name}
-use Rattle.acts.proofs.Changes.{Done, only-locked, one-changed, acted, stands-in, stands-fits, stands-name}
+use Rattle.acts.proofs.Changes.{one-changed, stands-in, stands-fits, stands-name}
 
 module _ (p d : List ℕ) (w : Whole p d) (q : ℕ) (c : Clear p d q) (key : Key) (k : queuedAt d q .asks ≡ delete (key .0)) (t : ℕ) (a : t ≡ inPlace d q)
     (found : Found) (f : bookFound found ≡ target book (entriesIn p) t (delete (key .0))) (there : Found)
@@ -48,8 +48,8 @@ module _ (p d : List ℕ) (w : Whole p d) (q : ℕ) (c : Clear p d q) (key : Key
       let n = named book (bookFound found) in
       let is : nameIn (name .0) ≡ n = target-name p d w t (delete (key .0)) found f name e in
       looked p d w q c t a n S (target-fits p d w t (delete (key .0)) found f) nothing
-      (goes ∙ ap (λ o. deleteAs book (stateOf p d) t n (bookFound o)) h) (lockTaken d t n S) d′ b x
-      refl (g ∙ ap (lockGiven d t) is) (e₁ ∙ ap (λ y. queueLeft (lockTaken d t y S) q) is) says
+      (goes ∙ ap (λ o. deleteAs book (stateOf p d) t n (bookFound o)) h) d′
+      (e₁ ∙ ap (λ y. queueLeft (lockTaken d t y S) q) is) b x (g ∙ ap (lockGiven d t) is) says
 
   -- the target is the entry of the key
   pub delete-there : (e : E.Entry) → there ≡ FV.Here e → (d′ : List ℕ) (b : Bool) → d′ ≡ queueLeft (lockTaken d t (nameIn (key .0)) X) q
@@ -62,8 +62,8 @@ module _ (p d : List ℕ) (w : Whole p d) (q : ℕ) (c : Clear p d q) (key : Key
       let n = stands-name p d w t ask key there at e h in
       acted p d w q c t a (on (e .key .0)) X (stands-fits p d w t ask key there at e h)
       (deleteThere book (stateOf p d) t (bookEntry e) (bookValue (e .now)))
-      (goes ∙ ap (λ o. deleteAs book (stateOf p d) t (named book (bookFound found)) (bookFound o)) h) p′ (lockTaken d t (on (e .key .0)) X) d′ b x
-      refl (g ∙ ap (lockGiven d t) n) (e₁ ∙ ap (λ u. queueLeft (lockTaken d t u X) q) n) (does (bookValue (e .now)) refl)
+      (goes ∙ ap (λ o. deleteAs book (stateOf p d) t (named book (bookFound found)) (bookFound o)) h) d′
+      (e₁ ∙ ap (λ u. queueLeft (lockTaken d t u X) q) n) p′ b x (g ∙ ap (lockGiven d t) n) (does (bookValue (e .now)) refl)
       (λ o. (ex .kept (ap (λ u. u && present (bookEntry e)) o), says ∙ ap (λ u. cond u (cond (present (bookEntry e)) done nothing) locksShort) o))
     where
       does : (o : Option ℕ) → bookValue (e .now) ≡ o → b ≡ true → Done p′ (deleteThere book (stateOf p d) t (bookEntry e) o) x

@@ -25,7 +25,8 @@ use Rattle.whole.specs.Whole.{Whole}
 use Rattle.acts.specs.Acts.{Clear, Ran}
 use Rattle.acts.specs.Exchanges.{Exchanged}
 use Rattle.acts.proofs.Missing.{is-missing}
-use Rattle.acts.proofs.Changes.{Done, only-locked, one-changed, acted, stands-in, stands-fits, stands-name}
+use Rattle.acts.proofs.Runs.{Done, only-locked, acted}
+use Rattle.acts.proofs.Changes.{one-changed, stands-in, stands-fits, stands-name}
 
 module _ (p d : List ℕ) (w : Whole p d) (q : ℕ) (c : Clear p d q) (key : Key) (rec : ℕ) (k : queuedAt d q .asks ≡ insert (key .0) rec) (t : ℕ)
     (a : t ≡ inPlace d q) (there : Found) (i : bookFound there ≡ itself book (key .0) (target book (entriesIn p) t (insert (key .0) rec))) where
@@ -48,8 +49,8 @@ module _ (p d : List ℕ) (w : Whole p d) (q : ℕ) (c : Clear p d q) (key : Key
       let n = stands-name p d w t ask key there i e h in
       acted p d w q c t a (on (e .key .0)) S (stands-fits p d w t ask key there i e h)
       (insertThere book (stateOf p d) t rec (bookEntry e) (bookValue (e .now)))
-      (goes ∙ ap (λ o. insertAs book (stateOf p d) t (key .0) rec (bookFound o)) h) p′ (lockTaken d t (on (e .key .0)) S) d′ b x
-      refl (g ∙ ap (lockGiven d t) n) (e₁ ∙ ap (λ u. queueLeft (lockTaken d t u S) q) n) (does (bookValue (e .now)) refl)
+      (goes ∙ ap (λ o. insertAs book (stateOf p d) t (key .0) rec (bookFound o)) h) d′
+      (e₁ ∙ ap (λ u. queueLeft (lockTaken d t u S) q) n) p′ b x (g ∙ ap (lockGiven d t) n) (does (bookValue (e .now)) refl)
       (λ o. (ex .kept (ap (λ u. u && ghost (bookEntry e)) o), says ∙ ap (λ u. told u (bookValue (e .now))) o))
     where
       told : Bool → Option ℕ → Sy book

@@ -1,21 +1,13 @@
 -- The run of a read: the lock on what it finds, and the answer by whether that lies within its bounds.
 -- The search is the rule book's target; a name read from bytes is that of an entry or the end. Assumes nothing.
 use Prim.Native.Nat.{ℕ}
-use mathlib.Core.Path.{_≡_, refl, sym, ap, ap₂, subst, _∙_}
+use mathlib.Core.Path.{_≡_, sym, ap, ap₂, subst, _∙_}
 use mathlib.Core.Bool.{Bool, true, false, cond}
 use mathlib.Core.List.{List}
-use mathlib.Core.Option.{Option, none, some}
-use borrow.Author.Tests.{ltb-true}
-use lib.Dec.{ltb, leb}
-use Rattle.lists.specs.Lists.{In, all, pairs}
-use Rattle.lists.proofs.Tests.{and-right}
-use Rattle.lists.proofs.Elements.{all-in}
+use lib.Dec.{leb}
 use Rattle.rules.specs.Kinds.{Entry, S, Ask, read}
 use Rattle.rules.specs.Locks.{target, named}
 use Rattle.rules.specs.Runs.{nothing, locksShort, locked, taking, readSays, runOn, run}
-use Rattle.rules.specs.Good.{ascending, below}
-use Rattle.rules.specs.Document.{endMark}
-use Rattle.rules.proofs.Did.{target-in}
 use Rattle.entries.specs.declared.Key.{Key}
 use Rattle.entries.specs.declared.Entry as E
 use Rattle.entries.specs.declared.Says as D
@@ -31,23 +23,15 @@ use Rattle.desks.specs.States.{book, stateOf}
 use Rattle.whole.specs.Whole.{Whole}
 use Rattle.desks.specs.Fitting.{NameFits}
 use Rattle.desks.proofs.Values.{name-read}
+use Rattle.waits.proofs.Wants.{named-fits}
 use Rattle.acts.specs.Acts.{Clear, Ran}
 use Rattle.acts.proofs.Runs.{looked}
 
 -- ---- a target's name is within its width
-name-fits : (es : List (Entry ℕ ℕ)) → ascending book es ≡ true → (o : Option (Entry ℕ ℕ)) → ((e : Entry ℕ ℕ) → o ≡ some e → In e es) → NameFits (named book o)
-unfolding ascending
-name-fits es h none i = tt
-name-fits es h (some e) i =
-    ltb-true (e .key) endMark
-    (all-in (λ x. ltb (x .key) endMark) es e (and-right (pairs (below book) es) (all (λ x. ltb (x .key) endMark) es) h) (i e refl))
-
 module _ (p d : List ℕ) (w : Whole p d) (t : ℕ) (ask : Ask ℕ ℕ) (found : Found) (f : bookFound found ≡ target book (entriesIn p) t ask) where
   pub target-fits : NameFits (named book (bookFound found))
   unfolding stateOf
-  target-fits =
-      subst (λ o. NameFits (named book o)) (sym f)
-      (name-fits (entriesIn p) (w .values .keys) (target book (entriesIn p) t ask) (target-in book (entriesIn p) t ask))
+  target-fits = subst (λ o. NameFits (named book o)) (sym f) (named-fits (entriesIn p) (w .values .keys) t ask)
 
   pub target-name : (name : Key) → name .0 ≡ nameNumber (named book (bookFound found)) → nameIn (name .0) ≡ named book (bookFound found)
   target-name name e = ap nameIn e ∙ name-read (named book (bookFound found)) target-fits
@@ -70,15 +54,15 @@ module _ (found : Found) (hi : Key) where
 -- ---- the read
 pub read-ran : (p d : List ℕ) (w : Whole p d) (q : ℕ) (c : Clear p d q) (lo hi : Key) → queuedAt d q .asks ≡ read (lo .0) (hi .0)
     → (t : ℕ) (a : t ≡ inPlace d q) (found : Found) → bookFound found ≡ target book (entriesIn p) t (read (lo .0) (hi .0))
-    → (name : Key) → name .0 ≡ nameNumber (named book (bookFound found)) → (d₁ d₂ : List ℕ) (b : Bool) → d₁ ≡ lockTaken d t (nameIn (name .0)) S
-    → b ≡ lockGiven d t (nameIn (name .0)) → d₂ ≡ queueLeft d₁ q → (x y : D.Says) → bookSays y ≡ readSays book (hi .0) (bookFound found) → bookSays x ≡ cond b (bookSays y) locksShort
-    → Ran p d p d₂ q (record { asker = t; says = x })
+    → (name : Key) → name .0 ≡ nameNumber (named book (bookFound found)) → (d′ : List ℕ) (b : Bool) → d′ ≡ queueLeft (lockTaken d t (nameIn (name .0)) S) q
+    → b ≡ lockGiven d t (nameIn (name .0)) → (x y : D.Says) → bookSays y ≡ readSays book (hi .0) (bookFound found) → bookSays x ≡ cond b (bookSays y) locksShort
+    → Ran p d p d′ q (record { asker = t; says = x })
 unfolding run runOn stateOf queuedAt
-read-ran p d w q c lo hi k t a found f name e d₁ d₂ b e₁ g e₂ x y tells says =
+read-ran p d w q c lo hi k t a found f name e d′ b e₁ g x y tells says =
     let n = named book (bookFound found) in
     let ask : Ask ℕ ℕ = read (lo .0) (hi .0) in
     let is : nameIn (name .0) ≡ n = target-name p d w t ask found f name e in
     let goes : run book (stateOf p d) (queuedAt d q) ≡ taking book (stateOf p d) t n S (locked book (stateOf p d) (readSays book (hi .0) (bookFound found))) =
     ap₂ (λ u y. runOn book (stateOf p d) u y (target book (entriesIn p) u y)) (sym a) k ∙ ap (runOn book (stateOf p d) t ask) (sym f) in
-    looked p d w q c t a n S (target-fits p d w t ask found f) (readSays book (hi .0) (bookFound found)) goes d₁ d₂ b x
-    (e₁ ∙ ap (λ y. lockTaken d t y S) is) (g ∙ ap (lockGiven d t) is) e₂ (says ∙ ap (λ z. cond b z locksShort) tells)
+    looked p d w q c t a n S (target-fits p d w t ask found f) (readSays book (hi .0) (bookFound found)) goes d′
+    (e₁ ∙ ap (λ y. queueLeft (lockTaken d t y S) q) is) b x (g ∙ ap (lockGiven d t) is) (says ∙ ap (λ z. cond b z locksShort) tells)

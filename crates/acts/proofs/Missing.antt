@@ -4,12 +4,12 @@ use Prim.Native.Nat.{ℕ, _≤_, _<_, compare}
 use mathlib.Core.Path.{_≡_, refl, sym, ap, ap₂, subst, _∙_}
 use mathlib.Core.Bool.{Bool, true, false, cond, not, true≢false}
 use mathlib.Core.List.{List}
-use mathlib.Core.Option.{Option, none, some}
+use mathlib.Core.Option.{Option, none, some, Option·none-ne-some}
 use borrow.Author.Tests.{lt-ltb, le-ltb}
-use lib.Dec.{ltb}
+use lib.Dec.{eqb, ltb}
 use Rattle.lists.specs.Lists.{first}
 use Rattle.lists.proofs.Tests.{fails, not-any}
-use Rattle.lists.proofs.Elements.{all-in, in-all, first-in}
+use Rattle.lists.proofs.Elements.{all-in, first-in}
 use Rattle.rules.specs.Kinds.{X, on, insert}
 use Rattle.rules.specs.Entries.{isThere, same, atMost, inserted, put}
 use Rattle.rules.specs.Locks.{Slots, holds, taken, target, itself}
@@ -17,7 +17,6 @@ use Rattle.rules.specs.Runs.{done, pagesShort, Ran, unmoved, taking, insertMiss
 use Rattle.rules.specs.Good.{isName}
 use Rattle.rules.specs.Document.{endMark}
 use Rattle.rules.proofs.Orders.{numbers-ordered}
-use Rattle.rules.proofs.Index as I
 use Rattle.rules.proofs.LockTable.{holds-held}
 use Rattle.rules.proofs.Unblocked.{good-sound}
 use Rattle.trees.specs.Trees.{documentSizes, flat}
@@ -35,7 +34,7 @@ use Rattle.index.specs.declared.Found.the-variants as FV
 use Rattle.index.specs.Searches.{bookFound}
 use Rattle.index.specs.Pictures.{Item, keyOf, indexOf, entriesIn}
 use Rattle.index.specs.Changes.{withEntry, entryFits, Becomes, Added}
-use Rattle.index.proofs.Entries.{entries-added, shape-added}
+use Rattle.index.proofs.Entries.{key-missing, entries-added, shape-added}
 use Rattle.desks.specs.States.{book, stateOf}
 use Rattle.desks.specs.Fitting.{AskFits}
 use Rattle.desks.proofs.Values.{name-read}
@@ -51,8 +50,10 @@ module _ (p d : List ℕ) (w : Whole p d) (k : ℕ) where
       → missing compare keyOf k (entriesIn p) ≡ true
   unfolding target stateOf
   is-missing t rec there i h =
-      in-all (λ e. not (same book (e .key) k)) (entriesIn p) (λ e j.
-      ap not (I.missing book numbers-ordered (entriesIn p) k (w .values .keys) (sym i ∙ ap bookFound h) e j))
+      key-missing p (w .pages) k (λ x e.
+      fails (eqb (x .key) k) (λ q.
+      let n = ap (itself book k) (sym e) ∙ sym i ∙ ap bookFound h in
+      Option·none-ne-some x (sym n ∙ ap (λ b. cond b (some x) none) q)))
 
   module _ (m : missing compare keyOf k (entriesIn p) ≡ true) where
     no-lock : (t : ℕ) → holds book (slotsOf d) t (on k) ≡ false
@@ -109,7 +110,7 @@ module _ (p d : List ℕ) (w : Whole p d) (q : ℕ) (c : A.Clear p d q) (k rec :
     -- the lock is given exactly where a slot is free
     free-if : (o : Option (Slots book)) → taken book (slotsOf d) t (on k) X ≡ o → ltb (freeIn d) locksMost ≡ isThere o
     free-if o h =
-        sym (slot-needed p d w k m t) ∙ given-if p d w q c t a (on k) X key-fits act goes withLock (queueLeft withLock q) refl refl o h
+        sym (slot-needed p d w k m t) ∙ given-if p d w q c t a (on k) X key-fits o h
 
     -- 17: no slot is free
     pub locks-short : (free : ℕ) (d₁ : List ℕ) → free ≡ freeIn d → locksMost ≤ free → d₁ ≡ queueLeft d q
@@ -123,7 +124,7 @@ module _ (p d : List ℕ) (w : Whole p d) (q : ℕ) (c : A.Clear p d q) (k rec :
         same-desk = sym (refused-same d t (on k) X (slot-needed p d w k m t ∙ none-free))
 
         go : (o : Option (Slots book)) → taken book (slotsOf d) t (on k) X ≡ o → A.Ran p d p d₁ q (record { asker = t; says = S.LocksShort })
-        go none h = refused p d w q c t a (on k) X key-fits act goes d d₁ same-desk e S.LocksShort h refl
+        go none h = refused p d w q c t a (on k) X key-fits act goes d₁ (e ∙ ap (λ x. queueLeft x q) same-desk) S.LocksShort h refl
         go (some ks) h = absurd (true≢false (sym (free-if (some ks) h) ∙ none-free))
 
     -- a slot is free: the lock can be had, and the rest goes by the pages
@@ -160,7 +161,7 @@ module _ (p d : List ℕ) (w : Whole p d) (q : ℕ) (c : A.Clear p d q) (k rec :
           with-slots (λ ks h.
           let x = becomes false short in
           let r : run book (stateOf p d) (queuedAt d q) ≡ unmoved book (stateOf p d) pagesShort =
-          goes-if p d w q c t a (on k) X key-fits act goes withLock (queueLeft withLock q) refl refl (some ks) h ∙ comes-to false short ks in
+          goes-if p d q t (on k) X act goes (some ks) h ∙ comes-to false short ks in
           record {
             says = ran-says p d w q c p′ (x .whole) (unmoved book (stateOf p d) pagesShort) r (ap (λ i. flat ℕ Item (i .level) (i .tree)) (x .index))
                 (ap (shape keyOf) (x .index)) (whole-fits p d w) d d₁ (w .desk) l;
@@ -168,14 +169,13 @@ module _ (p d : List ℕ) (w : Whole p d) (q : ℕ) (c : A.Clear p d q) (k rec :
           })
 
       -- done: the entry is put in, and the lock is taken
-      pub put-in : (d₁ d₂ : List ℕ) → b ≡ true → d₁ ≡ lockTaken d t (nameIn k) X → d₂ ≡ queueLeft d₁ q
-          → A.Ran p d p′ d₂ q (record { asker = t; says = S.Done })
+      pub put-in : (d₁ : List ℕ) → b ≡ true → d₁ ≡ queueLeft (lockTaken d t (nameIn k) X) q → A.Ran p d p′ d₁ q (record { asker = t; says = S.Done })
       unfolding put
-      put-in d₁ d₂ room e₁ e₂ =
+      put-in d₁ room l =
           with-slots (λ ks h.
           let x = becomes true room in
           let r = sym (comes-to true room ks) in
-          granted p d w q c t a (on k) X key-fits act goes d₁ d₂ (e₁ ∙ ap (λ n. lockTaken d t n X) (name-read (on k) key-fits)) e₂ ks p′ S.Done h (x .whole)
+          granted p d w q c t a (on k) X key-fits act goes d₁ (l ∙ ap (λ n. queueLeft (lockTaken d t n X) q) (name-read (on k) key-fits)) ks p′ S.Done h (x .whole)
           (ap (λ (y : Ran book). y .slots) (sym r))
           (entries-added p p′ (inserted t k rec) (w .pages) key-fits x ∙ ap (λ (y : Ran book). y .entries) r)
           (shape-added p p′ (inserted t k rec) x ∙ ap (λ (y : Ran book). y .pages) r)

@@ -38,8 +38,7 @@ fn put_missing(pages: &mut [u8], desk: &mut [u8], q: usize, key: Key, rec: u32) 
 {
     let t = queue::in_place(desk, q);
     if index::add(pages, Entry::inserted(t, key, rec)) {
-        locks::take_lock(desk, t, key, Mode::X);
-        queue::leave_queue(desk, q);
+        lock_and_leave(desk, q, t, key, Mode::X);
         return Answer {
             asker: t,
             says: Says::Done,

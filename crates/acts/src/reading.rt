@@ -9,13 +9,13 @@ ghost use Rattle.index.specs.Searches.{bookFound};
 ghost use Rattle.desks.specs.States.{book};
 ghost use Rattle.whole.specs.Whole.{Whole};
 ghost use Rattle.acts.specs.Acts.{Clear, Ran};
+use super::locking::lock_and_leave;
 use entries::Answer;
 use entries::Ask;
 use entries::Key;
 use entries::Says;
 use index::Found;
 use tables::Mode;
-use tables::locks;
 use tables::queue;
 use waits::targets;
 
@@ -52,8 +52,7 @@ pub fn run_read(pages: &[u8], desk: &mut [u8], q: usize, lo: Key, hi: Key) -> An
     let t = queue::in_place(desk, q);
     let found = targets::target_of(pages, t, Ask::Read(lo, hi));
     let name = targets::name_of(found);
-    let given = locks::take_lock(desk, t, name, Mode::S);
-    queue::leave_queue(desk, q);
+    let given = lock_and_leave(desk, q, t, name, Mode::S);
     let says = unless_short(given, read_says(found, hi));
     Answer {
         asker: t,

@@ -2,7 +2,7 @@
 -- A request's set goes to a place that no earlier one has, so that it adds its own link and no other. Assumes nothing.
 use Prim.Native.Nat.{ℕ, zero, suc, _≤_, _<_}
 use mathlib.Core.Path.{_≡_, refl, sym, ap, _∙_}
-use mathlib.Core.Bool.{Bool, true, false, _&&_, _||_, or-comm, or-false}
+use mathlib.Core.Bool.{Bool, true, false, _&&_, _||_, or-false}
 use mathlib.Core.List.{List, [], _∷_, _++_, append-assoc, append-nil}
 use borrow.Author.Tests.{eqb-true, eqb-false, not-true}
 use lib.Dec.{eqb}
@@ -26,11 +26,6 @@ use Rattle.circles.proofs.Known.{requests}
 pub set-none : SetOf 0 []
 unfolding any
 set-none = record { just = has-none }
-
-pub with-first : (m t : ℕ) (us : List ℕ) → 1 ≤ t → SetOf m us → SetOf (withOne m t) (t ∷ us)
-unfolding any
-with-first m t us h s =
-    record { just = λ u. has-with m t u h ∙ ap (λ b. b || eqb t u) (s .just u) ∙ or-comm (member u us) (eqb t u) }
 
 pub with-last : (m t : ℕ) (us : List ℕ) → 1 ≤ t → SetOf m us → SetOf (withOne m t) (us ++ (t ∷ []))
 unfolding any

@@ -34,11 +34,11 @@ use Rattle.whole.specs.Whole.{Whole}
 use Rattle.acts.specs.Acts.{Says}
 use Rattle.acts.proofs.Tables.{whole-few}
 use Rattle.acts.proofs.Moves.{is-transaction, begin-says, join-room, join-says}
+use Rattle.turns.specs.Working.{Wrote, workedOf}
+use Rattle.calls.specs.Promise.{Answered, lent}
 use Rattle.desk.specs.declared.Refusal.{Refusal}
 use Rattle.desk.specs.declared.Refusal.the-variants.{By, Nothing}
-use Rattle.desk.specs.Promise.{Answered}
-use Rattle.desk.specs.Calls.{lent}
-use Rattle.desk.specs.Working.{Wrote, workedOf, lastOf, LastFits, RoomFor, bookRefusal}
+use Rattle.desk.specs.Answering.{lastOf, LastFits, RoomFor, bookRefusal}
 use Rattle.desk.proofs.Refusals.{waits-is}
 
 -- ---- done first, and then the queue

@@ -1,12 +1,4 @@
-pub mod Determined
-pub mod Runs
-pub mod Bytes
-pub mod Table
-pub mod Overs
-pub mod Idle
 pub mod Refusals
-pub mod Turns
-pub mod Works
 pub mod Asked
 pub mod Answers
 pub mod Serves

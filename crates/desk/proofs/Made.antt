@@ -20,7 +20,7 @@ use Rattle.desks.proofs.Fresh.{fresh-desk}
 use Rattle.whole.specs.Whole.{Whole}
 use Rattle.whole.specs.Fresh.{freshDesk}
 use Rattle.whole.proofs.Fresh.{fresh-whole, fresh-says}
-use Rattle.desk.specs.Promise.{wrongPicture, returned, Freshened, sizes, made}
+use Rattle.calls.specs.Promise.{wrongPicture, returned, Freshened, sizes, made}
 
 set-zero : (s : List ℕ) (i : ℕ) → getD s i 0 ≡ 0 → set s i 0 ≡ s
 set-zero [] i h = refl

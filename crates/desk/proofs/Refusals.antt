@@ -19,7 +19,7 @@ use Rattle.desks.proofs.Reading.{desk-waiting}
 use Rattle.whole.specs.Whole.{Whole}
 use Rattle.acts.proofs.Tables.{whole-fits}
 use Rattle.desk.specs.declared.Refusal.{Refusal}
-use Rattle.desk.specs.Working.{bookRefusal}
+use Rattle.desk.specs.Answering.{bookRefusal}
 
 -- ---- by what is known of the transaction
 module _ (b : Bool) where

@@ -17,8 +17,7 @@ use Rattle.entries.proofs.Requests.{neither}
 use Rattle.entries.proofs.Number12.{heard-legal}
 use Rattle.desks.specs.States.{book}
 use Rattle.whole.specs.Whole.{Whole, Judged}
-use Rattle.desk.specs.Promise.{wrongPicture, shortSpace, wrongSizes, returned, Answered, Served, sizes, broken, bad, good}
-use Rattle.desk.specs.Calls.{lent}
+use Rattle.calls.specs.Promise.{wrongPicture, shortSpace, wrongSizes, returned, Answered, Served, sizes, broken, bad, good, lent}
 
 -- ---- the sizes
 module _ (p d : List ℕ) (h : wrongPicture p d ≡ false) where

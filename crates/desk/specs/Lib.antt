@@ -1,5 +1,1 @@
-pub mod Promise
-pub mod Calls
-pub mod Idle
-pub mod Overs
-pub mod Working
+pub mod Answering

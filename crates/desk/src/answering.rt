@@ -10,13 +10,12 @@ ghost use Rattle.pages.specs.Rows.{endOf};
 ghost use Rattle.tables.specs.Layout.{transactionsMost};
 ghost use Rattle.desks.specs.States.{book, stateOf};
 ghost use Rattle.whole.specs.Whole.{Whole};
-ghost use Rattle.desk.specs.Promise.{Answered};
-ghost use Rattle.desk.specs.Calls.{lent};
-ghost use Rattle.desk.specs.Working.{LastFits, RoomFor, Wrote, lastOf, workedOf};
+ghost use Rattle.calls.specs.Promise.{Answered, lent};
+ghost use Rattle.turns.specs.Working.{Wrote, workedOf};
+ghost use Rattle.desk.specs.Answering.{LastFits, RoomFor, lastOf};
 use super::Refusal;
 use super::joining;
 use super::refusing;
-use super::working;
 use entries::Answer;
 use entries::Ask;
 use entries::Call;
@@ -41,7 +40,7 @@ fn done_first(pages: &mut [u8], desk: &mut [u8], answers: &mut [u8], t: u16) -> 
             says: Says::Done,
         },
     );
-    working::work(pages, desk, answers, 20)
+    turns::work(pages, desk, answers, 20)
 }
 
 // t, which does not run, begins.
@@ -99,7 +98,7 @@ fn work_for(pages: &mut [u8], desk: &mut [u8], answers: &mut [u8], t: u16) -> us
     requires { ⌜ RoomFor (now pages) (now desk) t (now answers) ⌝ }
     ensures { λ r. ⌜ Wrote (now (answers .entry)) 0 (waitingLast book t (workedOf (now (pages .entry)) (now (desk .entry)))) (now (pages .exit)) (now (desk .exit)) (now (answers .exit)) r ⌝ }
 {
-    let end = working::work(pages, desk, answers, 0);
+    let end = turns::work(pages, desk, answers, 0);
     say_waiting(pages, desk, answers, t, end)
 }
 

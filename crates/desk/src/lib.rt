@@ -3,26 +3,16 @@ mod answering;
 mod fresh;
 mod joining;
 mod refusing;
-mod working;
 
-ghost use Rattle.desk.specs.Promise.{Freshened, Served};
-ghost use Rattle.desk.specs.Calls.{lent};
+ghost use Rattle.calls.specs.Promise.{Freshened, Served, lent};
 pub use answering::answer;
-use entries::Answer;
 use entries::Heard;
 use entries::Says;
-pub use working::work;
 
 // What stands against a request, 13 to 15, or nothing.
 pub enum Refusal {
     By(Says),
     Nothing,
-}
-
-// What a turn of the queue brought: an answer, or the desk is at rest.
-pub enum Turned {
-    Said(Answer),
-    Rest,
 }
 
 // The number that a call returns with no answer: 10 to 12, in the upper half.

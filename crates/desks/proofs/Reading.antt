@@ -124,6 +124,3 @@ module _ (ls : List (Option (Lock ℕ))) (qs : List (Queued ℕ ℕ)) (ms : List
 
   pub desk-waiting : (t : ℕ) → 1 ≤ t → t ≤ transactionsMost → isWaiting (deskWith ls qs ms) t ≡ any (λ q. eqb (q .asker) t) qs
   desk-waiting = says-waiting fit (desk-says ls qs ms fit)
-
-  pub desk-order : InOrder (deskWith ls qs ms)
-  desk-order = says-order fit (desk-says ls qs ms fit)

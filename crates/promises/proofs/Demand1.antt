@@ -14,9 +14,9 @@ use Rattle.entries.specs.Records.{heard}
 use Rattle.entries.proofs.Written.{length-written, written-rest}
 use Rattle.desks.specs.States.{stateOf}
 use Rattle.whole.specs.Whole.{Whole}
-use Rattle.desk.specs.Promise.{Lent, wrongSizes, returned, stepOf, Answered, Served}
-use Rattle.desk.proofs.Determined.{served-ten, served-eleven, served-twelve}
-use Rattle.desk.proofs.Runs.{few-bytes}
+use Rattle.calls.specs.Promise.{Lent, wrongSizes, returned, stepOf, Answered, Served}
+use Rattle.calls.proofs.Determined.{served-ten, served-eleven, served-twelve}
+use Rattle.calls.proofs.Runs.{few-bytes}
 use Rattle.promises.specs.Demand1.{Demand1}
 
 module _ (q : List ℕ) (x y : Lent) (r : ℕ) where

@@ -23,10 +23,10 @@ use Rattle.rules.proofs.GoodKept.{step-good, fresh-good}
 use Rattle.entries.specs.Records.{heard}
 use Rattle.entries.proofs.Number12.{heard-legal}
 use Rattle.desks.specs.States.{book, stateOf}
-use Rattle.desk.specs.Promise.{shortSpace}
-use Rattle.desk.specs.Calls.{Sent, callIn, with, callsIn, refuses, backIf, backOf, onward, backsFrom, wrote, bytesOf}
-use Rattle.desk.proofs.Bytes.{refusal-wrote, answers-wrote}
-use Rattle.desk.proofs.Runs.{legal-called, run-from-fresh, few-bytes, never-eleven}
+use Rattle.calls.specs.Promise.{shortSpace}
+use Rattle.calls.specs.Calls.{Sent, callIn, with, callsIn, refuses, backIf, backOf, onward, backsFrom, wrote, bytesOf}
+use Rattle.calls.proofs.Bytes.{refusal-wrote, answers-wrote}
+use Rattle.calls.proofs.Runs.{legal-called, run-from-fresh, few-bytes, never-eleven}
 use Rattle.promises.specs.Story.{given, story, Seamless}
 use Rattle.promises.specs.OnBytes.{Demand3OnBytes}
 use Rattle.promises.proofs.Faithful.{faithful}

@@ -8,7 +8,7 @@ use mathlib.Core.Option.{none}
 use lib.ListN.{length, drop}
 use Rattle.entries.specs.Records.{heard}
 use Rattle.whole.specs.Whole.{Whole}
-use Rattle.desk.specs.Promise.{Lent, wrongSizes, returned}
+use Rattle.calls.specs.Promise.{Lent, wrongSizes, returned}
 
 -- a call with request q, lent x, that left y and returned r
 pub record Demand1 (q : List ℕ) (x y : Lent) (r : ℕ) : Type 0 where

@@ -7,8 +7,8 @@ use mathlib.Core.Option.{none, some}
 use Rattle.rules.specs.Kinds.{X, on, commit}
 use Rattle.rules.specs.Runs.{found, nothing, waiting, done}
 use Rattle.rules.specs.Document.{endless}
-use Rattle.desk.specs.Calls.{Sent, Back}
-use Rattle.desk.specs.Overs.{Bowled, Holds}
+use Rattle.calls.specs.Calls.{Sent, Back}
+use Rattle.cases.specs.Overs.{Bowled, Holds}
 use Rattle.rules.specs.Cases.{Over, Case, over, to, only, begins, reads, inserts, row, settling, lock, settledAs, entry, left, played, stated}
 
 -- "made of an upper half (pupil) and a lower half (delivery)"

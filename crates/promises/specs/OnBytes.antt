@@ -14,8 +14,8 @@ use Rattle.tables.specs.Layout.{slotsOf}
 use Rattle.index.specs.Pictures.{entriesIn}
 use Rattle.desks.specs.States.{book, stateOf}
 use Rattle.whole.specs.Whole.{Whole}
-use Rattle.desk.specs.Promise.{returned}
-use Rattle.desk.specs.Calls.{Sent, Back, FromFresh, callsIn, backsFrom, wrote, bytesOf}
+use Rattle.calls.specs.Promise.{returned}
+use Rattle.calls.specs.Calls.{Sent, Back, FromFresh, callsIn, backsFrom, wrote, bytesOf}
 use Rattle.promises.specs.Story.{story, answerOf, Seamless}
 use Rattle.promises.specs.Demand3.{Demand3}
 

@@ -4,25 +4,22 @@ use Prim.Native.Nat.{ℕ, _<_, compare}
 use mathlib.Core.Path.{_≡_, refl, sym, ap, subst, fun-ext, _∙_}
 use mathlib.Core.Bool.{Bool, true, false, not, _&&_, _||_, false≢true}
 use mathlib.Core.List.{List}
-use mathlib.Core.Option.{some, Option·none-ne-some, Option·some-injective}
+use mathlib.Core.Option.{Option·none-ne-some, Option·some-injective}
 use borrow.Author.Tests.{not-false, ltb-true}
 use lib.Dec.{leb, eqb, ltb}
 use lib.ListN.{length}
-use Rattle.lists.specs.Lists.{first, pairs}
+use Rattle.lists.specs.Lists.{first}
 use Rattle.numbers.specs.Numbers.{Bytes}
-use Rattle.rules.proofs.Orders.{numbers-ordered}
 use Rattle.rules.specs.Document.{endMark}
 use Rattle.entries.specs.Meaning.{bookEntry}
 use Rattle.entries.specs.declared.Entry as E
 use Rattle.entries.specs.declared.Key.{Key}
 use Rattle.trees.specs.Growth.{missing}
-use Rattle.trees.proofs.Order.{flat-sorted}
-use Rattle.trees.proofs.Searches.{first-missing}
-use Rattle.trees.proofs.Sorted.{ascends}
 use Rattle.index.specs.declared.Found.{Found}
 use Rattle.index.specs.declared.Found.the-variants.{Here, Nothing}
-use Rattle.index.specs.Pictures.{Item, keyOf, indexOf, entriesIn, WholePages}
+use Rattle.index.specs.Pictures.{Item, keyOf, entriesIn, WholePages}
 use Rattle.index.specs.Searches.{seeks, bookFound}
+use Rattle.index.proofs.Entries.{key-missing}
 use Rattle.whole_pages.specs.Walks.{pagesOk}
 use Rattle.whole_pages.proofs.Pages.{pages-sound}
 use Rattle.shelves.specs.Judging.{Held, Sees}
@@ -47,25 +44,18 @@ any-sought k x = go (leb (k .0) (x .key)) (leb (x .key) (k .0))
     go true false = refl
     go false b = refl
 
-ascending : (s : List ℕ) → WholePages s → pairs (ascends compare keyOf) (entriesIn s) ≡ true
-unfolding entriesIn
-ascending s w = flat-sorted numbers-ordered keyOf 0 (indexOf s .level) 0 (some endMark) (indexOf s .tree) (w .index .keys) .order
-
 module _ (s : List ℕ) (k : Key) (w : WholePages s) (f : Found) (e : bookFound f ≡ first (seeks (record { lo = k; hi = k; asker = 0 })) (entriesIn s)) where
   found : first (λ (x : Item). leb (k .0) (x .key)) (entriesIn s) ≡ bookFound f
   found = sym (e ∙ ap (λ p. first p (entriesIn s)) (fun-ext (any-sought k)))
 
   pub none-there : f ≡ Nothing → Sees s (k .0) false
   none-there n =
-      record {
-        absent = λ t. first-missing numbers-ordered keyOf 0 (k .0) (entriesIn s) (ascending s w)
-            (λ y o. absurd (Option·none-ne-some y (sym (ap bookFound n) ∙ sym found ∙ o)));
-      }
+      record { absent = λ t. key-missing s w (k .0) (λ y o. absurd (Option·none-ne-some y (sym (ap bookFound n) ∙ sym found ∙ o))) }
 
   pub one-there : (x : E.Entry) (r : Bool) → f ≡ Here x → r ≡ eqb (x .key .0) (k .0) → Sees s (k .0) r
   one-there x r n o =
       record {
-        absent = λ t. first-missing numbers-ordered keyOf 0 (k .0) (entriesIn s) (ascending s w)
+        absent = λ t. key-missing s w (k .0)
             (λ y q. subst (λ z. eqb (z .key) (k .0) ≡ false) (Option·some-injective (bookEntry x) y (sym (ap bookFound n) ∙ sym found ∙ q)) (sym o ∙ t));
       }
 

@@ -1,6 +1,6 @@
 -- What a request wants: the search for its target is the rule book's, and so are the name and the mode that the code makes of it.
 -- A search for nobody skips no ghost, one for a transaction only its own; a key of the index is never the end mark.
-use Prim.Native.Nat.{ℕ, _≤_, _<_}
+use Prim.Native.Nat.{ℕ, _≤_}
 use mathlib.Core.Path.{_≡_, refl, sym, ap, ap₂, _∙_}
 use mathlib.Core.Bool.{Bool, true, false, cond, not, _&&_, _||_}
 use mathlib.Core.List.{List, [], _∷_}
@@ -8,14 +8,15 @@ use mathlib.Core.Option.{Option, none, some}
 use native.Mathlib.Omega.{arith}
 use borrow.Author.Tests.{ne-eqb, ltb-true}
 use lib.Dec.{leb, eqb, ltb}
-use Rattle.lists.specs.Lists.{In, all, first, pairs}
+use Rattle.lists.specs.Lists.{all, first, pairs}
 use Rattle.lists.proofs.Tests.{and-right}
-use Rattle.lists.proofs.Elements.{all-in, first-in}
-use Rattle.rules.specs.Kinds.{Entry, S, X, on, end, Ask, read, insert, delete}
+use Rattle.lists.proofs.Elements.{all-in}
+use Rattle.rules.specs.Kinds.{Entry, S, X, Ask}
 use Rattle.rules.specs.Entries.{ghost}
 use Rattle.rules.specs.Locks.{target, named, itself, modeIf, mode, wanted}
 use Rattle.rules.specs.Good.{ascending, below}
 use Rattle.rules.specs.Document.{endMark}
+use Rattle.rules.proofs.Did.{target-in}
 use Rattle.entries.specs.declared.Key.{Key}
 use Rattle.entries.specs.declared.Entry as E
 use Rattle.entries.specs.declared.Ask as A
@@ -27,6 +28,8 @@ use Rattle.index.specs.declared.Found.{Found}
 use Rattle.index.specs.declared.Found.the-variants.{Here}
 use Rattle.index.specs.Searches.{seeks, bookFound}
 use Rattle.desks.specs.States.{book}
+use Rattle.desks.specs.Fitting.{NameFits}
+use Rattle.desks.proofs.Values.{name-read}
 use Rattle.waits.specs.declared.Want.{Want}
 use Rattle.waits.specs.Choices.{bookWant}
 
@@ -90,24 +93,16 @@ module _ (ask : A.Ask) (x : Option (Entry ℕ ℕ)) where
   unfolding mode
   delete-mode key m e h = rw e h
 
--- ---- the name: a key of the index is below the end mark
-name-there : (n : ℕ) → n < endMark → nameIn n ≡ on n
-name-there n h = ap (λ b. cond b end (on n)) (ne-eqb n endMark (λ e. omega arith))
-
-target-in : (es : List (Entry ℕ ℕ)) (t : ℕ) (a : Ask ℕ ℕ) (e : Entry ℕ ℕ) → target book es t a ≡ some e → In e es
-unfolding target
-target-in es t (read lo hi) e h = first-in _ es e h .0
-target-in es t (insert k r) e h = first-in _ es e h .0
-target-in es t (delete k) e h = first-in _ es e h .0
-
-named-back : (es : List (Entry ℕ ℕ)) → ascending book es ≡ true → (o : Option (Entry ℕ ℕ)) → ((e : Entry ℕ ℕ) → o ≡ some e → In e es)
-    → nameIn (nameNumber (named book o)) ≡ named book o
+-- ---- the name is within its width: a key of the index is below the end mark
+pub named-fits : (es : List (Entry ℕ ℕ)) → ascending book es ≡ true → (t : ℕ) (a : Ask ℕ ℕ) → NameFits (named book (target book es t a))
 unfolding ascending
-named-back es h none i = refl
-named-back es h (some e) i =
-    name-there (e .key)
-    (ltb-true (e .key) endMark
-    (all-in (λ x. ltb (x .key) endMark) es e (and-right (pairs (below book) es) (all (λ x. ltb (x .key) endMark) es) h) (i e refl)))
+named-fits es h t a = go (target book es t a) refl
+  where
+    go : (o : Option (Entry ℕ ℕ)) → target book es t a ≡ o → NameFits (named book o)
+    go none e = tt
+    go (some x) e =
+        ltb-true (x .key) endMark
+        (all-in (λ y. ltb (y .key) endMark) es x (and-right (pairs (below book) es) (all (λ y. ltb (y .key) endMark) es) h) (target-in book es t a x e))
 
 pub want-is : (es : List (Entry ℕ ℕ)) (t : ℕ) (ask : A.Ask) (found : Found) (w : Want) → ascending book es ≡ true
     → bookFound found ≡ target book es t (bookAsk ask) → w .name .0 ≡ nameNumber (named book (bookFound found))
@@ -117,7 +112,7 @@ unfolding wanted
 want-is es t ask found w h e n m =
     let x = target book es t (bookAsk ask) in
     ap₂ (λ a b. record { name = a; mode = b })
-    (ap nameIn n ∙ ap (λ o. nameIn (nameNumber (named book o))) e ∙ named-back es h x (target-in es t (bookAsk ask)))
+    (ap nameIn n ∙ ap (λ o. nameIn (nameNumber (named book o))) e ∙ name-read (named book x) (named-fits es h t (bookAsk ask)))
     (m ∙ ap (mode book (bookAsk ask)) e)
 
 -- ---- the request at a place of the queue

@@ -2,7 +2,7 @@
 -- Assumes nothing.
 use borrow.Author.Needs.{needs}
 use Rattle.acts.proofs.Tables.{whole-few}
-use Rattle.acts.proofs.Runs.{clear-place, clear-high, taken-inside, taken-few, taken-asker}
+use Rattle.acts.proofs.Runs.{clear-place, clear-high}
 use Rattle.acts.proofs.Missing.{entry-fits, entry-missing, pages-short, put-in}
 use Rattle.acts.proofs.inserting.put_missing.Statement.{statement}
 use Rattle.acts.proofs.inserting.put_missing.Tie as tie
@@ -16,11 +16,8 @@ inserted-requires c κs = search needs
 add-requires : tie.Need-add-requires
 add-requires c κs = (search needs, (search (needs, entry-fits), search (needs, entry-missing)))
 
-take-lock-requires : tie.Need-take-lock-requires
-take-lock-requires c κs = search needs
-
-leave-queue-requires : tie.Need-leave-queue-requires
-leave-queue-requires c κs = (search needs, (search (needs, taken-inside), (search (needs, taken-few), search (needs, taken-asker))))
+lock-and-leave-requires : tie.Need-lock-and-leave-requires
+lock-and-leave-requires c κs = (search needs, (search needs, (search (needs, whole-few), search (needs, clear-high))))
 
 same-length : tie.Need-same-length
 same-length c = search needs
@@ -31,8 +28,8 @@ same-length-2 c = search needs
 returns : tie.Need-returns
 returns c = search (needs, put-in)
 
-leave-queue-requires-2 : tie.Need-leave-queue-requires-2
-leave-queue-requires-2 c κs = (search needs, (search needs, (search (needs, whole-few), search (needs, clear-high))))
+leave-queue-requires : tie.Need-leave-queue-requires
+leave-queue-requires c κs = (search needs, (search needs, (search (needs, whole-few), search (needs, clear-high))))
 
 same-length-3 : tie.Need-same-length-3
 same-length-3 c = search needs
@@ -50,12 +47,11 @@ put-missing-spec =
     in-place-requires
     inserted-requires
     add-requires
-    take-lock-requires
-    leave-queue-requires
+    lock-and-leave-requires
     same-length
     same-length-2
     returns
-    leave-queue-requires-2
+    leave-queue-requires
     same-length-3
     same-length-4
     returns-2)

@@ -1,7 +1,8 @@
--- `acts::reading::run_read` meets its contract: the queue stands as it did when the lock has been taken.
+-- `acts::reading::run_read` meets its contract: what is said goes by the target and by whether the lock is given.
 -- Assumes nothing.
 use borrow.Author.Needs.{needs}
-use Rattle.acts.proofs.Runs.{clear-place, clear-low, taken-inside, taken-few, taken-asker}
+use Rattle.acts.proofs.Tables.{whole-few}
+use Rattle.acts.proofs.Runs.{clear-place, clear-low, clear-high}
 use Rattle.acts.proofs.Looks.{read-ran}
 use Rattle.acts.proofs.reading.run_read.Statement.{statement}
 use Rattle.acts.proofs.reading.run_read.Tie as tie
@@ -15,11 +16,8 @@ target-of-requires c κs = search (needs, clear-low)
 name-of-requires : tie.Need-name-of-requires
 name-of-requires c κs = search needs
 
-take-lock-requires : tie.Need-take-lock-requires
-take-lock-requires c κs = search needs
-
-leave-queue-requires : tie.Need-leave-queue-requires
-leave-queue-requires c κs = (search needs, (search (needs, taken-inside), (search (needs, taken-few), search (needs, taken-asker))))
+lock-and-leave-requires : tie.Need-lock-and-leave-requires
+lock-and-leave-requires c κs = (search needs, (search needs, (search (needs, whole-few), search (needs, clear-high))))
 
 read-says-requires : tie.Need-read-says-requires
 read-says-requires c κs = search needs
@@ -40,8 +38,7 @@ run-read-spec =
     in-place-requires
     target-of-requires
     name-of-requires
-    take-lock-requires
-    leave-queue-requires
+    lock-and-leave-requires
     read-says-requires
     unless-short-requires
     same-length

@@ -1,0 +1,4 @@
+pub mod Computing
+pub mod Table
+pub mod Overs
+pub mod Idle

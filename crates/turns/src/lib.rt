@@ -1,0 +1,76 @@
+// The queue worked to rest, turn by turn. (Document 01, "Working the queue".)
+ghost use mathlib.Core.Path.{_≡_};
+ghost use Prim.Native.Nat.{_+_, _*_, _<_, _≤_};
+ghost use mathlib.Core.Option.{none};
+ghost use lib.ListN.{length};
+ghost use Rattle.rules.specs.Queue.{oldest};
+ghost use Rattle.tables.specs.Layout.{queued};
+ghost use Rattle.desks.specs.States.{book, stateOf};
+ghost use Rattle.whole.specs.Whole.{Whole};
+ghost use Rattle.turns.specs.Working.{GaveWay, Turns, Wrote, workedOf};
+use entries::Answer;
+use entries::Says;
+use tables::queue;
+use waits::Place;
+
+// What a turn of the queue brought: an answer, or the desk is at rest.
+pub enum Turned {
+    Said(Answer),
+    Rest,
+}
+
+// The request at place q of the queue gives way: it leaves, with answer 19.
+fn give_way(pages: &[u8], desk: &mut [u8], q: usize) -> Answer
+    requires { ⌜ Whole (now pages) (now desk) ⌝ }
+    requires { ⌜ q < queued (now desk) ⌝ }
+    ensures { λ r. ⌜ GaveWay (now (pages .entry)) (now (desk .entry)) (now (desk .exit)) q r ⌝ }
+{
+    let t = queue::in_place(desk, q);
+    queue::leave_queue(desk, q);
+    Answer {
+        asker: t,
+        says: Says::Circle,
+    }
+}
+
+// A turn where nobody can run: the newest request that lies on a circle gives way, or the desk is at rest.
+fn circle_turn(pages: &[u8], desk: &mut [u8]) -> Turned
+    requires { ⌜ Whole (now pages) (now desk) ⌝ }
+    requires { ⌜ oldest book (stateOf (now pages) (now desk)) ≡ none ⌝ }
+    ensures { λ r. ⌜ Turns (now (pages .entry)) (now (desk .entry)) (now (pages .entry)) (now (desk .exit)) r ⌝ }
+{
+    let newest = waits::newest_on_circle(pages, desk);
+    let Place::At(q) = newest else {
+        return Turned::Rest;
+    };
+    Turned::Said(give_way(pages, desk, q))
+}
+
+// One turn: the oldest request that nobody blocks runs; where each is blocked, a circle is looked for.
+fn turn(pages: &mut [u8], desk: &mut [u8]) -> Turned
+    requires { ⌜ Whole (now pages) (now desk) ⌝ }
+    ensures { λ r. ⌜ Turns (now (pages .entry)) (now (desk .entry)) (now (pages .exit)) (now (desk .exit)) r ⌝ }
+{
+    let oldest = waits::oldest(pages, desk);
+    let Place::At(q) = oldest else {
+        return circle_turn(pages, desk);
+    };
+    Turned::Said(acts::run_at(pages, desk, q))
+}
+
+// Works the queue to rest. The answers are written one after the other from a place on; it gives the place where they end.
+pub fn work(pages: &mut [u8], desk: &mut [u8], answers: &mut [u8], at: usize) -> usize
+    requires { ⌜ Whole (now pages) (now desk) ⌝ }
+    requires { ⌜ at + 20 * queued (now desk) ≤ length (now answers) ⌝ }
+    ensures { λ r. ⌜ Wrote (now (answers .entry)) at (workedOf (now (pages .entry)) (now (desk .entry))) (now (pages .exit)) (now (desk .exit)) (now (answers .exit)) r ⌝ }
+{
+    let mut end = at;
+    loop {
+        let turned = turn(pages, desk);
+        let Turned::Said(answer) = turned else {
+            return end;
+        };
+        entries::put_answer(answers, end, answer);
+        end += 20;
+    }
+}
