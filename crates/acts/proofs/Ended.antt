@@ -13,7 +13,7 @@ use Rattle.lists.specs.Lists.{all, join, pairs}
 use Rattle.lists.proofs.Tests.{and-left}
 use Rattle.lists.proofs.Elements.{keep-in}
 use Rattle.lists.proofs.Pairs.{pairs-keep}
-use Rattle.lists.proofs.Counts.{join-append}
+use Rattle.lists.proofs.Joins.{join-append}
 use Rattle.rules.specs.Kinds.{idle}
 use Rattle.rules.specs.Entries as E
 use Rattle.rules.specs.Locks.{released}

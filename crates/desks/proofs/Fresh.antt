@@ -18,7 +18,6 @@ use Rattle.rules.specs.Locks.{inUse}
 use Rattle.tables.specs.Layout.{deskSize, transactionsMost, locksMost, headWidths, queuePlace, recordWidths, recordPlace, recordAt, lockWidths, lockPlace, slotFields}
 use Rattle.desks.specs.States.{markNumber, deskWith}
 use Rattle.desks.specs.Fitting.{Fitting}
-use Rattle.desks.proofs.Written.{zero-in}
 use Rattle.desks.proofs.Says.{headFields, recordFields, Says}
 use Rattle.desks.proofs.Desks.{desk-is}
 
@@ -85,6 +84,3 @@ module _ (z : List ℕ) (size : length z ≡ deskSize) (zeros : (k : ℕ) → ge
 
   pub fresh-desk : fresh ≡ deskWith free [] quiet
   fresh-desk = desk-is free [] quiet (fresh-fits .slots) (fresh-fits .few) fresh fresh-says
-
-pub fresh-zeros : putFields headWidths (replicate deskSize 0) 0 (headFields 0) ≡ deskWith free [] quiet
-fresh-zeros = fresh-desk (replicate deskSize 0) (length-replicate {A = ℕ} deskSize 0) (zero-in deskSize)

@@ -2,16 +2,16 @@
 -- A search for nobody skips no ghost, one for a transaction only its own; a key of the index is never the end mark.
 use Prim.Native.Nat.{ℕ, _≤_, _<_}
 use mathlib.Core.Path.{_≡_, refl, sym, ap, ap₂, _∙_}
-use mathlib.Core.Bool.{Bool, true, false, cond, not, _&&_, _||_}
-use mathlib.Core.List.{List, [], _∷_}
+use mathlib.Core.Bool.{Bool, true, false, not, _&&_, _||_}
+use mathlib.Core.List.{List}
 use mathlib.Core.Option.{Option, none, some}
 use native.Mathlib.Omega.{arith}
 use borrow.Author.Tests.{ne-eqb, ltb-true}
 use lib.Dec.{leb, eqb, ltb}
 use Rattle.lists.specs.Lists.{In, all, first, pairs}
-use Rattle.lists.proofs.Tests.{and-right}
+use Rattle.lists.proofs.Tests.{and-right, first-same}
 use Rattle.lists.proofs.Elements.{all-in, first-in}
-use Rattle.rules.specs.Kinds.{Entry, S, X, on, end, Ask, read, insert, delete}
+use Rattle.rules.specs.Kinds.{Entry, S, X, Ask, read, insert, delete}
 use Rattle.rules.specs.Entries.{ghost}
 use Rattle.rules.specs.Locks.{target, named, itself, modeIf, mode, wanted}
 use Rattle.rules.specs.Good.{ascending, below}
@@ -23,6 +23,7 @@ use Rattle.entries.specs.declared.Ask.the-variants as AV
 use Rattle.entries.specs.Meaning.{bookAsk}
 use Rattle.tables.specs.declared.Mode as M
 use Rattle.tables.specs.Layout.{nameIn, nameNumber, bookMode, askAt, inPlace, queuedAt}
+use Rattle.tables.proofs.Back.{name-there}
 use Rattle.index.specs.declared.Found.{Found}
 use Rattle.index.specs.declared.Found.the-variants.{Here}
 use Rattle.index.specs.Searches.{seeks, bookFound}
@@ -31,11 +32,6 @@ use Rattle.waits.specs.declared.Want.{Want}
 use Rattle.waits.specs.Choices.{bookWant}
 
 -- ---- the searches
-first-same : {A : Type 0} (p q : A → Bool) → ((x : A) → p x ≡ q x) → (xs : List A) → first p xs ≡ first q xs
-unfolding first
-first-same p q h [] = refl
-first-same p q h (x ∷ xs) = ap₂ (λ b o. cond b (some x) o) (h x) (first-same p q h xs)
-
 -- nobody has no ghosts
 plainly : (a b c d : Bool) → (a && (b || not ((not true && c) && d))) ≡ a
 plainly true true c d = refl
@@ -91,9 +87,6 @@ module _ (ask : A.Ask) (x : Option (Entry ℕ ℕ)) where
   delete-mode key m e h = rw e h
 
 -- ---- the name: a key of the index is below the end mark
-name-there : (n : ℕ) → n < endMark → nameIn n ≡ on n
-name-there n h = ap (λ b. cond b end (on n)) (ne-eqb n endMark (λ e. omega arith))
-
 target-in : (es : List (Entry ℕ ℕ)) (t : ℕ) (a : Ask ℕ ℕ) (e : Entry ℕ ℕ) → target book es t a ≡ some e → In e es
 unfolding target
 target-in es t (read lo hi) e h = first-in _ es e h .0
@@ -105,9 +98,9 @@ named-back : (es : List (Entry ℕ ℕ)) → ascending book es ≡ true → (o :
 unfolding ascending
 named-back es h none i = refl
 named-back es h (some e) i =
-    name-there (e .key)
-    (ltb-true (e .key) endMark
-    (all-in (λ x. ltb (x .key) endMark) es e (and-right (pairs (below book) es) (all (λ x. ltb (x .key) endMark) es) h) (i e refl)))
+    let l : e .key < endMark = ltb-true (e .key) endMark
+    (all-in (λ x. ltb (x .key) endMark) es e (and-right (pairs (below book) es) (all (λ x. ltb (x .key) endMark) es) h) (i e refl)) in
+    name-there (e .key) (λ q. omega arith)
 
 pub want-is : (es : List (Entry ℕ ℕ)) (t : ℕ) (ask : A.Ask) (found : Found) (w : Want) → ascending book es ≡ true
     → bookFound found ≡ target book es t (bookAsk ask) → w .name .0 ≡ nameNumber (named book (bookFound found))

@@ -13,7 +13,7 @@ use lib.Dec.{eqb, ltb}
 use lib.ListN.{getD}
 use Rattle.lists.specs.Lists.{tab, all, pairs}
 use Rattle.lists.proofs.Tests.{both, and-both, either, or-left, or-right, fails}
-use Rattle.lists.proofs.Tables.{all-tab}
+use Rattle.lists.proofs.Tables.{all-tab, all-of-tab}
 use Rattle.rules.specs.Kinds.{Lock, Mode, S, X}
 use Rattle.rules.specs.Entries.{isThere}
 use Rattle.rules.specs.Locks.{conflict, sameName}
@@ -21,7 +21,6 @@ use Rattle.rules.specs.Good.{together}
 use Rattle.rules.proofs.Orders.{numbers-ordered}
 use Rattle.rules.proofs.Keys.{name-equal}
 use Rattle.tables.specs.Layout.{nameNumber, slotAt, slotsOf}
-use Rattle.whole_pages.proofs.Tabs.{all-of-tab}
 use Rattle.desks.specs.States.{book}
 use Rattle.whole.specs.Checks.{slotTogether}
 use Rattle.whole.specs.Orders.{placed, comesFirst, goesUp, hasPlace}

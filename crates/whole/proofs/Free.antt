@@ -1,20 +1,19 @@
 -- Where the lock table is all zero, every slot is free and in order, and the walk over the entries has only their owners to look for.
 -- By the fields of a slot, all zero. Assumes nothing.
-use Prim.Native.Nat.{ℕ, _+_, _*_, _<_}
+use Prim.Native.Nat.{ℕ, _*_, _<_}
 use mathlib.Core.Path.{_≡_, refl, sym, ap, _∙_}
-use mathlib.Core.Bool.{Bool, true, not, _||_}
+use mathlib.Core.Bool.{Bool, true}
 use mathlib.Core.List.{List, []}
 use mathlib.Core.Option.{none}
 use native.Mathlib.Omega.{arith}
 use lib.ListN.{length, getD, replicate}
 use Rattle.lists.specs.Lists.{all, tab}
+use Rattle.lists.proofs.Tables.{all-of-tab}
 use Rattle.numbers.specs.Numbers.{widthOf, fieldsAt, zeroAt}
-use Rattle.numbers.proofs.Agree.{Agree, agree-within}
+use Rattle.numbers.proofs.Agree.{agree-within}
 use Rattle.numbers.proofs.Fields.{fields-zero}
 use Rattle.numbers.proofs.Moves.{zeroAt-true}
-use Rattle.rules.specs.Entries.{isThere}
 use Rattle.tables.specs.Layout.{lockWidths, lockPlace, slotIn, slotAt}
-use Rattle.whole_pages.proofs.Tabs.{all-of-tab}
 use Rattle.whole.specs.Checks.{fieldsOk, slotOk, locksOk}
 use Rattle.whole.specs.Orders.{hasPlace, AllPassed, Sure}
 use Rattle.whole.proofs.Passing.{in-order}

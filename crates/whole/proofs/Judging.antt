@@ -26,6 +26,7 @@ use Rattle.trees.proofs.Order.{flat-sorted}
 use Rattle.pages.specs.Layout.{childrenOf, rootOf, heightOf}
 use Rattle.pages.specs.declared.Child as P
 use Rattle.index.specs.Pictures.{Item, keyOf, pageAt, treeOf, indexOf, entriesIn}
+use Rattle.index.proofs.Frame.{kid}
 use Rattle.tables.specs.Layout.{nameIn, slotsOf, queueOf, marksOf}
 use Rattle.tables.proofs.Slots.{length-slots}
 use Rattle.tables.proofs.Marks.{length-marks}
@@ -33,7 +34,6 @@ use Rattle.tables.proofs.Back.{name-there}
 use Rattle.whole_pages.specs.Walks.{pagesOk}
 use Rattle.whole_pages.proofs.Entries.{Rests}
 use Rattle.whole_pages.proofs.Leaves.{is-under}
-use Rattle.whole_pages.proofs.Trees.{kid}
 use Rattle.whole_pages.proofs.Pages.{PagesFacts, pages-sound, pages-complete}
 use Rattle.desks.specs.States.{book, stateOf, deskWith}
 use Rattle.desks.proofs.Itself.{itself-fits}

@@ -4,7 +4,7 @@ use mathlib.Core.Path.{_≡_, refl, sym, ap, ap₂, subst, _∙_}
 use mathlib.Core.Bool.{Bool, true, false, cond, not, _&&_, _||_}
 use mathlib.Core.List.{List}
 use mathlib.Core.Option.{Option, none, some}
-use Prim.Native.Nat.{ℕ, zero, suc, _+_, _*_, _-_, _≤_, _<_}
+use Prim.Native.Nat.{ℕ, zero, suc, _+_, _*_, _-_, _≤_, _<_, compare}
 use native.Mathlib.Nat.{sub-zero}
 use native.Mathlib.Omega.{arith}
 use borrow.Author.Tests.{not-true, not-false, eq-eqb, ne-eqb}
@@ -33,10 +33,9 @@ use Rattle.tables.specs.declared.Slot.the-variants as SV
 use Rattle.tables.specs.declared.Lock as L
 use Rattle.trees.specs.Shapes.{treePaging}
 use Rattle.trees.specs.Trees.{documentSizes}
-use Prim.Native.Nat.{compare}
 use Rattle.pages.specs.Layout.{countOf, entryAt, entriesOf, rootOf, usedOf, heightOf}
 use Rattle.index.specs.Pictures.{pageAt}
-use Rattle.whole_pages.proofs.Fronts.{lent-page}
+use Rattle.index.proofs.Buffers.{page-lent}
 use Rattle.whole.specs.Checks.{slotTogether, slotHasX, slotHolds, entryHeld, hasKey, findAt, ownersAt, named, slotNamed, locksOk, wholeOk, deskOk, Fine}
 use Rattle.whole.specs.Orders.{Sure}
 
@@ -113,7 +112,7 @@ slot-holds d i t k s a b e f g = ap₂ (λ x y. x && y) f g ∙ ap (slotHolds t 
 
 module _ (s d : List ℕ) (q i : ℕ) (e : E.Entry) (f : bookEntry e ≡ entryAt (take (512 * q + 512 - 512 * q) (drop (512 * q) s)) i) where
   read-there : bookEntry e ≡ entryAt (pageAt s q) i
-  read-there = f ∙ ap (λ p. entryAt p i) (lent-page s q)
+  read-there = f ∙ ap (λ p. entryAt p i) (page-lent s q)
 
   pub unowned : e .owner ≡ 0 → true ≡ entryHeld d (entryAt (pageAt s q) i)
   unfolding entryHeld
@@ -126,7 +125,7 @@ module _ (s d : List ℕ) (q i : ℕ) (e : E.Entry) (f : bookEntry e ≡ entryAt
       g ∙ sym (ap (entryHeld d) (sym read-there) ∙ ap (λ b. b || any (slotHolds (e .owner) (e .key .0)) (slotsOf d)) (ne-eqb (e .owner) 0 z))
 
 pub key-lent : (s : List ℕ) (q i k r : ℕ) → r ≡ entryAt (take (512 * q + 512 - 512 * q) (drop (512 * q) s)) i .key → eqb r k ≡ hasKey k (entryAt (pageAt s q) i)
-key-lent s q i k r e = ap (λ x. eqb x k) (e ∙ ap (λ p. entryAt p i .key) (lent-page s q))
+key-lent s q i k r e = ap (λ x. eqb x k) (e ∙ ap (λ p. entryAt p i .key) (page-lent s q))
 
 -- ---- the entries of a leaf
 pub entries-start : (s : List ℕ) (q n : ℕ) → n ≡ countOf (pageAt s q) → entriesOf (pageAt s q) ≡ tab (n - 0) 0 (entryAt (pageAt s q))

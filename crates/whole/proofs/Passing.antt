@@ -12,7 +12,8 @@ use lib.Dec.{eqb, ltb}
 use lib.ListN.{length, getD, take, drop, List·getD-eq-default}
 use Rattle.lists.specs.Lists.{tab, all, any, pairs}
 use Rattle.lists.proofs.Tests.{and-both, both, or-right}
-use Rattle.lists.proofs.Elements.{any-in, in-any}
+use Rattle.lists.proofs.Elements.{any-in, in-any, tab-in, in-tab}
+use Rattle.lists.proofs.Tables.{all-of-tab}
 use Rattle.numbers.specs.Numbers.{numberAt, fieldsAt}
 use Rattle.numbers.proofs.Numbers.{numberAt-ext, number-none}
 use Rattle.rules.specs.Kinds.{Lock, Entry, Name, on, end}
@@ -29,8 +30,7 @@ use Rattle.tables.specs.declared.Lock as L
 use Rattle.pages.specs.Layout.{countOf, entryAt, entriesOf, childAt, childrenOf}
 use Rattle.pages.specs.declared.Child.{Child}
 use Rattle.index.specs.Pictures.{pageAt}
-use Rattle.whole_pages.proofs.Tabs.{in-tab, tab-in, all-of-tab}
-use Rattle.whole_pages.proofs.Fronts.{lent-page}
+use Rattle.index.proofs.Buffers.{page-lent}
 use Rattle.whole.specs.declared.Passage.{Passage}
 use Rattle.whole.specs.declared.Passage.the-variants.{To, Stuck}
 use Rattle.whole.specs.Checks.{slotTogether, slotHolds, entryHeld, hasKey, findAt, ownersAt, named, slotNamed, locksOk}
@@ -113,15 +113,15 @@ x-among : (d o : List ℕ) (t x k j : ℕ) → length d ≡ 4672 → any (slotHo
 unfolding slotsOf
 x-among d o t x k j size h =
     let y = any-in (slotHolds t x) (tab (j - k) k (placed d o)) h in
-    let z = in-tab (j - k) k (placed d o) (y .0) (y .1) in
+    let z = tab-in (j - k) k (placed d o) (y .0) (y .1) in
     let v : slotHolds t x (slotAt d (getD o (z .0) 0)) ≡ true = ap (slotHolds t x) (z .3) ∙ y .2 in
     let u = holds-some d t x (getD o (z .0) 0) size v in
-    in-any (slotHolds t x) (tab 256 0 (slotAt d)) (slotAt d (getD o (z .0) 0)) (tab-in 256 0 (slotAt d) (getD o (z .0) 0) (omega arith) (omega arith)) v
+    in-any (slotHolds t x) (tab 256 0 (slotAt d)) (slotAt d (getD o (z .0) 0)) (in-tab 256 0 (slotAt d) (getD o (z .0) 0) (omega arith) (omega arith)) v
 
 -- ---- an entry
 module _ (s d o : List ℕ) (m q i k j : ℕ) (e : E.Entry) (f : bookEntry e ≡ entryAt (take (512 * q + 512 - 512 * q) (drop (512 * q) s)) i) (h : Stretch d o m (e .key .0) k j) where
   entry-is : bookEntry e ≡ entryAt (pageAt s q) i
-  entry-is = f ∙ ap (λ p. entryAt p i) (lent-page s q)
+  entry-is = f ∙ ap (λ p. entryAt p i) (page-lent s q)
 
   passed : entryHeld d (bookEntry e) ≡ true → PastEntry s d o m q i k (To j)
   passed t =
@@ -154,7 +154,7 @@ at-entry : (s : List ℕ) (q i x : ℕ) → i < countOf (pageAt s q) → x ≡ e
 unfolding findAt entriesOf
 at-entry s q i x l e =
     in-any (hasKey x) (tab (countOf (pageAt s q)) 0 (entryAt (pageAt s q))) (entryAt (pageAt s q) i)
-    (tab-in (countOf (pageAt s q)) 0 (entryAt (pageAt s q)) i (omega arith) (omega arith)) (eq-eqb (entryAt (pageAt s q) i .key) x (sym e))
+    (in-tab (countOf (pageAt s q)) 0 (entryAt (pageAt s q)) i (omega arith) (omega arith)) (eq-eqb (entryAt (pageAt s q) i .key) x (sym e))
 
 on-entry : (s : List ℕ) (q i : ℕ) → i < countOf (pageAt s q) → (x : Option (Lock ℕ)) → slotOn (entryAt (pageAt s q) i .key) x ≡ true → slotNamed 0 s q x ≡ true
 unfolding slotOn
@@ -169,7 +169,7 @@ at-child : (n : ℕ) (s : List ℕ) (q i x : ℕ) → i < countOf (pageAt s q) �
 unfolding findAt childrenOf
 at-child n s q i x l e =
     in-any (λ (c : Child). findAt n s x (c .page)) (tab (countOf (pageAt s q)) 0 (childAt (pageAt s q))) (childAt (pageAt s q) i)
-    (tab-in (countOf (pageAt s q)) 0 (childAt (pageAt s q)) i (omega arith) (omega arith)) e
+    (in-tab (countOf (pageAt s q)) 0 (childAt (pageAt s q)) i (omega arith) (omega arith)) e
 
 on-child : (n : ℕ) (s : List ℕ) (q i : ℕ) → i < countOf (pageAt s q) → (x : Option (Lock ℕ)) → slotNamed n s (childAt (pageAt s q) i .page) x ≡ true → slotNamed (suc n) s q x ≡ true
 on-child n s q i l none e = refl

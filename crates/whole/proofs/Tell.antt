@@ -12,7 +12,7 @@ use lib.Dec.{eqb}
 use lib.ListN.{length, getD}
 use lib.Seq.{ext-getD}
 use Rattle.lists.specs.Lists.{join, times, In}
-use Rattle.lists.proofs.Counts.{times-append}
+use Rattle.lists.proofs.Joins.{times-append}
 use Rattle.numbers.proofs.Parts.{getD-part}
 use Rattle.trees.specs.Trees.{Index, Tree, Child, above}
 use Rattle.trees.specs.Trees as T
@@ -20,9 +20,10 @@ use Rattle.trees.proofs.Refill.{refill-index}
 use Rattle.pages.specs.Layout.{childrenOf, rootOf, usedOf, heightOf}
 use Rattle.pages.specs.declared.Child as P
 use Rattle.index.specs.Pictures.{Item, keyOf, pageAt, treeOf, indexOf, entriesIn, leafPage, innerPage, headPage, Laid, WholePages}
+use Rattle.index.proofs.Frame.{kid}
 use Rattle.tables.specs.Layout.{slotsOf, queueOf, marksOf}
 use Rattle.whole_pages.proofs.Marks.{reached}
-use Rattle.whole_pages.proofs.Trees.{kid, times-reached}
+use Rattle.whole_pages.proofs.Trees.{times-reached}
 use Rattle.desks.specs.States.{stateOf}
 use Rattle.whole.specs.Whole.{Whole}
 
