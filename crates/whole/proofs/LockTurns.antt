@@ -12,7 +12,7 @@ use lib.Dec.{eqb, lit≤}
 use lib.ListN.{length, take, drop}
 use Rattle.lists.specs.Lists.{tab, all, any, pairs}
 use Rattle.lists.proofs.Tests.{both}
-use Rattle.lists.proofs.Tables.{tab-next, tab-done, all-next, all-done, any-next, any-done}
+use Rattle.lists.proofs.Tables.{tab-next, tab-done}
 use Rattle.rules.specs.Kinds.{Lock, Entry, on, end}
 use Rattle.rules.specs.Document.{endMark}
 use Rattle.numbers.specs.Numbers.{numberAt, zeroAt}
@@ -67,26 +67,6 @@ all-free d (some l) n i h = absurd (let z : _≡_ {A = ℕ} 0 1 = cc in omega ar
 pub later-free : (d : List ℕ) (i : ℕ) (a : Sl.Slot) (b : Bool) → bookSlot a ≡ slotAt d i → b ≡ not (isThere (bookSlot a)) → b ≡ true
     → true ≡ all (slotTogether (slotAt d i)) (tab (256 - (i + 1)) (i + 1) (slotAt d))
 later-free d i a b e f t = sym (all-free d (slotAt d i) (256 - (i + 1)) (i + 1) (not-true (isThere (slotAt d i)) (ap (λ x. not (isThere x)) (sym e) ∙ sym f ∙ t)))
-
--- ---- a table, from one place on
-module _ {A : Type 0} (p : A → Bool) (f : ℕ → A) (whole : Bool) (n i : ℕ) where
-  pub all-bad : (b : Bool) → whole ≡ all p (tab (n - i) i f) → i < n → b ≡ p (f i) → not b ≡ true → false ≡ whole
-  all-bad b inv l e t = sym (inv ∙ all-next p n i f l ∙ ap (λ x. x && all p (tab (n - (i + 1)) (i + 1) f)) (sym e ∙ not-true b t))
-
-  pub all-step : (b : Bool) → whole ≡ all p (tab (n - i) i f) → i < n → b ≡ p (f i) → not b ≡ false → whole ≡ all p (tab (n - (i + 1)) (i + 1) f)
-  all-step b inv l e t = inv ∙ all-next p n i f l ∙ ap (λ x. x && all p (tab (n - (i + 1)) (i + 1) f)) (sym e ∙ not-false b t)
-
-  pub all-end : whole ≡ all p (tab (n - i) i f) → n ≤ i → true ≡ whole
-  all-end inv l = sym (inv ∙ all-done p n i f l)
-
-  pub any-hit : (b : Bool) → whole ≡ any p (tab (n - i) i f) → i < n → b ≡ p (f i) → b ≡ true → true ≡ whole
-  any-hit b inv l e t = sym (inv ∙ any-next p n i f l ∙ ap (λ x. x || any p (tab (n - (i + 1)) (i + 1) f)) (sym e ∙ t))
-
-  pub any-step : (b : Bool) → whole ≡ any p (tab (n - i) i f) → i < n → b ≡ p (f i) → b ≡ false → whole ≡ any p (tab (n - (i + 1)) (i + 1) f)
-  any-step b inv l e t = inv ∙ any-next p n i f l ∙ ap (λ x. x || any p (tab (n - (i + 1)) (i + 1) f)) (sym e ∙ t)
-
-  pub any-end : whole ≡ any p (tab (n - i) i f) → n ≤ i → false ≡ whole
-  any-end inv l = sym (inv ∙ any-done p n i f l)
 
 -- ---- every two slots
 module _ (d : List ℕ) (i : ℕ) (inv : pairs slotTogether (slotsOf d) ≡ pairs slotTogether (tab (256 - i) i (slotAt d))) where
