@@ -9,6 +9,7 @@ use native.Mathlib.Omega.{arith}
 use borrow.Author.Tests.{eqb-true, not-true, not-false}
 use lib.Dec.{eqb}
 use Rattle.lists.specs.Lists.{In}
+use Rattle.lists.proofs.Joins.{map-same}
 use Rattle.rules.specs.Kinds.{Mode, Name, on, Ask}
 use Rattle.rules.specs.Entries.{same, changed}
 use Rattle.rules.specs.Locks.{target, itself}
@@ -31,7 +32,6 @@ use Rattle.index.specs.declared.Found.the-variants as FV
 use Rattle.index.specs.Pictures.{Item, indexOf, entriesIn}
 use Rattle.index.specs.Searches.{bookFound}
 use Rattle.index.specs.Changes.{replaced, Becomes}
-use Rattle.index.proofs.Frame.{map-same}
 use Rattle.index.proofs.Entries.{entries-replaced, shape-replaced}
 use Rattle.desks.specs.States.{book, stateOf}
 use Rattle.whole.specs.Whole.{Whole}

@@ -1,7 +1,7 @@
 -- The end of a transaction on a whole picture: the rule book's. Its entries are settled leaf by leaf, which is all entries settled and the
 -- tree without the keys taken out; the desk by the laws of desks; the invariants by those of sound tables. Assumes nothing.
 use Prim.Native.Nat.{ℕ, _≤_, _<_}
-use mathlib.Core.Path.{_≡_, refl, sym, ap, ap₂, _∙_}
+use mathlib.Core.Path.{_≡_, sym, ap, ap₂, _∙_}
 use mathlib.Core.Bool.{Bool, true, false, cond}
 use mathlib.Core.List.{List}
 use native.Mathlib.Omega.{arith}
@@ -9,33 +9,25 @@ use borrow.Author.Tests.{eqb-false, not-true, lt-ltb, le-ltb}
 use lib.Dec.{ltb}
 use lib.ListN.{getD, set, length-set}
 use lib.Seq.{getD-set-other}
-use Rattle.lists.specs.Lists.{all, join, pairs}
-use Rattle.lists.proofs.Tests.{and-left}
 use Rattle.lists.proofs.Elements.{keep-in}
 use Rattle.lists.proofs.Pairs.{pairs-keep}
-use Rattle.lists.proofs.Counts.{join-append}
 use Rattle.rules.specs.Kinds.{idle}
-use Rattle.rules.specs.Entries as E
 use Rattle.rules.specs.Locks.{released}
 use Rattle.rules.specs.Queue.{St, leave}
 use Rattle.rules.specs.Runs.{En}
 use Rattle.rules.specs.Desk.{isRunning, runs, ended}
-use Rattle.rules.specs.Good.{Good, ascending, below, otherAsker}
+use Rattle.rules.specs.Good.{Good, otherAsker}
 use Rattle.rules.proofs.Orders.{numbers-ordered}
 use Rattle.rules.proofs.Sound.{Settles, committed-settles, rolledBack-settles, sound-ended}
 use Rattle.rules.proofs.Unblocked.{good-sound, good-queues}
 use Rattle.rules.proofs.GoodKept.{sound-good}
-use Rattle.trees.specs.Trees.{flat}
-use Rattle.trees.specs.Growth.{inLeaves}
-use Rattle.trees.specs.Shapes.{shape}
-use Rattle.trees.proofs.Thinning.{flat-leaves}
-use Rattle.trees.proofs.Settling.{shape-settled}
 use Rattle.pages.specs.Rows.{endOf}
 use Rattle.tables.specs.Layout.{transactionsMost, queued, inPlace, queueOf, slotsOf, marksOf}
 use Rattle.tables.specs.Moves.{locksReleased, waitsIn, queueLeft, markPut}
 use Rattle.tables.proofs.Queues.{waits-there}
-use Rattle.index.specs.Pictures.{Item, keyOf, indexOf, entriesIn}
+use Rattle.index.specs.Pictures.{indexOf}
 use Rattle.index.specs.Changes.{settledIn, Becomes}
+use Rattle.index.proofs.Entries.{entries-settled, shape-ended}
 use Rattle.desks.specs.States.{book, stateOf}
 use Rattle.whole.specs.Whole.{Whole}
 use Rattle.desks.specs.Fitting.{Fitting}
@@ -69,22 +61,6 @@ module _ (s : St book) (t : ℕ) (g : Good book s) (low : 1 ≤ t) where
 end-settles : (commits : Bool) → Settles book (endOf commits)
 end-settles true = committed-settles book
 end-settles false = rolledBack-settles book
-
--- ---- the pages
-module _ (p p′ : List ℕ) (t : ℕ) (commits : Bool) (b : Becomes p′ (settledIn commits t (indexOf p))) where
-  entries-settled : entriesIn p′ ≡ E.settled (endOf commits) t (entriesIn p)
-  unfolding entriesIn settledIn inLeaves E.settled join
-  entries-settled =
-      ap (λ x. flat ℕ Item (x .level) (x .tree)) (b .index)
-      ∙ flat-leaves ℕ (E.settled (endOf commits) t) refl (join-append (E.left (endOf commits) t)) (indexOf p .level) (indexOf p .tree)
-
-  pages-settled : ascending book (entriesIn p) ≡ true
-      → shape keyOf (indexOf p′) ≡ book .paging .shrunk (shape keyOf (indexOf p)) (E.takenOut (endOf commits) t (entriesIn p))
-  unfolding entriesIn settledIn ascending
-  pages-settled h =
-      ap (shape keyOf) (b .index)
-      ∙ shape-settled numbers-ordered (endOf commits) (end-settles commits .key) t (indexOf p)
-      (and-left (pairs (below book) (entriesIn p)) (all (λ e. book .legal (e .key)) (entriesIn p)) h)
 
 -- ---- t's request dropped, if it has one
 module _ (d : List ℕ) (t q n : ℕ) (a : q ≡ waitsIn d t) (b : n ≡ queued d) where
@@ -125,4 +101,4 @@ module _ (p d : List ℕ) (w : Whole p d) (t : ℕ) where
       ∙ desk-ended (book .paging) (slotsOf d) (queueOf d) (marksOf d) (whole-fits p d w) t low high)
       (ended book (endOf commits) s t) (ended-good s t (w .values) low (endOf commits) (end-settles commits))
       (ap₂ (λ es ps. record { entries = es; pages = ps; slots = ls; queue = qs; marks = ms })
-      (sym (entries-settled p p′ t commits b)) (sym (pages-settled p p′ t commits b (w .values .keys))))
+      (sym (entries-settled p p′ commits t b)) (sym (shape-ended p p′ commits t (w .pages) b)))

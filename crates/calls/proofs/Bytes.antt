@@ -8,11 +8,11 @@ use lib.ListN.{length}
 use Rattle.lists.specs.Lists.{join}
 use Rattle.numbers.specs.Numbers.{widthOf, part}
 use Rattle.numbers.proofs.Parts.{part-same, part-apart}
+use Rattle.numbers.proofs.Splices.{part-append, put-row}
 use Rattle.rules.specs.Runs.{Answer}
 use Rattle.entries.specs.Records.{answerWidths, answerFields, putAnswer, written}
 use Rattle.entries.proofs.Answers.{length-putAnswer}
 use Rattle.entries.proofs.Written.{touches-written}
-use Rattle.pages.proofs.Splices.{part-append, put-row}
 use Rattle.calls.specs.Promise.{returned}
 use Rattle.calls.specs.Calls.{gives, refuses, wrote, bytesOf}
 

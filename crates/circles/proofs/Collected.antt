@@ -1,6 +1,6 @@
 -- Sets and rows as the desk collects them: a blocker at a time into a set, a queued request at a time into the row.
 -- A request's set goes to a place that no earlier one has, so that it adds its own link and no other. Assumes nothing.
-use Prim.Native.Nat.{ℕ, zero, suc, _≤_, _<_}
+use Prim.Native.Nat.{ℕ, _≤_, _<_}
 use mathlib.Core.Path.{_≡_, refl, sym, ap, _∙_}
 use mathlib.Core.Bool.{Bool, true, false, _&&_, _||_, or-false}
 use mathlib.Core.List.{List, [], _∷_, _++_, append-assoc, append-nil}
@@ -9,9 +9,10 @@ use lib.Dec.{eqb}
 use lib.ListN.{length, getD, set, replicate}
 use lib.Seq.{getD-set-same, getD-set-other}
 use Rattle.lists.specs.Lists.{In, all, any, member, pairs}
-use Rattle.lists.proofs.Tests.{and-left, fails, any-append}
+use Rattle.lists.proofs.Tests.{and-left, fails, any-append, all-head, all-weaker, all-map}
 use Rattle.lists.proofs.Elements.{all-in, any-in}
-use Rattle.lists.proofs.Rows.{all-head, all-weaker, all-map, pairs-apart}
+use Rattle.lists.proofs.Pairs.{pairs-apart}
+use Rattle.lists.proofs.Places.{getD-alike}
 use Rattle.rules.specs.Kinds.{Book}
 use Rattle.rules.specs.Entries.{Entries}
 use Rattle.rules.specs.Locks.{Slots, blockers}
@@ -39,11 +40,6 @@ with-last m t us h s =
     }
 
 -- ---- a row
-getD-alike : (n t m : ℕ) → getD (replicate n m) t m ≡ m
-getD-alike zero t m = refl
-getD-alike (suc n) zero m = refl
-getD-alike (suc n) (suc t) m = getD-alike n t m
-
 module _ (B : Book) where
   pub row-none : (n : ℕ) → RowOf B (replicate n 0) []
   unfolding any

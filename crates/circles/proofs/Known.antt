@@ -5,7 +5,7 @@ use mathlib.Core.Path.{_≡_, refl, sym, ap, _∙_}
 use mathlib.Core.Bool.{true}
 use mathlib.Core.List.{List, [], _∷_, _++_, map}
 use Rattle.lists.specs.Lists.{In, pairs}
-use Rattle.lists.proofs.Rows.{pairs-map}
+use Rattle.lists.proofs.Pairs.{pairs-map}
 use Rattle.rules.specs.Kinds.{Book}
 use Rattle.rules.specs.Entries.{Entries}
 use Rattle.rules.specs.Locks.{Slots}

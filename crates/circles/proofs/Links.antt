@@ -10,9 +10,9 @@ use borrow.Author.Tests.{eqb-true, eqb-false, eq-eqb, not-true}
 use lib.Bits.{bitOr}
 use lib.Dec.{eqb}
 use lib.ListN.{length, getD}
-use Rattle.lists.specs.Lists.{In, any, member, keep, tab}
-use Rattle.lists.proofs.Tests.{and-left, and-right, and-both, either}
-use Rattle.lists.proofs.Elements.{in-any, any-in, in-member, member-in, in-keep, keep-in}
+use Rattle.lists.specs.Lists.{In, any, member, tab}
+use Rattle.lists.proofs.Tests.{and-left, and-right, and-both, either, alike}
+use Rattle.lists.proofs.Elements.{in-any, any-in, member-in, keep-in, member-keep}
 use Rattle.lists.proofs.Pairs.{pairs-in}
 use Rattle.rules.specs.Kinds.{Book}
 use Rattle.rules.specs.Queue.{Wait, everyone, linked, further, reached, onCircle}
@@ -21,12 +21,6 @@ use Rattle.circles.specs.Sets.{has, SetOf, isLink, RowOf}
 use Rattle.circles.specs.Search.{gathered, furtherOn, reachedOn, circleOn}
 use Rattle.circles.proofs.Bits.{has-union}
 use Rattle.circles.proofs.Known.{Known}
-
--- two tests that pass together
-alike : (a b : Bool) → (a ≡ true → b ≡ true) → (b ≡ true → a ≡ true) → a ≡ b
-alike true b f g = sym (f refl)
-alike false true f g = g refl
-alike false false f g = refl
 
 -- ---- on numbers: whoever is in the set, or in the row's set of one that is
 has-joined : (b : Bool) (r n u : ℕ) → has (cond b (bitOr r n) r) u ≡ (has r u || (b && has n u))
@@ -47,11 +41,6 @@ has-further : (row : List ℕ) (m u : ℕ)
     → has (furtherOn row m) u ≡ (has m u || any (λ v. has m v && has (getD row v 0) u) (tab (length row - 1) 1 (λ v. v)))
 unfolding furtherOn
 has-further row m u = has-gathered row m (length row - 1) 1 m u
-
--- who is kept, where whoever passes the test is there
-member-keep : (p : ℕ → Bool) (xs : List ℕ) (u : ℕ) → (p u ≡ true → In u xs) → member u (keep p xs) ≡ p u
-member-keep p xs u f =
-    alike (member u (keep p xs)) (p u) (λ h. keep-in p xs u (member-in u (keep p xs) h) .1) (λ h. in-member u (keep p xs) (in-keep p xs u (f h) h))
 
 module _ (B : Book) where
   -- a list of transactions

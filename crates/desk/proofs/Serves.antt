@@ -7,13 +7,13 @@ use native.Mathlib.Omega.{arith}
 use borrow.Author.Tests.{eqb-true, not-true, not-false, ltb-false}
 use lib.Dec.{eqb}
 use lib.ListN.{length}
+use Rattle.lists.proofs.Tests.{neither}
 use Rattle.rules.specs.Desk.{legalCall}
 use Rattle.entries.specs.declared.Call.{Call}
 use Rattle.entries.specs.declared.Heard.{Heard}
 use Rattle.entries.specs.declared.Heard.the-variants.{Good, Bad}
 use Rattle.entries.specs.Meaning.{bookCall, bookHeard}
 use Rattle.entries.specs.Records.{heard}
-use Rattle.entries.proofs.Requests.{neither}
 use Rattle.entries.proofs.Number12.{heard-legal}
 use Rattle.desks.specs.States.{book}
 use Rattle.whole.specs.Whole.{Whole, Judged}

@@ -10,18 +10,22 @@ use lib.Dec.{lit<}
 use lib.ListN.{length, getD, replicate, length-append, length-replicate, List·getD-eq-default}
 use Rattle.lists.specs.Lists.{tab, join}
 use Rattle.lists.proofs.Tables.{length-tab, getD-tab}
-use Rattle.lists.proofs.Counts.{length-join}
+use Rattle.lists.proofs.Joins.{length-join}
+use Rattle.lists.proofs.Elements.{in-place}
+use Rattle.lists.proofs.Places.{getD-alike}
 use Rattle.numbers.specs.Numbers.{numberAt, widthOf, fieldsAt, Fits, Bytes}
-use Rattle.numbers.proofs.Agree.{Agree}
+use Rattle.numbers.proofs.Agree.{Agree, agree-itself}
 use Rattle.numbers.proofs.Numbers.{numberAt-ext, number-none, number-below}
 use Rattle.numbers.proofs.Fields.{fields-fit}
+use Rattle.numbers.proofs.Splices.{agree-ahead, agree-behind, agree-row}
+use Rattle.numbers.proofs.Kept.{bytes-append, bytes-zeros, bytes-join}
 use Rattle.rules.specs.Kinds.{Lock, Queued, Mark}
 use Rattle.tables.specs.Layout.{deskSize, transactionsMost, locksMost, headWidths, queuePlace, inPlace, recordWidths, recordPlace, recordAt, lockWidths, lockPlace, slotFields}
 use Rattle.desks.specs.States.{written, recordOf, deskWith}
 use Rattle.desks.specs.Fitting.{Fitting}
-use Rattle.desks.proofs.Written.{agree-itself, agree-ahead, agree-behind, bytes-append, zero-in, bytes-zeros, agree-row, bytes-join, length-written, bytes-written, fields-written}
+use Rattle.desks.proofs.Written.{length-written, bytes-written, fields-written}
 use Rattle.desks.proofs.Says.{headFields, nobody, askerIn, recordFields, Says, says-once}
-use Rattle.desks.proofs.Values.{slot-of, slot-fits, record-fits, in-place}
+use Rattle.desks.proofs.Values.{slot-of, slot-fits, record-fits}
 
 -- the parts
 abbrev headPart : List (Queued ℕ ℕ) → List ℕ
@@ -157,7 +161,7 @@ module _ (ls : List (Option (Lock ℕ))) (qs : List (Queued ℕ ℕ)) (ms : List
   zero-there i h l =
       after-places (queuePlace i) {k = 2 * (i - length qs)} (omega arith)
       (agree-ahead (zeroPart qs) (recordPart qs ms ++ lockPart ls) (omega (arith, length-zeros qs))
-      (record { byte = λ j m. zero-in (2 * (transactionsMost - length qs)) (2 * (i - length qs) + j) }))
+      (record { byte = λ j m. getD-alike (2 * (transactionsMost - length qs)) (2 * (i - length qs) + j) 0 }))
 
   place-there : (i : ℕ) → i < transactionsMost → inPlace (deskWith ls qs ms) i ≡ askerIn qs i
   place-there i h = go (decLt i (length qs))
@@ -197,7 +201,7 @@ module _ (ls : List (Option (Lock ℕ))) (qs : List (Queued ℕ ℕ)) (ms : List
       (record {
         slots = fit .slots;
         few = fit .few;
-        askers = λ i h. omega (arith, fit .queued (getD qs i nobody) (in-place qs i h) .most);
+        askers = λ i h. omega (arith, fit .queued (getD qs i nobody) (in-place qs i nobody h) .most);
         records = λ t _ _. record-fits qs (fit .queued) ms t;
         rows = λ i _. slot-fits (getD ls i none) (slot-of ls (fit .locks) i);
       })

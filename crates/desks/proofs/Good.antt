@@ -1,17 +1,16 @@
 -- The tables of a good state fit a desk, where the records that its requests name are within their width, as those read from bytes are.
 -- By the invariants: locks on keys or the end held by running transactions, legal requests of running ones, no asker twice. Assumes nothing.
-use Prim.Native.Nat.{ℕ, zero, suc, _+_, _≤_, _<_}
+use Prim.Native.Nat.{ℕ, _+_, _≤_, _<_}
 use mathlib.Core.Path.{_≡_, refl, subst}
-use mathlib.Core.Logic.{inl, inr}
 use mathlib.Core.Bool.{Bool, true, false, cond, _&&_, true≢false}
 use mathlib.Core.List.{List}
 use native.Mathlib.Omega.{arith}
 use borrow.Author.Tests.{ltb-true, leb-true}
 use lib.Dec.{eqb, ltb, leb}
 use lib.ListN.{length, getD}
-use Rattle.lists.specs.Lists.{In, all, pairs, tab}
+use Rattle.lists.specs.Lists.{In, all, pairs}
 use Rattle.lists.proofs.Tests.{and-left, and-right}
-use Rattle.lists.proofs.Elements.{all-in, any-in}
+use Rattle.lists.proofs.Elements.{all-in, any-in, tab-in}
 use Rattle.lists.proofs.Finite.{no-more}
 use Rattle.lists.proofs.Tables.{length-tab}
 use Rattle.numbers.specs.Numbers.{numberAt, fieldsAt, Bytes}
@@ -121,14 +120,8 @@ record-small d t h = go (eqb (numberAt 2 d (recordPlace t + 2)) 4) (eqb (numberA
     go false true = number-below 4 d (recordPlace t + 2 + 2) h
     go false false = tt
 
-each-in : {A : Type 0} (f : ℕ → A) (Q : A → Type 0) → ((k : ℕ) → Q (f k)) → (n i : ℕ) (x : A) → In x (tab n i f) → Q x
-unfolding tab
-each-in f Q h zero i x j = absurd j
-each-in f Q h (suc n) i x (inl e) = subst Q e (h i)
-each-in f Q h (suc n) i x (inr j) = each-in f Q h n (i + 1) x j
-
 pub good-fitting : (p d : List ℕ) → Good book (stateOf p d) → Bytes d → Fitting (slotsOf d) (queueOf d) (marksOf d)
 unfolding stateOf queueOf queuedAt
 good-fitting p d good h =
     good-fits (book .paging) (stateOf p d) good
-    (λ q i. each-in (queuedAt d) (λ q. RecordFits (q .asks)) (λ k. record-small d (inPlace d k) h) (queued d) 0 q i)
+    (λ q i. let w = tab-in (queued d) 0 (queuedAt d) q i in subst (λ q. RecordFits (q .asks)) (w .3) (record-small d (inPlace d (w .0)) h))

@@ -12,7 +12,7 @@ use lib.ListN.{length, set, length-append, length-map, length-set}
 use lib.Seq.{getD-set-other}
 use Rattle.lists.specs.Lists.{In, any, keep, pairs, tab}
 use Rattle.lists.proofs.Tests.{eqb-turn, not-any}
-use Rattle.lists.proofs.Elements.{none-any, append-in, keep-in, in-tab, in-map}
+use Rattle.lists.proofs.Elements.{none-any, append-in, keep-in, in-tab, in-map, in-all}
 use Rattle.lists.proofs.Pairs.{pairs-cons, pairs-keep, pairs-last}
 use Rattle.lists.proofs.Finite.{no-more}
 use Rattle.lists.proofs.Tables.{length-tab}
@@ -92,7 +92,7 @@ module _ {ls : List (Option (Lock ℕ))} {qs : List (Queued ℕ ℕ)} {ms : List
   pub room-for : (t : ℕ) → any (λ q. eqb (q .asker) t) qs ≡ false → 1 ≤ t → t ≤ transactionsMost → length qs < transactionsMost
   room-for t new low high =
       let differ = pairs-cons (λ p q. not (eqb (p .asker) (q .asker))) asker qs
-      (λ q i. ap not (eqb-turn t (q .asker) ∙ none-any (λ q. eqb (q .asker) t) qs q new i)) (fit .askers) in
+      (in-all (λ q. not (eqb t (q .asker))) qs (λ q i. ap not (eqb-turn t (q .asker) ∙ none-any (λ q. eqb (q .asker) t) qs q new i))) (fit .askers) in
       let fewer = no-more (λ q. q .asker) (asker ∷ qs) (tab transactionsMost 1 (λ u. u)) differ among in
       omega (arith, length-tab transactionsMost 1 (λ u. u))
     where

@@ -16,7 +16,7 @@ use Rattle.numbers.specs.Numbers.{numberAt, widthOf, fieldsAt, part, Bytes}
 use Rattle.numbers.proofs.Fields.{fields-same, fields-other}
 use Rattle.numbers.proofs.Rows.{rows-distinct}
 use Rattle.numbers.proofs.Parts.{getD-part, fieldsAt-part}
-use Rattle.numbers.proofs.Kept.{bytes-putFields, bytes-part}
+use Rattle.numbers.proofs.Kept.{bytes-putFields, bytes-part, bytes-zeros}
 use Rattle.rules.specs.Kinds.{Queued, Mark, Lock, Mode, Name, Paging}
 use Rattle.rules.specs.Locks.{freed, released}
 use Rattle.rules.specs.Document.{document}
@@ -27,7 +27,6 @@ use Rattle.tables.proofs.Releases.{row-released}
 use Rattle.tables.proofs.Frames.{OnlyLocks, only-put, only-released, head-kept, place-beside}
 use Rattle.tables.proofs.Records.{record-kept}
 use Rattle.desks.specs.Fitting.{Fitting}
-use Rattle.desks.proofs.Written.{bytes-zeros}
 use Rattle.desks.proofs.Says.{Says}
 use Rattle.desks.proofs.Values.{SlotFits, slot-of, slot-fits, slot-read}
 use Rattle.desks.proofs.Reading.{says-slots}

@@ -1,6 +1,6 @@
 -- A request joins the queue, or leaves it: the desk says the queue that the rule book's operation makes.
 -- The places behind close up, the asker's record has its request or none, and the others stay. Assumes of the tables that they fit.
-use Prim.Native.Nat.{ℕ, zero, suc, _+_, _-_, _*_, _≤_, _<_}
+use Prim.Native.Nat.{ℕ, _+_, _-_, _*_, _≤_, _<_}
 use mathlib.Core.Path.{_≡_, refl, sym, ap, subst, _∙_}
 use mathlib.Core.Logic.{_≢_}
 use mathlib.Core.Bool.{Bool, true, false, not}
@@ -13,9 +13,9 @@ use borrow.Author.Tests.{eqb-true, eq-eqb, ne-eqb, not-true}
 use lib.Dec.{eqb}
 use lib.ListN.{length, getD, set, length-append, List·getD-eq-default}
 use Rattle.lists.specs.Lists.{orElse, any, first, pairs}
-use Rattle.lists.proofs.Tests.{first-hit, first-miss, first-none, first-passes, first-keep, first-append-right, not-any, all-keep}
+use Rattle.lists.proofs.Tests.{first-hit, first-miss, first-none, first-passes, first-keep, not-any, all-keep, first-append, first-past}
 use Rattle.lists.proofs.Tables.{getD-tab}
-use Rattle.lists.proofs.Rows.{first-append}
+use Rattle.lists.proofs.Places.{at-last, at-other}
 use Rattle.numbers.specs.Numbers.{widthOf, putNumber, moved, zeroed, Bytes}
 use Rattle.numbers.proofs.Fields.{fields-apart}
 use Rattle.numbers.proofs.Kept.{bytes-putNumber, bytes-putFields, bytes-copied, bytes-zeroed}
@@ -49,16 +49,6 @@ filler v (some q) = ask-filler v (q .asks)
 
 -- one more behind the last
 module _ (q : Queued ℕ ℕ) where
-  at-last : (qs : List (Queued ℕ ℕ)) → getD (qs ++ (q ∷ [])) (length qs) nobody ≡ q
-  at-last [] = refl
-  at-last (p ∷ qs) = at-last qs
-
-  at-other : (qs : List (Queued ℕ ℕ)) (i : ℕ) → i ≢ length qs → getD (qs ++ (q ∷ [])) i nobody ≡ getD qs i nobody
-  at-other [] zero h = absurd (h refl)
-  at-other [] (suc i) h = refl
-  at-other (p ∷ qs) zero h = refl
-  at-other (p ∷ qs) (suc i) h = at-other qs i (λ e. h (ap suc e))
-
   first-other : (p : Queued ℕ ℕ → Bool) (qs : List (Queued ℕ ℕ)) → p q ≡ false → first p (qs ++ (q ∷ [])) ≡ first p qs
   unfolding first
   first-other p qs e = first-append p qs (q ∷ []) ∙ ap (orElse (first p qs)) (first-miss p q [] e) ∙ go (first p qs)
@@ -96,12 +86,12 @@ module _ {d : List ℕ} {ls : List (Option (Lock ℕ))} {qs : List (Queued ℕ �
         go (yes e) =
             ap (inPlace joined) e
             ∙ last-joined d t a (f .len) order few low high
-            ∙ ap (λ q. q .asker) (sym (at-last last qs))
+            ∙ ap (λ q. q .asker) (sym (at-last qs last nobody))
             ∙ ap (askerIn (qs ++ (last ∷ []))) (sym (e ∙ says-queued fit f))
         go (no e) =
             place-joined d t a (f .len) order few low high i h e
             ∙ f .places i h
-            ∙ ap (λ q. q .asker) (sym (at-other last qs i (λ z. e (z ∙ sym (says-queued fit f)))))
+            ∙ ap (λ q. q .asker) (sym (at-other qs last i nobody (λ z. e (z ∙ sym (says-queued fit f)))))
 
     record-is : (s : ℕ) → 1 ≤ s → s ≤ transactionsMost → recordAt joined s ≡ recordFields (qs ++ (last ∷ [])) ms s
     record-is s l h = go (ℕ-discrete s t)
@@ -111,7 +101,8 @@ module _ {d : List ℕ} {ls : List (Option (Lock ℕ))} {qs : List (Queued ℕ �
 
         found : first (λ q. eqb (q .asker) t) (qs ++ (last ∷ [])) ≡ some last
         found =
-            first-append-right (λ q. eqb (q .asker) t) qs (last ∷ []) new ∙ first-hit (λ q. eqb (q .asker) t) last [] (eq-eqb t t refl)
+            first-past (λ q. eqb (q .asker) t) qs (last ∷ []) (sym (not-any (λ q. eqb (q .asker) t) qs) ∙ ap not new)
+            ∙ first-hit (λ q. eqb (q .asker) t) last [] (eq-eqb t t refl)
 
         go : Dec (s ≡ t) → recordAt joined s ≡ recordFields (qs ++ (last ∷ [])) ms s
         go (yes e) =

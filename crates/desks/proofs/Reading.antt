@@ -10,7 +10,7 @@ use lib.Dec.{eqb}
 use lib.ListN.{length, getD}
 use Rattle.lists.specs.Lists.{any, first, tab}
 use Rattle.lists.proofs.Tests.{fails, first-some}
-use Rattle.lists.proofs.Elements.{any-in, none-first}
+use Rattle.lists.proofs.Elements.{any-in, none-first, in-place}
 use Rattle.lists.proofs.Tables.{tab-ext, tab-getD, is-tab}
 use Rattle.numbers.specs.Numbers.{numberAt, fieldsAt}
 use Rattle.rules.specs.Kinds.{Ask, read, insert, delete, Lock, Queued, Mark, idle, running}
@@ -19,7 +19,7 @@ use Rattle.tables.proofs.Order.{InOrder}
 use Rattle.desks.specs.States.{waitingFields, markNumber, deskWith}
 use Rattle.desks.specs.Fitting.{Fitting}
 use Rattle.desks.proofs.Says.{nobody, askerIn, Says}
-use Rattle.desks.proofs.Values.{slot-of, slot-read, ask-read, asker-first, in-place}
+use Rattle.desks.proofs.Values.{slot-of, slot-read, ask-read, asker-first}
 use Rattle.desks.proofs.Desks.{desk-says}
 
 mark-read : (m : Mark) → markIn (markNumber m) ≡ m
@@ -56,7 +56,7 @@ module _ {d : List ℕ} {ls : List (Option (Lock ℕ))} {qs : List (Queued ℕ �
   asked : (i : ℕ) → i < length qs → askAt d (askerIn qs i) ≡ getD qs i nobody .asks
   asked i h =
       let q = getD qs i nobody in
-      let there = in-place qs i h in
+      let there = in-place qs i nobody h in
       let fits = fit .queued q there in
       ap askIn (f .records (q .asker) (fits .some) (fits .most))
       ∙ ap (λ o. askIn (markNumber (getD ms (q .asker) idle) ∷ (waitingFields o ++ (0 ∷ [])))) (asker-first qs q (fit .askers) there)
@@ -95,8 +95,8 @@ module _ {d : List ℕ} {ls : List (Option (Lock ℕ))} {qs : List (Queued ℕ �
   says-order =
       record {
         few = let l = fit .few in omega (arith, says-queued);
-        from = λ i h. rw (place i h) (fit .queued (getD qs i nobody) (in-place qs i (low i h)) .some);
-        to = λ i h. rw (place i h) (fit .queued (getD qs i nobody) (in-place qs i (low i h)) .most);
+        from = λ i h. rw (place i h) (fit .queued (getD qs i nobody) (in-place qs i nobody (low i h)) .some);
+        to = λ i h. rw (place i h) (fit .queued (getD qs i nobody) (in-place qs i nobody (low i h)) .most);
       }
     where
       low : (i : ℕ) → i < queued d → i < length qs

@@ -3,26 +3,26 @@
 use Prim.Native.Nat.{ℕ, zero, suc, _^_, _<_}
 use mathlib.Core.Path.{_≡_, refl, ap, _∙_}
 use mathlib.Core.Logic.{inl, inr}
-use mathlib.Core.Bool.{true, not}
+use mathlib.Core.Bool.{Bool, true, not}
 use mathlib.Core.List.{List, [], _∷_, _++_}
 use mathlib.Core.Option.{Option, none, some}
 use native.Mathlib.Omega.{arith}
 use borrow.Author.Tests.{eq-eqb, not-true}
 use lib.Dec.{eqb, lit<}
-use lib.ListN.{getD, length}
-use native.Mathlib.Nat.{not-suc-le-zero, le-of-suc-le-suc}
+use lib.ListN.{getD}
 use Rattle.lists.specs.Lists.{In, first, pairs}
 use Rattle.lists.proofs.Tests.{first-hit, first-miss}
-use Rattle.lists.proofs.Elements.{first-in}
-use Rattle.lists.proofs.Pairs.{pairs-split}
+use Rattle.lists.proofs.Elements.{first-in, all-in}
+use Rattle.lists.proofs.Pairs.{pairs-head, pairs-tail}
 use Rattle.numbers.specs.Numbers.{Fits}
-use Rattle.rules.specs.Kinds.{Ask, read, insert, delete, Queued, Mark, idle, running, Mode, S, X, Name, on, end, Lock}
+use Rattle.rules.specs.Kinds.{Ask, read, insert, delete, Queued, Mark, idle, running, Name, on, end, Lock}
 use Rattle.rules.specs.Locks.{inUse}
-use Rattle.tables.specs.Layout.{recordWidths, askWidths, askFields, askIn, lockWidths, nameIn, nameNumber, modeNumber, slotIn, slotFields}
+use Rattle.tables.specs.Layout.{recordWidths, askWidths, askFields, askIn, lockWidths, nameIn, nameNumber, slotIn, slotFields}
 use Rattle.tables.proofs.Back.{name-there, slot-there}
+use Rattle.tables.proofs.Slots.{mode-fits}
 use Rattle.desks.specs.States.{waitingFields, markNumber}
 use Rattle.desks.specs.Fitting.{NameFits, AskFits, LockFits, QueuedFits}
-use Rattle.desks.proofs.Says.{nobody, recordFields}
+use Rattle.desks.proofs.Says.{recordFields}
 
 -- ---- slots
 abbrev pub SlotFits : Option (Lock ℕ) → Type 0
@@ -41,14 +41,10 @@ pub name-small : (n : Name ℕ) → NameFits n → nameNumber n < 256 ^ 8
 name-small (on k) h = omega arith
 name-small end h = lit< tt
 
-mode-small : (m : Mode) → modeNumber m < 256 ^ 2
-mode-small S = lit< tt
-mode-small X = lit< tt
-
 pub slot-fits : (x : Option (Lock ℕ)) → SlotFits x → Fits lockWidths (slotFields x)
 unfolding slotFields
 slot-fits none f = (lit< tt, (lit< tt, (lit< tt, (lit< tt, tt))))
-slot-fits (some l) f = (name-small (l .name) (f .name), (omega (arith, f .most), (mode-small (l .mode), (lit< tt, tt))))
+slot-fits (some l) f = (name-small (l .name) (f .name), (omega (arith, f .most), (mode-fits (l .mode), (lit< tt, tt))))
 
 pub name-read : (n : Name ℕ) → NameFits n → nameIn (nameNumber n) ≡ n
 name-read (on k) h = name-there k (omega arith)
@@ -101,10 +97,6 @@ pub asker-first : (qs : List (Queued ℕ ℕ)) (q : Queued ℕ ℕ) → pairs (�
 asker-first (p ∷ qs) q e (inl h) =
     first-hit (λ p. eqb (p .asker) (q .asker)) p qs (eq-eqb (p .asker) (q .asker) (ap (λ x. x .asker) h)) ∙ ap some h
 asker-first (p ∷ qs) q e (inr i) =
-    let s = pairs-split (λ p q. not (eqb (p .asker) (q .asker))) p qs e in
-    first-miss (λ p. eqb (p .asker) (q .asker)) p qs (not-true (eqb (p .asker) (q .asker)) (s .0 q i)) ∙ asker-first qs q (s .1) i
-
-pub in-place : (qs : List (Queued ℕ ℕ)) (i : ℕ) → i < length qs → In (getD qs i nobody) qs
-in-place [] i h = absurd (not-suc-le-zero h)
-in-place (q ∷ qs) zero h = inl refl
-in-place (q ∷ qs) (suc i) h = inr (in-place qs i (le-of-suc-le-suc h))
+    let differ : Queued ℕ ℕ → Queued ℕ ℕ → Bool = λ p q. not (eqb (p .asker) (q .asker)) in
+    first-miss (λ p. eqb (p .asker) (q .asker)) p qs (not-true (eqb (p .asker) (q .asker)) (all-in (differ p) qs q (pairs-head differ p qs e) i))
+    ∙ asker-first qs q (pairs-tail differ p qs e) i

@@ -1,10 +1,9 @@
--- Laws of the answer record: how the code writes it, that it touches its twenty bytes alone and is read back, and that code values fit it.
+-- Laws of the answer record: how the code writes it, that it touches its twenty bytes alone, and that it is read back.
 -- By the laws of records, and by the offsets as sums of widths.
-use Prim.Native.Nat.{ℕ, _+_, _≤_, _<_}
+use Prim.Native.Nat.{ℕ, _+_, _≤_}
 use mathlib.Core.Path.{_≡_}
 use mathlib.Core.List.{List}
 use native.Mathlib.Omega.{arith}
-use lib.Dec.{lit<}
 use lib.ListN.{length}
 use Rattle.numbers.specs.Numbers.{putNumber, widthOf, fieldsAt, putFields, Fits}
 use Rattle.numbers.proofs.Agree.{Touches}
@@ -39,9 +38,3 @@ pub answer-same : (s : List ℕ) (at : ℕ) (a : R.Answer ℕ ℕ) → Fits answ
     → fieldsAt answerWidths (putAnswer s at a) at ≡ answerFields a
 unfolding putAnswer widthOf
 answer-same s at a f h = fields-same answerWidths s at (answerFields a) f h
-
--- ---- an answer of the code fits its fields: its transaction and its paper are of their widths
-pub answer-fits : (a : Answer) (p : Paper) → OnPaper (R.paper (bookSays (a .says))) p → a .asker < 65536 → p .number < 65536
-    → p .key .0 < 18446744073709551616 → p .rec < 4294967296 → Fits answerWidths (answerFields (bookAnswer a))
-unfolding answerFields
-answer-fits a p o f₁ f₂ f₃ f₄ = rw (← (o .number), ← (o .key), ← (o .rec)) (lit< tt, (lit< tt, (f₁, (f₂, (f₃, (f₄, tt))))))

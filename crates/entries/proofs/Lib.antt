@@ -5,4 +5,3 @@ pub mod Requests
 pub mod Number12
 pub mod Answers
 pub mod Written
-pub mod FirstCase

@@ -8,7 +8,7 @@ use mathlib.Core.List.{List}
 use mathlib.Core.Option.{none, some, Option·none-ne-some, Option·some-injective}
 use lib.Dec.{leb, ltb}
 use borrow.Author.Tests.{ltb-true, leb-true, lt-leb, not-false}
-use Rattle.lists.proofs.Tests.{and-left, and-right, either, or-left, or-right}
+use Rattle.lists.proofs.Tests.{and-left, and-right, either, or-left, or-right, neither}
 use Rattle.numbers.specs.Numbers.{numberAt, fieldsAt, Bytes}
 use Rattle.numbers.proofs.Numbers.{number-below}
 use Rattle.rules.specs.Kinds.{Paging, Ask, read, insert, delete, Request, begin, commit, rollback, ask, Call}
@@ -16,7 +16,7 @@ use Rattle.rules.specs.Desk.{isTransaction, legalAsk, legalRequest, legalCall}
 use Rattle.rules.specs.Document.{document, endless, endMark}
 use Rattle.entries.specs.Records.{forms, requests, kindIn, callIn, short, unlikeSlice, unlikeKind, unknownKind, misshapen, filled, illegal, isBad, heard}
 use Rattle.entries.proofs.Legal.{legal-any}
-use Rattle.entries.proofs.Requests.{neither, shaped, each-kind, requestBy, asked}
+use Rattle.entries.proofs.Requests.{shaped, each-kind, requestBy, asked}
 
 module _ (s : List ℕ) where
   -- ---- 12 where the record is bad, and at no other time

@@ -2,14 +2,9 @@
 -- Each map has a way back, and a value comes back as it went.
 use Prim.Native.Nat.{ℕ}
 use mathlib.Core.Path.{_≡_, refl, sym, ap, ap₂, _∙_}
-use mathlib.Core.Bool.{Bool, true, false, cond}
 use mathlib.Core.Option.{Option, none, some}
-use lib.Dec.{eqb}
-use borrow.Author.Tests.{eqb-true}
 use Rattle.rules.specs.Kinds as K
 use Rattle.rules.specs.Runs as R
-use Rattle.rules.specs.Document.{endMark}
-use Rattle.entries.specs.declared.Key.{Key}
 use Rattle.entries.specs.declared.Value.{Value}
 use Rattle.entries.specs.declared.Value.the-variants.{Present, Absent}
 use Rattle.entries.specs.declared.Entry.{Entry}
@@ -23,26 +18,10 @@ use Rattle.entries.specs.declared.Heard.the-variants.{Good, Bad}
 use Rattle.entries.specs.declared.Says.{Says}
 use Rattle.entries.specs.declared.Says.the-variants.{Done, Found, Nothing, Waiting, RunsAlready, RunsNot, WaitsAlready, IsPresent, LocksShort, PagesShort, Circle}
 use Rattle.entries.specs.declared.Answer.{Answer}
-use Rattle.entries.specs.Meaning.{bookName, bookValue, bookEntry, bookAsk, bookRequest, bookCall, bookHeard, bookSays, bookAnswer}
+use Rattle.entries.specs.Meaning.{bookValue, bookEntry, bookAsk, bookRequest, bookCall, bookHeard, bookSays, bookAnswer}
 
 one-to-one : {A B : Type 0} (f : A → B) (g : B → A) → ((x : A) → g (f x) ≡ x) → (x y : A) → f x ≡ f y → x ≡ y
 one-to-one f g back x y e = sym (back x) ∙ ap g e ∙ back y
-
--- ---- names of locks
-abbrev keyOf : K.Name ℕ → Key
-keyOf (K.on k) = record { 0 = k }
-keyOf K.end = record { 0 = endMark }
-
-name-back : (k : Key) → keyOf (bookName k) ≡ k
-unfolding bookName
-name-back k = go (eqb (k .0) endMark) refl
-  where
-    go : (b : Bool) → eqb (k .0) endMark ≡ b → keyOf (cond b K.end (K.on (k .0))) ≡ k
-    go true e = ap (λ n. record { 0 = n }) (sym (eqb-true (k .0) endMark e))
-    go false e = refl
-
-pub name-inj : (a b : Key) → bookName a ≡ bookName b → a ≡ b
-name-inj = one-to-one bookName keyOf name-back
 
 -- ---- entries
 abbrev valueOf : Option ℕ → Value

@@ -2,14 +2,14 @@
 -- A record that is not misshapen has the length of its kind; and where the kind is known, the form is, and its fields are computed.
 use Prim.Native.Nat.{ℕ, zero, suc, _≤_, _<_}
 use mathlib.Core.Path.{_≡_, refl, sym, ap, _∙_}
-use mathlib.Core.Bool.{Bool, true, false, cond, not, _&&_, _||_, or-true, or-false, true≢false, false≢true}
+use mathlib.Core.Bool.{Bool, true, false, cond, not, _&&_, _||_, or-true, or-false, false≢true}
 use mathlib.Core.List.{List, [], _∷_}
 use mathlib.Core.Option.{none, some}
 use native.Mathlib.Omega.{arith}
 use lib.Dec.{eqb, leb}
 use lib.ListN.{length, getD, List·getD-map}
 use borrow.Author.Tests.{lt-ltb, le-ltb, ltb-false, eqb-true, leb-true, not-false}
-use Rattle.lists.proofs.Tests.{and-right}
+use Rattle.lists.proofs.Tests.{and-right, neither}
 use Rattle.numbers.specs.Numbers.{numberAt, widthOf, fieldsAt}
 use Rattle.rules.specs.Kinds as K
 use Rattle.rules.specs.Desk.{legalCall}
@@ -19,11 +19,6 @@ use Rattle.entries.specs.declared.Request.{Request}
 use Rattle.entries.specs.declared.Call.{Call}
 use Rattle.entries.specs.Meaning.{bookAsk, bookRequest, bookCall}
 use Rattle.entries.specs.Records.{forms, formOf, kindIn, requests, callIn, short, unlikeSlice, unlikeKind, unknownKind, filled, misshapen, Shaped, isBad, heard}
-
--- neither of two tests passes where their disjunction fails
-pub neither : (a b : Bool) → (a || b) ≡ false → (a ≡ false) × (b ≡ false)
-neither true b e = absurd (true≢false e)
-neither false b e = (refl, e)
 
 -- ---- a misshapen record
 by-kind : (k : ℕ) → getD (0 ∷ 8 ∷ 8 ∷ 8 ∷ 24 ∷ 24 ∷ 16 ∷ []) k 0 ≡ widthOf (formOf k)

@@ -2,14 +2,10 @@
 -- Assumes nothing.
 use Prim.Native.Nat.{ℕ}
 use mathlib.Core.Path.{_≡_}
-use mathlib.Core.Bool.{cond}
 use mathlib.Core.Option.{Option, none, some}
-use lib.Dec.{eqb}
 use Rattle.rules.specs.Kinds as K
 use Rattle.rules.specs.Runs as R
-use Rattle.rules.specs.Document.{endMark}
 use Rattle.entries.specs.Records.{orZero}
-use Rattle.entries.specs.declared.Key.{Key}
 use Rattle.entries.specs.declared.Value.{Value}
 use Rattle.entries.specs.declared.Value.the-variants.{Present, Absent}
 use Rattle.entries.specs.declared.Entry.{Entry}
@@ -24,10 +20,6 @@ use Rattle.entries.specs.declared.Says.{Says}
 use Rattle.entries.specs.declared.Says.the-variants.{Done, Found, Nothing, Waiting, RunsAlready, RunsNot, WaitsAlready, IsPresent, LocksShort, PagesShort, Circle}
 use Rattle.entries.specs.declared.Paper.{Paper}
 use Rattle.entries.specs.declared.Answer.{Answer}
-
--- the end mark as a lock's name: a case of its own in the rule book
-unfoldable pub bookName : Key → K.Name ℕ
-bookName k = cond (eqb (k .0) endMark) K.end (K.on (k .0))
 
 abbrev pub bookValue : Value → Option ℕ
 bookValue (Present r) = some r

@@ -1,6 +1,6 @@
 -- An insert of a missing key, from the root: the tree grown, with a new root if it was divided, and page 0 written, is the index with the
 -- entry, whole again. Page 0 and a new root are pages apart from the tree's. Assumes nothing.
-use Rattle.pages.specs.Layout.{ChildFits}
+use Rattle.pages.specs.Layout.{EntryFits, ChildFits, rootOf, usedOf, heightOf, putRoot, childrenOf}
 use Prim.Native.Nat.{ℕ, suc, _+_, _-_, _≤_, _<_, compare}
 use mathlib.Core.Path.{_≡_, refl, sym, ap, ap₂, subst, _∙_}
 use mathlib.Core.Logic.{_≢_, inl, inr}
@@ -15,11 +15,10 @@ use Rattle.lists.specs.Lists.{In}
 use Rattle.rules.specs.Document.{endMark}
 use Rattle.rules.proofs.Orders.{numbers-ordered}
 use Rattle.pages.specs.declared.Child as P
-use Rattle.pages.specs.Layout.{rootOf, usedOf, heightOf, putRoot, childrenOf}
 use Rattle.trees.specs.Trees.{Child, Index, WholeIndex, documentSizes, summed, above, times}
 use Rattle.trees.specs.Growth as G
 use Rattle.trees.specs.Growth.{missing, rooted, withItem, fits, needed}
-use Rattle.trees.proofs.Pages.{grown-times}
+use Rattle.trees.proofs.Pages.{grown-times, above-yes}
 use Rattle.trees.proofs.Need.{Run, grown-needs}
 use Rattle.trees.proofs.Wholes.{with-whole, document-fair}
 use Rattle.index.specs.declared.Top.{Top}
@@ -28,14 +27,12 @@ use Rattle.index.specs.declared.Grown.the-variants.{Same, Split}
 use Rattle.index.specs.Pictures.{Item, keyOf, pageAt, putPage, treeOf, indexOf, entriesIn, headPage, innerPage, Laid, WholePages}
 use Rattle.index.specs.Changes.{withEntry, entryFits, Becomes, Added}
 use Rattle.index.specs.Descents.{Subtree, TopOf, runOf}
-use Rattle.index.specs.Growing.{SmallEntry, GrowIn, Grew, grownOf, rootPage, RootIn}
+use Rattle.index.specs.Growing.{GrowIn, Grew, grownOf, rootPage, RootIn}
 use Rattle.index.proofs.Buffers.{length-putPage, page-same, page-kept}
 use Rattle.index.proofs.Inners as Inner
 use Rattle.index.proofs.Frame as F
 use Rattle.index.proofs.Frame.{Times, own-page, frame, laid-frame}
 use Rattle.index.proofs.Subtrees.{used-page, subtree-root}
-use Rattle.index.proofs.Divided.{child-small}
-use Rattle.index.proofs.Widens.{unused}
 use Rattle.index.proofs.Heads.{length-head, head-again, root-head, used-head, height-head, level-small}
 
 -- ---- what stands in the buffer, from page 0 on
@@ -101,7 +98,7 @@ module _ (s : List ℕ) (w : WholePages s) (t : Top) (o : TopOf s t) (e : Item) 
       go true h = omega arith
       go false h = h
 
-  pub grow-top : SmallEntry e → GrowIn s (t .level) (t .root) (t .used) e
+  pub grow-top : EntryFits e → GrowIn s (t .level) (t .root) (t .used) e
   grow-top m =
       record {
         sub = sub;
@@ -213,8 +210,8 @@ module _ (s : List ℕ) (w : WholePages s) (t : Top) (o : TopOf s t) (e : Item) 
             let pos : 0 < v = omega (arith, d′ .more, used-some) in
             let kept : (q : ℕ) → q ≢ 0 → q ≢ v → pageAt sb q ≡ pageAt s₁ q =
             λ q a b. page-kept sa za 0 (lit< tt) H j q a ∙ page-kept s₁ (d .size) v next R i q b in
-            let uv = unused v v (omega arith) in
-            let ul = unused 1 v pos in
+            let uv = above-yes v v (omega arith) in
+            let ul = above-yes 1 v pos in
             let old : F.Same n s₁ sb (t .root) =
             λ q k. kept q (λ l. omega (arith, subst (λ x. 0 < Times n x s₁ (t .root)) l k, total′ 0)) (λ l. omega (arith, subst (λ x. 0 < Times n x s₁ (t .root)) l k, total′ v)) in
             let new : F.Same n s₁ sb (c .page) =
@@ -238,7 +235,7 @@ module _ (s : List ℕ) (w : WholePages s) (t : Top) (o : TopOf s t) (e : Item) 
           where
             smalls : Inner.Smalls (record { low = record { 0 = 0 }; page = t .root } ∷ c ∷ [])
             smalls y (inl i) = subst ChildFits i (record { low = lit< tt; page = omega (arith, sub .which) })
-            smalls y (inr (inl i)) = subst ChildFits i (child-small c (d′ .told .3))
+            smalls y (inr (inl i)) = subst ChildFits i (d′ .told .3)
             smalls y (inr (inr i)) = absurd i
 
             laid-two : (y : P.Child) → In y (record { low = record { 0 = 0 }; page = t .root } ∷ c ∷ []) → (sb : List ℕ) → F.Same n s₁ sb (t .root) → F.Same n s₁ sb (c .page) → Laid n sb (y .page)

@@ -12,32 +12,31 @@ use lib.Dec.{eqb}
 use lib.ListN.{length, take, drop}
 use lib.Seq.{split-at, take-append-seam}
 use Rattle.lists.specs.Lists.{In, all, join}
-use Rattle.lists.proofs.Elements.{append-in, in-map}
+use Rattle.lists.proofs.Elements.{append-in, in-map, in-right}
 use Rattle.lists.proofs.Tables.{getD-tab}
-use Rattle.lists.proofs.Rows.{all-left, all-right, all-weaker, in-right, map-take, map-drop}
+use Rattle.lists.proofs.Tests.{all-weaker}
+use Rattle.lists.proofs.Joins.{map-take, map-drop, all-join}
 use Rattle.rules.proofs.Orders.{numbers-ordered}
 use Rattle.pages.specs.declared.Child as P
 use Rattle.pages.specs.Layout.{kindOf, countOf, entriesOf, childAt, childrenOf}
+use Rattle.pages.proofs.Entries.{length-entries}
+use Rattle.pages.proofs.Children.{length-children}
 use Rattle.trees.specs.Trees.{Child, Tree, isPage, times, flat, atMost, under, inside, ranges, ranged}
 use Rattle.trees.specs.Growth.{place, missing}
 use Rattle.trees.proofs.Keys.{at-most-itself, under-then, under-other, other-under}
 use Rattle.trees.proofs.Order.{flat-sorted}
 use Rattle.trees.proofs.Ranges.{ranges-cut, ranges-sorted, before-under, ranged-in}
 use Rattle.trees.proofs.Spots.{Lies, endOf, at-spot}
+use Rattle.trees.proofs.Pages.{summed-some}
 use Rattle.index.specs.declared.Way.{Way}
 use Rattle.index.specs.Pictures.{Item, keyOf, pageAt, treeOf}
 use Rattle.index.specs.Descents.{Subtree, Goes, LeafFor}
 use Rattle.index.proofs.Buffers.{length-page}
 use Rattle.index.proofs.Frame.{kid, Times, own-page, times-inner, times-child}
-use Rattle.index.proofs.Subtrees.{leaf-few, keys-ascend, length-entries, length-children, subtree-child, child-in, child-place}
-use Rattle.index.proofs.Refills.{summed-some, isPage-is, inner-kind}
+use Rattle.index.proofs.Subtrees.{leaf-few, keys-ascend, subtree-child, child-in, child-place}
+use Rattle.index.proofs.Refills.{isPage-is, inner-kind}
 
 -- ---- a test that all entries of a tree pass, in a child and in a leaf
-all-join : {A B : Type 0} (p : B → Bool) (f : A → List B) (xs : List A) (x : A) → all p (join f xs) ≡ true → In x xs → all p (f x) ≡ true
-unfolding join
-all-join p f (y ∷ ys) x h (inl e) = subst (λ z. all p (f z) ≡ true) e (all-left p (f y) (join f ys) h)
-all-join p f (y ∷ ys) x h (inr i) = all-join p f ys x (all-right p (f y) (join f ys) h) i
-
 all-leaf : (p : Item → Bool) (s : List ℕ) (n pg u q : ℕ) → Subtree s n pg u → all p (flat ℕ Item n (treeOf n s pg)) ≡ true → 0 < Times n q s pg
     → kindOf (pageAt s q) ≡ 2 → all p (entriesOf (pageAt s q)) ≡ true
 unfolding times treeOf flat

@@ -1,62 +1,44 @@
 -- A leaf and an inner page with one more, as the code divides them: the new page is built apart and copied in.
 -- The parts that are lent are the pages, and what is copied whole is the page. Assumes nothing.
-use Rattle.pages.specs.Layout.{EntryFits, ChildFits}
-use Prim.Native.Nat.{ℕ, zero, suc, _+_, _*_, _-_, _≤_, _<_}
+use Rattle.pages.specs.Layout.{EntryFits, ChildFits, countOf, putHead, entryAt, entriesOf, childrenOf}
+use Prim.Native.Nat.{ℕ, _+_, _*_, _-_, _≤_, _<_}
 use mathlib.Core.Path.{_≡_, refl, sym, ap, subst, _∙_}
-use mathlib.Core.Logic.{inr, ⊎-elim}
+use mathlib.Core.Logic.{⊎-elim}
 use mathlib.Core.List.{List, [], _∷_}
 use native.Mathlib.Omega.{arith}
 use lib.ListN.{length, take, drop, replicate, length-drop}
-use lib.Seq.{take-all, length-take-le}
+use lib.Seq.{length-take-le}
 use borrow.Rule.Slice.PartMut.{putMid}
-use Rattle.lists.specs.Lists.{In, tab, insertAt}
-use Rattle.lists.proofs.Elements.{insertAt-in}
+use Rattle.lists.specs.Lists.{tab, insertAt}
+use Rattle.lists.proofs.Elements.{insertAt-in, drop-in}
 use Rattle.lists.proofs.Places.{length-insertAt, map-insertAt}
-use Rattle.lists.proofs.Rows.{map-drop}
-use Rattle.numbers.specs.Numbers.{part, putPart, copied}
-use Rattle.numbers.proofs.Parts.{length-putPart, part-same}
+use Rattle.lists.proofs.Joins.{map-drop}
+use Rattle.numbers.specs.Numbers.{putPart, copied}
+use Rattle.numbers.proofs.Parts.{length-putPart, part-same, part-all}
 use Rattle.entries.specs.declared.Key.{Key}
 use Rattle.pages.specs.declared.Child as P
-use Rattle.pages.specs.Layout.{countOf, putHead, entryAt, entriesOf, childrenOf}
 use Rattle.pages.specs.Rows.{rowsOf, entryRow, childRow, childPut, Divided, asTheyAre, fromZero, firstLow}
-use Rattle.pages.proofs.Children as C
+use Rattle.pages.proofs.Children.{length-children}
 use Rattle.index.specs.declared.Grown.the-variants.{Same, Split}
 use Rattle.index.specs.Pictures.{Item, pageAt, putPage, blankPage, leafPage, innerPage}
-use Rattle.index.specs.Growing.{SmallEntry, SmallChild, LeafFull, LeafSplit, lowKey, InnerRoom, InnerFull, Widened, zeroFirst, lowFirst}
+use Rattle.index.specs.Growing.{LeafFull, LeafSplit, lowKey, InnerRoom, InnerFull, Widened, zeroFirst}
 use Rattle.index.proofs.Buffers.{page-lent, page-back, length-page, length-putPage}
 use Rattle.index.proofs.Leaves as Leaf
 use Rattle.index.proofs.Inners as Inner
 use Rattle.index.proofs.Written.{length-blank, count-blank}
-use Rattle.index.proofs.Subtrees.{length-children}
-
-pub entry-small : (e : Item) → SmallEntry e → EntryFits e
-entry-small e s = record { key = s .key; owner = s .owner; now = s .now; before = s .before }
-
-pub child-small : (c : P.Child) → SmallChild c → ChildFits c
-child-small c s = record { low = s .low; page = s .page }
-
-pub small-child : (c : P.Child) → ChildFits c → SmallChild c
-small-child c s = record { low = s .low; page = s .page }
 
 -- the blank page as the code builds it
 pub built : (kind level : ℕ) → putHead (replicate 512 0) kind 0 level ≡ blankPage kind level
 unfolding blankPage
 built kind level = refl
 
-all-of-it : (r : List ℕ) → length r ≡ 512 → part 0 512 r ≡ r
-unfolding part
-all-of-it r e = take-all 512 r (omega arith)
-
-pub in-drop : {A : Type 0} (n : ℕ) (xs : List A) (x : A) → In x (drop n xs) → In x xs
-in-drop zero xs x i = i
-in-drop (suc n) [] x i = i
-in-drop (suc n) (y ∷ ys) x i = inr (in-drop n ys x i)
-
 -- a page copied whole
 whole-copy : (p q : List ℕ) → length p ≡ 512 → length q ≡ 512 → copied 512 p 0 0 q ≡ p
 unfolding copied
 whole-copy p q a b =
-    ap (λ r. putPart 0 r q) (all-of-it p a) ∙ sym (all-of-it (putPart 0 p q) (length-putPart 0 p q (omega arith) ∙ b)) ∙ part-same 0 512 p q a (omega arith)
+    ap (λ r. putPart 0 r q) (part-all 512 p a)
+    ∙ sym (part-all 512 (putPart 0 p q) (length-putPart 0 p q (omega arith) ∙ b))
+    ∙ part-same 0 512 p q a (omega arith)
 
 -- the buffer when the part of a page is given back
 abbrev pub lentBack : ℕ → List ℕ → List ℕ → List ℕ
@@ -100,7 +82,7 @@ module _ (s : List ℕ) (pg u i : ℕ) (e : Item) (f : LeafFull s pg u i e) wher
 
   smalls : Leaf.Smalls es
   smalls x j =
-      ⊎-elim (λ p. subst EntryFits p (entry-small e (f .small))) (Leaf.laid-small (pageAt s pg) (f .laid) (omega (arith, f .full)) x)
+      ⊎-elim (λ p. subst EntryFits p (f .small)) (Leaf.laid-small (pageAt s pg) (f .laid) (omega (arith, f .full)) x)
       (insertAt-in i e (entriesOf (pageAt s pg)) x j)
 
   divided : (r₀ l r : List ℕ) → r₀ ≡ putHead (replicate 512 0) 2 0 0
@@ -131,7 +113,7 @@ module _ (s : List ℕ) (pg u i : ℕ) (e : Item) (f : LeafFull s pg u i e) wher
         bytes = both-back s (f .size) pg u (f .which) (f .next) (lentBack pg s l) l (leafPage (take 13 es)) r c a x p refl (ap length y ∙ q) g j
             ∙ ap (putPage (putPage s pg (leafPage (take 13 es))) u) y;
         told = ap (λ v. Split (u + 1) (record { low = record { 0 = v }; page = u }))
-            (key ∙ ap (λ v. entryAt v 0 .key) y ∙ first-key (drop 13 es) (omega arith) (omega arith) (λ v o. smalls v (in-drop 13 es v o)));
+            (key ∙ ap (λ v. entryAt v 0 .key) y ∙ first-key (drop 13 es) (omega arith) (omega arith) (λ v o. smalls v (drop-in 13 es v o)));
       }
 
 -- ---- an inner page
@@ -139,10 +121,10 @@ pub inner-requires : (s : List ℕ) (n pg u i : ℕ) (c : P.Child) → InnerFull
     → countOf (take (512 * pg + 512 - 512 * pg) (drop (512 * pg) s)) ≡ 30
 inner-requires s n pg u i c f = ap countOf (page-lent s pg) ∙ f .count
 
-inner-smalls : (s : List ℕ) (n pg i : ℕ) (c : P.Child) → pageAt s pg ≡ innerPage n (childrenOf (pageAt s pg)) → countOf (pageAt s pg) ≤ 30 → SmallChild c
-    → Inner.Smalls (insertAt i c (childrenOf (pageAt s pg)))
+inner-smalls : (s : List ℕ) (n pg i : ℕ) (c : P.Child) → pageAt s pg ≡ innerPage n (childrenOf (pageAt s pg)) → countOf (pageAt s pg) ≤ 30
+    → ChildFits c → Inner.Smalls (insertAt i c (childrenOf (pageAt s pg)))
 inner-smalls s n pg i c l f m x j =
-    ⊎-elim (λ p. subst ChildFits p (child-small c m)) (Inner.laid-small n (pageAt s pg) l (omega (arith, length-children (pageAt s pg))) x)
+    ⊎-elim (λ p. subst ChildFits p m) (Inner.laid-small n (pageAt s pg) l (omega (arith, length-children (pageAt s pg))) x)
     (insertAt-in i c (childrenOf (pageAt s pg)) x j)
 
 module _ (s : List ℕ) (n pg u i : ℕ) (c : P.Child) (f : InnerFull s n pg u i c) where
@@ -160,14 +142,6 @@ module _ (s : List ℕ) (n pg u i : ℕ) (c : P.Child) (f : InnerFull s n pg u i
   zero-length [] = refl
   zero-length (x ∷ xs) = refl
 
-  same-zero : (xs : List P.Child) → C.fromLowest xs ≡ zeroFirst xs
-  same-zero [] = refl
-  same-zero (x ∷ xs) = refl
-
-  same-low : (xs : List P.Child) → Inner.lowFirst xs ≡ lowFirst xs
-  same-low [] = refl
-  same-low (x ∷ xs) = refl
-
   pub inner-split : (r₀ l r k′ : List ℕ) (k : Key) → r₀ ≡ putHead (replicate 512 0) 3 0 n
       → Divided 16 16 fromZero (insertAt i (childRow c) (rowsOf 16 (take (512 * pg + 512 - 512 * pg) (drop (512 * pg) s)))) (take (512 * pg + 512 - 512 * pg) (drop (512 * pg) s)) r₀ l r
       → k .0 ≡ firstLow (drop 16 (insertAt i (childRow c) (rowsOf 16 (take (512 * pg + 512 - 512 * pg) (drop (512 * pg) s)))))
@@ -179,10 +153,10 @@ module _ (s : List ℕ) (n pg u i : ℕ) (c : P.Child) (f : InnerFull s n pg u i
       let old = childrenOf (pageAt s pg) in
       let o : length old ≡ 30 = length-children (pageAt s pg) ∙ f .count in
       let z = divided-inner r₀ l r b d in
-      let small : Inner.Smalls (drop 16 ds) = λ v o. inner-smalls s n pg i c (f .laid) (omega (arith, f .count)) (f .small) v (in-drop 16 ds v o) in
+      let small : Inner.Smalls (drop 16 ds) = λ v o. inner-smalls s n pg i c (f .laid) (omega (arith, f .count)) (f .small) v (drop-in 16 ds v o) in
       let e = length-insertAt i c old in
       let x : l ≡ innerPage n (take 16 ds) = Inner.inner-stays n old (omega arith) i c l r z (omega arith) in
-      let y : r ≡ innerPage n (zeroFirst (drop 16 ds)) = Inner.inner-goes n old (omega arith) i c l r z small ∙ ap (innerPage n) (same-zero (drop 16 ds)) in
+      let y : r ≡ innerPage n (zeroFirst (drop 16 ds)) = Inner.inner-goes n old (omega arith) i c l r z small in
       let t : length (take 16 ds) ≡ 16 = length-take-le 16 ds (omega arith) in
       let w : length (drop 16 ds) ≡ 15 = length-drop 16 ds ∙ ap (λ v. v - 16) (e ∙ ap (λ v. v + 1) o) in
       let p : length (innerPage n (take 16 ds)) ≡ 512 = Inner.inner-length n (take 16 ds) (omega arith) in
@@ -196,7 +170,7 @@ module _ (s : List ℕ) (n pg u i : ℕ) (c : P.Child) (f : InnerFull s n pg u i
               (key ∙ ap (λ v. firstLow (drop 16 (insertAt i (childRow c) (rowsOf 16 v)))) (page-lent s pg ∙ f .laid)
               ∙ ap (λ v. firstLow (drop 16 v)) (ap (insertAt i (childRow c)) (Inner.inner-rows n old (omega arith)) ∙ sym (map-insertAt childRow i c old))
               ∙ ap firstLow (sym (map-drop childRow 16 ds))
-              ∙ Inner.first-rows (drop 16 ds) small ∙ same-low (drop 16 ds)),
+              ∙ Inner.first-rows (drop 16 ds) small),
           o,
         );
       }

@@ -9,7 +9,7 @@ use native.Mathlib.Omega.{arith}
 use lib.Dec.{leb, eqb}
 use borrow.Author.Tests.{le-leb, lt-leb, eqb-true}
 use Rattle.lists.specs.Lists.{first, join, insertBefore}
-use Rattle.lists.proofs.Rows.{join-append, map-append}
+use Rattle.lists.proofs.Joins.{join-append, map-append}
 use Rattle.rules.specs.Document.{endMark}
 use Rattle.rules.specs.Entries.{left, settled, takenOut}
 use Rattle.rules.proofs.Orders.{numbers-ordered}

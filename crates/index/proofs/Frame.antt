@@ -1,33 +1,18 @@
 -- The tree at a page depends on its own pages alone: where these are the same bytes, it is the same tree, and laid as it was. And a tree's
 -- children are parts of it: how often a page stands in them says where a page can stand. Assumes nothing.
 use Prim.Native.Nat.{ℕ, zero, suc, _+_, _≤_, _<_}
-use mathlib.Core.Path.{_≡_, refl, sym, ap, ap₂, subst, _∙_}
-use mathlib.Core.Logic.{inl, inr}
+use mathlib.Core.Path.{_≡_, refl, sym, ap, subst, _∙_}
 use mathlib.Core.Bool.{cond}
-use mathlib.Core.List.{List, [], _∷_, _++_, map}
+use mathlib.Core.List.{List, map}
 use native.Mathlib.Omega.{arith}
 use borrow.Author.Tests.{eq-eqb}
 use Rattle.lists.specs.Lists.{In}
+use Rattle.lists.proofs.Joins.{map-same}
 use Rattle.pages.specs.declared.Child as P
 use Rattle.pages.specs.Layout.{entriesOf, childrenOf}
 use Rattle.trees.specs.Trees.{Child, Tree, summed, isPage, times}
-use Rattle.trees.proofs.Pages.{summed-map}
+use Rattle.trees.proofs.Pages.{summed-map, summed-in}
 use Rattle.index.specs.Pictures.{Item, pageAt, treeOf, leafPage, innerPage, Laid}
-
--- ---- sums
-pub summed-in : {A : Type 0} (f : A → ℕ) (xs : List A) (x : A) → In x xs → f x ≤ summed f xs
-unfolding summed
-summed-in f (y ∷ ys) x (inl e) = omega (arith, ap f e)
-summed-in f (y ∷ ys) x (inr i) = omega (arith, summed-in f ys x i)
-
-pub summed-append : {A : Type 0} (f : A → ℕ) (xs ys : List A) → summed f (xs ++ ys) ≡ summed f xs + summed f ys
-unfolding summed
-summed-append f [] ys = omega arith
-summed-append f (x ∷ xs) ys = omega (arith, summed-append f xs ys)
-
-pub map-same : {A B : Type 0} (f g : A → B) (xs : List A) → ((x : A) → In x xs → f x ≡ g x) → map f xs ≡ map g xs
-map-same f g [] h = refl
-map-same f g (x ∷ xs) h = ap₂ (λ y ys. y ∷ ys) (h x (inl refl)) (map-same f g xs (λ y i. h y (inr i)))
 
 -- ---- a child as a tree
 abbrev pub kid : (n : ℕ) → List ℕ → P.Child → Child ℕ (Tree ℕ Item n)

@@ -1,9 +1,9 @@
 -- A tree of pages grows as the tree does. The code's step at a leaf and at an inner page is the tree's step, its new pages are laid, and no
 -- other page is touched: how often a page stands in a tree says that it is another. Assumes nothing.
-use Rattle.pages.specs.Layout.{EntryFits}
-use Prim.Native.Nat.{ℕ, zero, suc, _+_, _*_, _-_, _≤_, _<_}
+use Rattle.pages.specs.Layout.{EntryFits, countOf, entriesOf}
+use Prim.Native.Nat.{ℕ, _+_, _*_, _-_, _≤_, _<_}
 use mathlib.Core.Path.{_≡_, refl, sym, ap, subst, _∙_}
-use mathlib.Core.Logic.{_≢_, inl, inr, ⊎-elim}
+use mathlib.Core.Logic.{_≢_, inl, ⊎-elim}
 use mathlib.Core.Bool.{Bool, true, false, cond}
 use mathlib.Core.List.{List, [], _∷_}
 use mathlib.Core.Option.{some}
@@ -13,14 +13,13 @@ use lib.ListN.{length, take, drop, length-drop}
 use lib.Seq.{length-take-le}
 use borrow.Author.Tests.{le-leb, lt-leb}
 use borrow.Rule.Slice.PartMut.{putMid}
-use Rattle.lists.specs.Lists as L
-use Rattle.lists.specs.Lists.{In, insertAt, insertBefore}
-use Rattle.lists.proofs.Elements.{insertAt-in}
-use Rattle.lists.proofs.Places.{length-insertAt}
+use Rattle.lists.specs.Lists.{insertAt, insertBefore}
+use Rattle.lists.proofs.Elements.{insertAt-in, drop-in, take-in}
+use Rattle.lists.proofs.Places.{length-insertAt, insertBefore-is}
 use Rattle.pages.specs.declared.Child as P
-use Rattle.pages.specs.Layout.{countOf, entriesOf}
 use Rattle.pages.specs.Places.{EntryPlace}
 use Rattle.pages.specs.Rows.{entryPut}
+use Rattle.pages.proofs.Entries.{length-entries}
 use Rattle.trees.specs.Trees.{Child}
 use Rattle.trees.specs.Growth as G
 use Rattle.trees.specs.Growth.{halves, grown, fullRun}
@@ -31,25 +30,7 @@ use Rattle.index.specs.Growing.{GrowIn, Grew, grownOf, LeafFull, LeafSpl
 use Rattle.index.proofs.Buffers.{page-lent, page-back, length-putPage, page-same, page-other}
 use Rattle.index.proofs.Leaves as Leaf
 use Rattle.index.proofs.Frame.{Times, own-page}
-use Rattle.index.proofs.Subtrees.{leaf-few, keys-ascend, length-entries}
-use Rattle.index.proofs.Divided.{entry-small, in-drop}
-
--- ---- put in before the first that is not under it
-before-at : {A : Type 0} (p : A → Bool) (a : A) (xs : List A) → insertBefore p a xs ≡ insertAt (L.place p xs) a xs
-unfolding insertBefore insertAt L.place
-before-at p a [] = refl
-before-at p a (x ∷ xs) = go (p x) (before-at p a xs)
-  where
-    go : (b : Bool) → insertBefore p a xs ≡ insertAt (L.place p xs) a xs
-        → cond b (a ∷ x ∷ xs) (x ∷ insertBefore p a xs) ≡ insertAt (cond b 0 (suc (L.place p xs))) a (x ∷ xs)
-    go true e = refl
-    go false e = ap (λ ys. x ∷ ys) e
-
-pub in-take : {A : Type 0} (n : ℕ) (xs : List A) (x : A) → In x (take n xs) → In x xs
-in-take zero xs x i = absurd i
-in-take (suc n) [] x i = i
-in-take (suc n) (y ∷ ys) x (inl e) = inl e
-in-take (suc n) (y ∷ ys) x (inr i) = inr (in-take n ys x i)
+use Rattle.index.proofs.Subtrees.{leaf-few, keys-ascend}
 
 -- ---- a leaf
 -- what is read of a page that is written as a leaf
@@ -70,12 +51,12 @@ module _ (s : List ℕ) (pg u : ℕ) (e : Item) (g : GrowIn s 0 pg u e) (i : ℕ
 
   new-is : insertBefore (λ x. leb (e .key) (x .key)) e old ≡ new
   new-is =
-      before-at (λ x. leb (e .key) (x .key)) e old
+      insertBefore-is (λ x. leb (e .key) (x .key)) e old
       ∙ ap (λ j. insertAt j e old) (sym (subst (λ p. EntryPlace p (e .key) i) (page-lent s pg) place .first (keys-ascend s pg u (g .sub))))
 
   new-small : Leaf.Smalls new
   new-small x j =
-      ⊎-elim (λ p. subst EntryFits p (entry-small e (g .small))) (Leaf.laid-small (pageAt s pg) (g .sub .laid) (leaf-few s pg u (g .sub)) x) (insertAt-in i e old x j)
+      ⊎-elim (λ p. subst EntryFits p (g .small)) (Leaf.laid-small (pageAt s pg) (g .sub .laid) (leaf-few s pg u (g .sub)) x) (insertAt-in i e old x j)
 
   -- as many as these
   grown-is : (b : Bool) → leb (length new) 24 ≡ b → grownOf 0 e u s pg ≡ halves b 13 (G.lowKey keyOf 0) (λ xs. xs) u pg new
@@ -147,8 +128,8 @@ module _ (s : List ℕ) (pg u : ℕ) (e : Item) (g : GrowIn s 0 pg u e) (i : ℕ
       let z₁ = length-putPage s (t .size) pg (t .which) a x in
       let s₂ = putPage s₁ u b in
       let l = put-leaf s₂ pg (take 13 new) (page-other s₁ z₁ u (h .next) b y pg (t .which) (λ v. omega (arith, h .other)) ∙ page-same s (t .size) pg (t .which) a x)
-      (omega arith) (λ v o. new-small v (in-take 13 new v o)) in
-      let r′ = put-leaf s₂ u (drop 13 new) (page-same s₁ z₁ u (h .next) b y) (omega arith) (λ v o. new-small v (in-drop 13 new v o)) in
+      (omega arith) (λ v o. new-small v (take-in 13 new v o)) in
+      let r′ = put-leaf s₂ u (drop 13 new) (page-same s₁ z₁ u (h .next) b y) (omega arith) (λ v o. new-small v (drop-in 13 new v o)) in
       let f = grown-is false (lt-leb (length new) 24 (omega arith)) in
       let c : P.Child = record { low = record { 0 = lowKey (drop 13 new) }; page = u } in
       subst (λ v. Grew 0 s v pg u e r) (sym (d .bytes)) (subst (λ v. Grew 0 s s₂ pg u e v) (sym (d .told))
@@ -161,7 +142,7 @@ module _ (s : List ℕ) (pg u : ℕ) (e : Item) (g : GrowIn s 0 pg u e) (i : ℕ
           ap (λ v. v .beside) f ∙ ap (λ v. some (record { low = v; tree = record { number = u; holds = drop 13 new } })) (same-low (drop 13 new))
               ∙ ap (λ v. some (record { low = lowKey (drop 13 new); tree = v })) (sym (r′ .0)),
           r′ .1,
-          record { low = low-small (drop 13 new) (λ v o. new-small v (in-drop 13 new v o)); page = omega (arith, h .next) },
+          record { low = low-small (drop 13 new) (λ v o. new-small v (drop-in 13 new v o)); page = omega (arith, h .next) },
         );
         more = omega arith;
         most = omega (arith, h .next);

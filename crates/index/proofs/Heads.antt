@@ -14,14 +14,15 @@ use borrow.Author.Tests.{eq-eqb}
 use Rattle.lists.specs.Lists.{In}
 use Rattle.numbers.specs.Numbers.{fieldsAt, putFields, widthOf}
 use Rattle.numbers.proofs.Fields.{touches-putFields, length-putFields, fields-same}
+use Rattle.numbers.proofs.Splices.{fields-alike}
 use Rattle.pages.specs.declared.Child as P
 use Rattle.pages.specs.Layout.{rootOf, usedOf, heightOf, rootWidths, putRoot, childrenOf}
-use Rattle.pages.proofs.Splices.{fields-alike}
 use Rattle.trees.specs.Trees.{isPage, times}
+use Rattle.trees.proofs.Pages.{summed-in}
 use Rattle.index.specs.Pictures.{pageAt, treeOf, blankPage, headPage}
 use Rattle.index.specs.Descents.{Subtree}
 use Rattle.index.proofs.Written.{length-blank}
-use Rattle.index.proofs.Frame.{Times, times-inner, summed-in}
+use Rattle.index.proofs.Frame.{Times, times-inner}
 use Rattle.index.proofs.Subtrees.{subtree-child, inner-filled}
 
 pub length-head : (root used height : ℕ) → length (headPage root used height) ≡ 512

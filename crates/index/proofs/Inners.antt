@@ -1,6 +1,6 @@
 -- An inner page as it is written from children, and as the inner code changes it: it is then the page written from the children changed.
 -- Its rows are those of its children, and a child that fits is read back as it was written. Assumes nothing.
-use Rattle.pages.specs.Layout.{ChildFits}
+use Rattle.pages.specs.Layout.{ChildFits, countOf, childWidths, childFields, childrenOf}
 use Prim.Native.Nat.{ℕ, _≤_}
 use mathlib.Core.Path.{_≡_, refl, sym, ap, ap₂, subst, _∙_}
 use mathlib.Core.Logic.{inl, inr}
@@ -9,17 +9,18 @@ use native.Mathlib.Omega.{arith}
 use lib.Dec.{lit<, lit≤}
 use lib.ListN.{length, getD, take, drop, replicate}
 use Rattle.lists.specs.Lists.{In, insertAt}
-use Rattle.numbers.specs.Numbers.{numberAt, putNumber, fieldsAt, widthOf, Bytes}
+use Rattle.numbers.specs.Numbers.{numberAt, putNumber, fieldsAt, widthOf}
 use Rattle.numbers.proofs.Agree.{agree-all}
 use Rattle.numbers.proofs.Numbers.{number-same, number-apart, touches-putNumber, length-putNumber}
-use Rattle.numbers.proofs.Fields.{fields-fit, fields-same, fields-inj}
-use Rattle.numbers.proofs.Kept.{bytes-putFields, bytes-putNumber}
+use Rattle.numbers.proofs.Fields.{fields-same, fields-inj}
+use Rattle.numbers.proofs.Kept.{bytes-putNumber}
 use Rattle.pages.specs.declared.Child.{Child}
-use Rattle.pages.specs.Layout.{countOf, childWidths, childIn, childFields, childrenOf}
 use Rattle.pages.specs.Rows.{rowsOf, withRows, childRow, childPut, Divided, fromZero, firstLow}
-use Rattle.pages.proofs.Children.{child-fits, rowChild, child-row, length-childRow, children-with, fromLowest}
+use Rattle.pages.proofs.Children.{child-fits, rowChild, child-row, length-childRow, children-with, row-fits, bytes-childRow}
 use Rattle.index.specs.Pictures.{blankPage, innerPage}
-use Rattle.index.proofs.Written.{fit-rows, rows-written, count-written, length-written, put-written, stay-written, go-written, bytes-zero}
+use Rattle.index.specs.Growing.{zeroFirst, lowFirst}
+use Rattle.pages.proofs.Written.{fit-rows, rows-written, count-written, length-written, put-written, stay-written, go-written}
+use Rattle.index.proofs.Written.{blank-page}
 
 -- every child's numbers fit
 abbrev pub Smalls : List Child → Type 0
@@ -29,17 +30,9 @@ back-rows : (cs : List Child) → Smalls cs → map rowChild (map childRow cs) �
 back-rows [] s = refl
 back-rows (c ∷ cs) s = ap₂ (λ x xs. x ∷ xs) (child-row c (s c (inl refl))) (back-rows cs (λ x i. s x (inr i)))
 
-small-said : (r : List ℕ) → Bytes r → ChildFits (rowChild r)
-unfolding childIn fieldsAt
-small-said r b = let f = fields-fit childWidths r 0 b in record { low = f .0; page = f .1 .0 }
-
-bytes-childRow : (c : Child) → Bytes (childRow c)
-unfolding childRow
-bytes-childRow c = bytes-putFields childWidths (replicate 16 0) 0 (childFields c) (bytes-zero 16)
-
 smalls-said : (cs : List Child) → Smalls (map rowChild (map childRow cs))
 smalls-said [] x i = absurd i
-smalls-said (c ∷ cs) x (inl p) = subst ChildFits p (small-said (childRow c) (bytes-childRow c))
+smalls-said (c ∷ cs) x (inl p) = subst ChildFits p (row-fits (childRow c) (bytes-childRow c))
 smalls-said (c ∷ cs) x (inr i) = smalls-said cs x i
 
 row-fields : (c : Child) → ChildFits c → fieldsAt childWidths (childRow c) 0 ≡ childFields c
@@ -65,13 +58,9 @@ low-zero c s =
     let k = fields-inj childWidths {s = p} {t = childRow d} {a = 0} {b = 0} (bytes-putNumber 8 (childRow c) 0 0 (bytes-childRow c)) (bytes-childRow d) g in
     agree-all p (childRow d) (n ∙ sym (length-childRow d)) (record { byte = λ i h. k .byte i (omega arith) })
 
-zero-rows : (cs : List Child) → Smalls cs → fromZero (map childRow cs) ≡ map childRow (fromLowest cs)
+zero-rows : (cs : List Child) → Smalls cs → fromZero (map childRow cs) ≡ map childRow (zeroFirst cs)
 zero-rows [] s = refl
 zero-rows (c ∷ cs) s = ap (λ r. r ∷ map childRow cs) (low-zero c (s c (inl refl)))
-
-abbrev pub lowFirst : List Child → ℕ
-lowFirst [] = 0
-lowFirst (c ∷ cs) = c .low .0
 
 pub first-rows : (cs : List Child) → Smalls cs → firstLow (map childRow cs) ≡ lowFirst cs
 unfolding fieldsAt childFields
@@ -82,37 +71,40 @@ first-rows (c ∷ cs) s = ap (λ vs. getD vs 0 0) (row-fields c (s c (inl refl))
 module _ (level : ℕ) (cs : List Child) (h : length cs ≤ 30) where
   pub inner-rows : rowsOf 16 (innerPage level cs) ≡ map childRow cs
   unfolding innerPage
-  inner-rows = rows-written 16 3 level childRow length-childRow cs (omega arith) (omega arith)
+  inner-rows = rows-written 16 childRow length-childRow (blank-page 3 level) cs (omega arith) (omega arith)
 
   pub inner-count : countOf (innerPage level cs) ≡ length cs
   unfolding innerPage
-  inner-count = count-written 16 3 level childRow length-childRow cs (omega arith) (omega arith)
+  inner-count = count-written 16 childRow length-childRow (blank-page 3 level) cs (omega arith) (omega arith)
 
   pub inner-length : length (innerPage level cs) ≡ 512
   unfolding innerPage
-  inner-length = length-written 16 3 level childRow length-childRow cs (omega arith) (omega arith)
+  inner-length = length-written 16 childRow length-childRow (blank-page 3 level) cs (omega arith) (omega arith)
 
   pub inner-children : Smalls cs → childrenOf (innerPage level cs) ≡ cs
   unfolding innerPage
   inner-children s =
-      children-with (blankPage 3 level) (map childRow cs) (fit-rows 16 3 level childRow length-childRow cs (omega arith) (omega arith)) ∙ back-rows cs s
+      children-with (blankPage 3 level) (map childRow cs) (fit-rows 16 childRow length-childRow (blank-page 3 level) cs (omega arith) (omega arith))
+      ∙ back-rows cs s
 
   -- ---- as the inner code changes it
   pub inner-put : (i : ℕ) (c : Child) → length cs ≤ 29 → childPut (innerPage level cs) i c ≡ innerPage level (insertAt i c cs)
   unfolding innerPage childPut
-  inner-put i c k = put-written 16 3 level childRow length-childRow cs (omega arith) (omega arith) i c (omega arith) (omega arith)
+  inner-put i c k = put-written 16 childRow length-childRow (blank-page 3 level) cs (omega arith) (omega arith) i c (omega arith) (omega arith)
 
   module _ (i : ℕ) (c : Child) (l r : List ℕ)
       (d : Divided 16 16 fromZero (insertAt i (childRow c) (rowsOf 16 (innerPage level cs))) (innerPage level cs) (blankPage 3 level) l r) where
     pub inner-stays : 16 ≤ length cs → l ≡ innerPage level (take 16 (insertAt i c cs))
     unfolding innerPage
-    inner-stays k = d .left ∙ stay-written 16 3 level childRow length-childRow cs (omega arith) (omega arith) i 16 c (lit≤ tt) (lit< tt) k
+    inner-stays k =
+        d .left ∙ stay-written 16 childRow length-childRow (blank-page 3 level) cs (omega arith) (omega arith) i 16 c (lit≤ tt) (lit< tt) k
 
-    pub inner-goes : Smalls (drop 16 (insertAt i c cs)) → r ≡ innerPage level (fromLowest (drop 16 (insertAt i c cs)))
+    pub inner-goes : Smalls (drop 16 (insertAt i c cs)) → r ≡ innerPage level (zeroFirst (drop 16 (insertAt i c cs)))
     unfolding innerPage
     inner-goes s =
         d .right
-        ∙ ap (λ rs. withRows 16 (blankPage 3 level) (fromZero rs)) (go-written 16 3 level childRow length-childRow cs (omega arith) (omega arith) i 16 c)
+        ∙ ap (λ rs. withRows 16 (blankPage 3 level) (fromZero rs))
+        (go-written 16 childRow length-childRow (blank-page 3 level) cs (omega arith) (omega arith) i 16 c)
         ∙ ap (withRows 16 (blankPage 3 level)) (zero-rows (drop 16 (insertAt i c cs)) s)
 
 -- ---- a laid inner page: its children fit
@@ -120,4 +112,4 @@ pub laid-small : (level : ℕ) (p : List ℕ) → p ≡ innerPage level (childre
 unfolding innerPage
 laid-small level p e h =
     subst Smalls (sym (ap childrenOf e ∙ children-with (blankPage 3 level) (map childRow (childrenOf p))
-    (fit-rows 16 3 level childRow length-childRow (childrenOf p) (omega arith) (omega arith)))) (smalls-said (childrenOf p))
+    (fit-rows 16 childRow length-childRow (blank-page 3 level) (childrenOf p) (omega arith) (omega arith)))) (smalls-said (childrenOf p))

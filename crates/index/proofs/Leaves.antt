@@ -1,29 +1,24 @@
 -- A leaf as it is written from entries, and as the leaf code changes it: it is then the leaf written from the entries changed.
 -- Its rows are those of its entries, and an entry that fits is read back as it was written. Assumes nothing.
-use Rattle.pages.specs.Layout.{EntryFits}
-use Prim.Native.Nat.{ℕ, _/_, _%_, _≤_, _<_}
+use Rattle.pages.specs.Layout.{EntryFits, countOf, entriesOf}
+use Prim.Native.Nat.{ℕ, _≤_}
 use mathlib.Core.Path.{_≡_, refl, sym, ap, ap₂, subst, _∙_}
 use mathlib.Core.Logic.{inl, inr, ⊎-elim}
 use mathlib.Core.Bool.{Bool, true, false, cond}
 use mathlib.Core.List.{List, [], _∷_, _++_, map}
-use mathlib.Core.Option.{none, some}
 use native.Mathlib.Omega.{arith}
 use lib.Dec.{eqb, lit<, lit≤}
-use lib.ListN.{length, getD, take, drop, replicate}
+use lib.ListN.{length, take, drop}
 use Rattle.lists.specs.Lists.{In, join, insertAt}
 use Rattle.lists.proofs.Elements.{append-in}
-use Rattle.lists.proofs.Rows.{map-append}
-use Rattle.numbers.specs.Numbers.{fieldsAt, Bytes}
-use Rattle.numbers.proofs.Fields.{fields-fit}
-use Rattle.numbers.proofs.Kept.{bytes-putFields}
+use Rattle.lists.proofs.Joins.{map-append}
 use Rattle.rules.specs.Entries.{left, settled, present}
-use Rattle.entries.specs.Records.{orZero}
-use Rattle.pages.specs.Layout.{countOf, entryWidths, ifBit, entryIn, entryFields, entriesOf}
 use Rattle.pages.specs.Rows.{rowsOf, withRows, entryRow, entryPut, endOf, rowLeft, leafSettled, Divided, asTheyAre}
-use Rattle.pages.proofs.Entries.{rowEntry, entry-row, length-entryRow, entries-with}
+use Rattle.pages.proofs.Entries.{rowEntry, entry-row, length-entryRow, entries-with, row-fits, bytes-entryRow}
 use Rattle.trees.proofs.Thinning.{thinner, settled-thins}
 use Rattle.index.specs.Pictures.{Item, keyOf, blankPage, leafPage}
-use Rattle.index.proofs.Written.{fit-rows, rows-written, count-written, length-written, written-again, put-written, stay-written, go-written, bytes-zero}
+use Rattle.pages.proofs.Written.{fit-rows, rows-written, count-written, length-written, written-again, put-written, stay-written, go-written}
+use Rattle.index.proofs.Written.{blank-page}
 
 -- every entry's numbers fit
 abbrev pub Smalls : List Item → Type 0
@@ -33,79 +28,58 @@ back-rows : (es : List Item) → Smalls es → map rowEntry (map entryRow es) �
 back-rows [] s = refl
 back-rows (e ∷ es) s = ap₂ (λ x xs. x ∷ xs) (entry-row e (s e (inl refl))) (back-rows es (λ x i. s x (inr i)))
 
--- a row of bytes says an entry that fits
-bit-small : (b r m : ℕ) → r < m → orZero (ifBit b r) < m
-bit-small b r m h = go (eqb (b % 2) 1)
-  where
-    go : (c : Bool) → orZero (cond c (some r) none) < m
-    go true = h
-    go false = omega arith
-
-small-said : (r : List ℕ) → Bytes r → EntryFits (rowEntry r)
-unfolding entryIn fieldsAt
-small-said r b =
-    let f = fields-fit entryWidths r 0 b in
-    record {
-      key = f .0;
-      owner = f .1 .1 .1 .0;
-      now = bit-small (getD (fieldsAt entryWidths r 0) 4 0) (getD (fieldsAt entryWidths r 0) 1 0) 4294967296 (f .1 .0);
-      before = bit-small (getD (fieldsAt entryWidths r 0) 4 0 / 2) (getD (fieldsAt entryWidths r 0) 2 0) 4294967296 (f .1 .1 .0);
-    }
-
-bytes-entryRow : (e : Item) → Bytes (entryRow e)
-unfolding entryRow
-bytes-entryRow e = bytes-putFields entryWidths (replicate 20 0) 0 (entryFields e) (bytes-zero 20)
-
 smalls-said : (es : List Item) → Smalls (map rowEntry (map entryRow es))
 smalls-said [] x i = absurd i
-smalls-said (e ∷ es) x (inl p) = subst EntryFits p (small-said (entryRow e) (bytes-entryRow e))
+smalls-said (e ∷ es) x (inl p) = subst EntryFits p (row-fits (entryRow e) (bytes-entryRow e))
 smalls-said (e ∷ es) x (inr i) = smalls-said es x i
 
 -- ---- written
 module _ (es : List Item) (h : length es ≤ 24) where
   pub leaf-rows : rowsOf 20 (leafPage es) ≡ map entryRow es
   unfolding leafPage
-  leaf-rows = rows-written 20 2 0 entryRow length-entryRow es (omega arith) (omega arith)
+  leaf-rows = rows-written 20 entryRow length-entryRow (blank-page 2 0) es (omega arith) (omega arith)
 
   pub leaf-count : countOf (leafPage es) ≡ length es
   unfolding leafPage
-  leaf-count = count-written 20 2 0 entryRow length-entryRow es (omega arith) (omega arith)
+  leaf-count = count-written 20 entryRow length-entryRow (blank-page 2 0) es (omega arith) (omega arith)
 
   pub leaf-length : length (leafPage es) ≡ 512
   unfolding leafPage
-  leaf-length = length-written 20 2 0 entryRow length-entryRow es (omega arith) (omega arith)
+  leaf-length = length-written 20 entryRow length-entryRow (blank-page 2 0) es (omega arith) (omega arith)
 
   pub leaf-entries : Smalls es → entriesOf (leafPage es) ≡ es
   unfolding leafPage
   leaf-entries s =
-      entries-with (blankPage 2 0) (map entryRow es) (fit-rows 20 2 0 entryRow length-entryRow es (omega arith) (omega arith)) ∙ back-rows es s
+      entries-with (blankPage 2 0) (map entryRow es) (fit-rows 20 entryRow length-entryRow (blank-page 2 0) es (omega arith) (omega arith))
+      ∙ back-rows es s
 
   -- given other rows
   pub leaf-again : (xs : List Item) → length xs ≤ 24 → withRows 20 (leafPage es) (map entryRow xs) ≡ leafPage xs
   unfolding leafPage
-  leaf-again xs k = written-again 20 2 0 entryRow length-entryRow es (omega arith) (omega arith) xs (omega arith) (omega arith)
+  leaf-again xs k = written-again 20 entryRow length-entryRow (blank-page 2 0) es (omega arith) (omega arith) xs (omega arith) (omega arith)
 
   -- ---- as the leaf code changes it
   pub leaf-put : (i : ℕ) (e : Item) → length es ≤ 23 → entryPut (leafPage es) i e ≡ leafPage (insertAt i e es)
   unfolding leafPage entryPut
-  leaf-put i e k = put-written 20 2 0 entryRow length-entryRow es (omega arith) (omega arith) i e (omega arith) (omega arith)
+  leaf-put i e k = put-written 20 entryRow length-entryRow (blank-page 2 0) es (omega arith) (omega arith) i e (omega arith) (omega arith)
 
   module _ (i : ℕ) (e : Item) (l r : List ℕ)
       (d : Divided 20 13 asTheyAre (insertAt i (entryRow e) (rowsOf 20 (leafPage es))) (leafPage es) (blankPage 2 0) l r) where
     pub leaf-stays : 13 ≤ length es → l ≡ leafPage (take 13 (insertAt i e es))
     unfolding leafPage
-    leaf-stays k = d .left ∙ stay-written 20 2 0 entryRow length-entryRow es (omega arith) (omega arith) i 13 e (lit≤ tt) (lit< tt) k
+    leaf-stays k = d .left ∙ stay-written 20 entryRow length-entryRow (blank-page 2 0) es (omega arith) (omega arith) i 13 e (lit≤ tt) (lit< tt) k
 
     pub leaf-goes : r ≡ leafPage (drop 13 (insertAt i e es))
     unfolding leafPage
-    leaf-goes = d .right ∙ ap (withRows 20 (blankPage 2 0)) (go-written 20 2 0 entryRow length-entryRow es (omega arith) (omega arith) i 13 e)
+    leaf-goes =
+        d .right ∙ ap (withRows 20 (blankPage 2 0)) (go-written 20 entryRow length-entryRow (blank-page 2 0) es (omega arith) (omega arith) i 13 e)
 
 -- ---- a laid leaf: its entries fit
 pub laid-small : (p : List ℕ) → p ≡ leafPage (entriesOf p) → length (entriesOf p) ≤ 24 → Smalls (entriesOf p)
 unfolding leafPage
 laid-small p e h =
     subst Smalls (sym (ap entriesOf e ∙ entries-with (blankPage 2 0) (map entryRow (entriesOf p))
-    (fit-rows 20 2 0 entryRow length-entryRow (entriesOf p) (omega arith) (omega arith)))) (smalls-said (entriesOf p))
+    (fit-rows 20 entryRow length-entryRow (blank-page 2 0) (entriesOf p) (omega arith) (omega arith)))) (smalls-said (entriesOf p))
 
 -- ---- settled
 rows-left : (commits : Bool) (t : ℕ) (e : Item) → EntryFits e → rowLeft commits t (entryRow e) ≡ map entryRow (left (endOf commits) t e)

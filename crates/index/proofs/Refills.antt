@@ -2,28 +2,28 @@
 -- and the index is whole again where the change keeps it so. By the tree, page by page. Assumes nothing.
 use Prim.Native.Nat.{ℕ, zero, suc, _-_, _≤_, _<_, compare}
 use mathlib.Core.Path.{_≡_, refl, sym, ap, subst, _∙_}
-use mathlib.Core.Logic.{inl, inr}
 use mathlib.Core.Bool.{Bool, true, false, cond}
-use mathlib.Core.List.{List, [], _∷_, map}
+use mathlib.Core.List.{List, map, map-map}
 use mathlib.Core.Option.{some}
 use native.Mathlib.Omega.{arith}
 use lib.Dec.{eqb}
 use lib.ListN.{length}
 use borrow.Author.Tests.{eqb-true}
 use Rattle.lists.specs.Lists.{In}
-use Rattle.lists.proofs.Rows.{map-map}
+use Rattle.lists.proofs.Joins.{map-same}
 use Rattle.rules.specs.Document.{endMark}
 use Rattle.pages.specs.declared.Child as P
 use Rattle.pages.specs.Layout.{kindOf, rootOf, usedOf, heightOf, entriesOf, childrenOf}
-use Rattle.trees.specs.Trees.{Child, summed, isPage, times, documentSizes, WholeIndex}
+use Rattle.trees.specs.Trees.{Child, isPage, times, documentSizes, WholeIndex}
 use Rattle.trees.specs.Growth.{withTree, leaves, inLeaves}
 use Rattle.trees.proofs.Thinning.{Thins, leaves-whole}
+use Rattle.trees.proofs.Pages.{summed-some}
 use Rattle.index.specs.Pictures.{Item, keyOf, pageAt, treeOf, indexOf, leafPage, innerPage, headPage, Laid, WholePages}
 use Rattle.index.specs.Changes.{Becomes}
 use Rattle.index.specs.Descents.{Subtree}
 use Rattle.index.proofs.Written.{kind-leaf, kind-inner, kind-head}
 use Rattle.index.proofs.Leaves.{Smalls, leaf-entries, laid-small}
-use Rattle.index.proofs.Frame.{kid, Times, own-page, times-inner, times-child, map-same}
+use Rattle.index.proofs.Frame.{kid, Times, own-page, times-inner, times-child}
 use Rattle.index.proofs.Subtrees.{used-page, leaf-few, inner-filled, subtree-child, subtree-root}
 
 -- a leaf with its entries changed, any other page as it is
@@ -36,15 +36,6 @@ leaf-kind s pg u t = ap kindOf (t .laid) ∙ kind-leaf (entriesOf (pageAt s pg))
 
 pub inner-kind : (s : List ℕ) (n pg u : ℕ) → Subtree s (suc n) pg u → kindOf (pageAt s pg) ≡ 3
 inner-kind s n pg u t = ap kindOf (t .laid .0) ∙ kind-inner (suc n) (childrenOf (pageAt s pg)) (inner-filled s n pg u t .many)
-
-pub summed-some : {A : Type 0} (f : A → ℕ) (xs : List A) → 0 < summed f xs → (x : A) × In x xs × (0 < f x)
-unfolding summed
-summed-some f [] h = absurd (omega arith)
-summed-some {A} f (x ∷ xs) h = go (f x) refl (summed-some f xs)
-  where
-    go : (m : ℕ) → f x ≡ m → (0 < summed f xs → (y : A) × In y xs × (0 < f y)) → (y : A) × In y (x ∷ xs) × (0 < f y)
-    go zero e r = let y = r (omega arith) in (y .0, inr (y .1), y .2)
-    go (suc m) e r = (x, inl refl, omega arith)
 
 pub isPage-is : (q p : ℕ) → 0 < isPage q p → q ≡ p
 isPage-is q p h = go (eqb q p) refl

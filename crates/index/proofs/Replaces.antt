@@ -14,11 +14,12 @@ use borrow.Author.Tests.{leb-true, leb-false, eqb-true, eqb-false, eq-eqb, ne-eq
 use borrow.Rule.Slice.PartMut.{putMid}
 use Rattle.lists.specs.Lists.{all, pairs, place}
 use Rattle.lists.proofs.Tables.{getD-tab}
-use Rattle.lists.proofs.Rows.{all-head, all-tail, all-weaker, pairs-head, pairs-tail}
-use Rattle.numbers.proofs.Moves.{zeroAt-is}
+use Rattle.lists.proofs.Tests.{all-head, all-tail, all-weaker}
+use Rattle.lists.proofs.Pairs.{pairs-head, pairs-tail}
 use Rattle.pages.specs.Layout.{EntryFits, kindOf, countOf, rootOf, usedOf, heightOf, entryAt, entriesOf, putEntry}
 use Rattle.pages.specs.Places.{keysAscend, EntryPlace}
 use Rattle.pages.proofs.Written as W
+use Rattle.pages.proofs.Entries.{length-entries}
 use Rattle.trees.specs.Trees.{above}
 use Rattle.trees.specs.Growth.{missing}
 use Rattle.trees.proofs.Thinning.{map-thins}
@@ -26,13 +27,11 @@ use Rattle.index.specs.declared.Top.{Top}
 use Rattle.index.specs.Pictures.{Item, keyOf, pageAt, putPage, indexOf, blankPage, leafPage, WholePages}
 use Rattle.index.specs.Changes.{putOver, replaced, Becomes}
 use Rattle.index.specs.Descents.{TopOf, OwnLeaf, LeafAt, LeafFor, overwritten}
-use Rattle.index.specs.Growing.{SmallEntry}
 use Rattle.index.proofs.Buffers.{page-lent, page-back, length-putPage, page-same, page-kept}
-use Rattle.index.proofs.Written.{kind-leaf, kind-head, length-blank, count-blank, blank-zero}
+use Rattle.index.proofs.Written.{kind-leaf, kind-head, blank-page}
 use Rattle.index.proofs.Leaves.{Smalls, leaf-length}
 use Rattle.index.proofs.Frame.{Times}
-use Rattle.index.proofs.Subtrees.{used-page, length-entries, subtree-root}
-use Rattle.index.proofs.Divided.{entry-small}
+use Rattle.index.proofs.Subtrees.{used-page, subtree-root}
 use Rattle.index.proofs.Refills.{refilled, leaf-good, refill-whole}
 
 -- ---- the leaf that is lent
@@ -89,14 +88,6 @@ module _ (e : Item) where
           ∙ sym (within (eqb (getD ys j e .key) (e .key)))
 
   -- ---- a leaf
-  blank-leaf : W.Blank (blankPage 2 0)
-  blank-leaf =
-      record {
-        size = length-blank 2 0;
-        none = count-blank 2 0;
-        zero = zeroAt-is 496 16 (blankPage 2 0) (omega (arith, length-blank 2 0)) (record { byte = λ k l. blank-zero 2 0 (16 + k) (omega arith) });
-      }
-
   module _ (p : List ℕ) (l : OwnLeaf p) (i : ℕ) (h : EntryPlace p (e .key) i) where
     at-place : over (entriesOf p) ≡ cond (eqb (getD (entriesOf p) i e .key) (e .key)) (set (entriesOf p) i e) (entriesOf p)
     unfolding keysAscend
@@ -127,7 +118,8 @@ module _ (e : Item) where
       pub over-same : not b ≡ false → (p′ : List ℕ) → p′ ≡ putEntry p i e → p′ ≡ leafPage (overwritten e (entriesOf p))
       unfolding leafPage overwritten
       over-same f p′ o =
-          o ∙ W.leaf-set (blankPage 2 0) p (entriesOf p) blank-leaf (omega (arith, l .few, length-entries p)) (l .laid) i e (omega (arith, length-entries p))
+          o
+          ∙ W.leaf-set (blankPage 2 0) p (entriesOf p) (blank-page 2 0) (omega (arith, l .few, length-entries p)) (l .laid) i e (omega (arith, length-entries p))
           ∙ ap leafPage (sym (at-place ∙ ap (λ d. cond d (set (entriesOf p) i e) (entriesOf p)) (key-there ∙ not-false b f)))
 
   -- ---- and given back
@@ -189,7 +181,7 @@ module _ (e : Item) where
             leaf-good s (heightOf p₀ - 1) (rootOf p₀) (usedOf p₀) (suc r) (subtree-root s w) n i .laid
             ∙ ap leafPage (sym (over-none (entriesOf (pageAt s (suc r))) (leaf .others (suc r) n d i)))
 
-    pub replaced-all : SmallEntry e → (s′ : List ℕ) → s′ ≡ putPage s q (leafPage (overwritten e (entriesOf (pageAt s q)))) → Becomes s′ (replaced e (indexOf s))
+    pub replaced-all : EntryFits e → (s′ : List ℕ) → s′ ≡ putPage s q (leafPage (overwritten e (entriesOf (pageAt s q)))) → Becomes s′ (replaced e (indexOf s))
     unfolding replaced overwritten
     replaced-all m s′ b =
         let es = entriesOf (pageAt s q) in
@@ -197,7 +189,7 @@ module _ (e : Item) where
         let n : length g ≡ 512 = leaf-length (over es) (omega (arith, length-map es (λ (y : Item). putOver e y), few)) in
         let a = l .at in
         let kept : (r : ℕ) → r ≢ q → pageAt s′ r ≡ pageAt s r = λ r d. ap (λ z. pageAt z r) b ∙ page-kept s (a .size) q (a .which) g n r d in
-        refill-whole over (λ xs. omega (arith, length-map xs (λ (y : Item). putOver e y))) (over-small (entry-small e m)) s s′ w (map-thins keyOf keyOf (putOver e) same-key)
+        refill-whole over (λ xs. omega (arith, length-map xs (λ (y : Item). putOver e y))) (over-small m) s s′ w (map-thins keyOf keyOf (putOver e) same-key)
         (ap length b ∙ length-putPage s (a .size) q (a .which) g n)
         (λ r h. go r h kept (ap (λ z. pageAt z q) b ∙ page-same s (a .size) q (a .which) g n) (eqb r q) refl)
         (λ r h k. kept r (λ i. omega (arith, used)))

@@ -13,6 +13,8 @@ use Rattle.lists.proofs.Tests.{and-both}
 use Rattle.lists.proofs.Tables.{getD-tab}
 use Rattle.pages.specs.declared.Child as P
 use Rattle.pages.specs.Layout.{countOf, rootOf, usedOf, heightOf, childAt, childrenOf}
+use Rattle.pages.proofs.Children.{length-children}
+use Rattle.pages.proofs.Entries.{length-entries}
 use Rattle.trees.specs.Trees.{Child, documentSizes}
 use Rattle.trees.specs.Growth.{place, belongs, fullRun, needed, fits}
 use Rattle.trees.proofs.Places.{belongs-at}
@@ -23,7 +25,7 @@ use Rattle.index.specs.Changes.{entryFits}
 use Rattle.index.specs.Descents.{Subtree, Starts, TopOf, runOf}
 use Rattle.index.proofs.Buffers.{page-lent}
 use Rattle.index.proofs.Frame.{kid}
-use Rattle.index.proofs.Subtrees.{child-in, inner-filled, length-children, length-entries, child-place}
+use Rattle.index.proofs.Subtrees.{child-in, inner-filled, child-place}
 
 -- ---- the child that k belongs to
 pub chosen : (s : List ℕ) (n pg u k : ℕ) (r : Step) (d : P.Child) → Subtree s (suc n) pg u → Starts s pg k r

@@ -3,7 +3,7 @@
 use Prim.Native.Nat.{ℕ, zero, suc, _+_, _*_, _-_, _/_, _%_, _≤_, _<_}
 use mathlib.Core.Path.{_≡_, refl, sym, ap, ap₂, subst, _∙_}
 use mathlib.Core.Bool.{cond}
-use mathlib.Core.List.{List, [], _∷_, map}
+use mathlib.Core.List.{List, [], _∷_, map, map-map}
 use native.Mathlib.Decide.{decLt}
 use native.Mathlib.Omega.{arith}
 use lib.ListN.{length, getD, replicate}
@@ -11,14 +11,14 @@ use lib.Seq.{ext-getD}
 use borrow.Author.Tests.{le-leb, lt-leb}
 use Rattle.lists.specs.Lists.{In}
 use Rattle.lists.proofs.Elements.{map-in}
-use Rattle.lists.proofs.Rows.{map-map}
 use Rattle.numbers.proofs.Parts.{getD-part}
 use Rattle.pages.specs.declared.Child as P
 use Rattle.pages.specs.Layout.{rootOf, usedOf, heightOf, childrenOf}
 use Rattle.trees.specs.Trees.{Child, Tree, Index, isPage, times}
+use Rattle.trees.proofs.Pages.{summed-some}
 use Rattle.index.specs.Pictures.{Item, pageAt, treeOf, indexOf, headPage, leafPage, innerPage, Laid, WholePages}
 use Rattle.index.proofs.Frame.{kid}
-use Rattle.index.proofs.Refills.{summed-some, isPage-is}
+use Rattle.index.proofs.Refills.{isPage-is}
 
 -- a tree's page, and a child of a tree as a child of a page
 abbrev numberOf : (n : ℕ) → Tree ℕ Item n → ℕ

@@ -14,6 +14,7 @@ use Rattle.rules.specs.Entries.{settled}
 use Rattle.numbers.proofs.Parts.{putPart-part}
 use Rattle.pages.specs.Layout.{kindOf, countOf, rootOf, usedOf, heightOf, entriesOf}
 use Rattle.pages.specs.Rows.{endOf, leafSettled}
+use Rattle.pages.proofs.Entries.{length-entries}
 use Rattle.trees.proofs.Thinning.{settled-thins}
 use Rattle.index.specs.declared.Top.{Top}
 use Rattle.index.specs.Pictures.{pageAt, putPage, indexOf, leafPage, WholePages}
@@ -22,7 +23,7 @@ use Rattle.index.specs.Descents.{TopOf, LeafIn, settledPage}
 use Rattle.index.proofs.Buffers.{page-lent, page-back, length-page, length-putPage, page-same, page-other}
 use Rattle.index.proofs.Leaves.{leaf-settled, settled-few, settled-small, laid-small, end-key, leaf-length}
 use Rattle.index.proofs.Frame.{own-page}
-use Rattle.index.proofs.Subtrees.{used-page, subtree-root, length-entries}
+use Rattle.index.proofs.Subtrees.{used-page, subtree-root}
 use Rattle.index.proofs.Written.{kind-head}
 use Rattle.index.proofs.Refills.{refilled, Good, leaf-good, refill-whole}
 

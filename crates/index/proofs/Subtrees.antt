@@ -1,10 +1,9 @@
 -- What is known of a tree of pages inside a whole index, on the way down: of the root from the whole, of a child from its page.
 -- Counts, ranges and pages of a child are those that its page's say. Assumes nothing.
 use Prim.Native.Nat.{ℕ, zero, suc, _-_, _≤_, _<_, compare}
-use mathlib.Core.Path.{_≡_, refl, sym, ap, subst, fun-ext, _∙_}
-use mathlib.Core.Logic.{inl, inr}
+use mathlib.Core.Path.{_≡_, refl, sym, ap, subst, _∙_}
 use mathlib.Core.Bool.{Bool, true, false, cond, not, _&&_}
-use mathlib.Core.List.{List, [], _∷_, _++_, map}
+use mathlib.Core.List.{List, [], _∷_, map}
 use mathlib.Core.Option.{Option, some}
 use native.Mathlib.Omega.{arith}
 use lib.Dec.{leb, ltb, lit≤}
@@ -12,12 +11,13 @@ use lib.ListN.{length, drop, length-map}
 use borrow.Author.Tests.{leb-true, leb-false, eqb-true, ltb-true, lt-ltb, le-ltb}
 use Rattle.lists.specs.Lists as L
 use Rattle.lists.specs.Lists.{In, all, pairs}
-use Rattle.lists.proofs.Elements.{in-map, in-tab}
-use Rattle.lists.proofs.Tables.{length-tab}
-use Rattle.lists.proofs.Rows.{and-left, and-right, and-both, all-in, all-cons, all-weaker, pairs-cons, pairs-map}
+use Rattle.lists.proofs.Elements.{in-map, in-tab, all-in, in-split}
+use Rattle.lists.proofs.Tests.{and-left, and-right, and-both, all-cons, all-weaker}
+use Rattle.lists.proofs.Pairs.{pairs-cons, pairs-map, pairs-weaker}
 use Rattle.pages.specs.declared.Child as P
 use Rattle.pages.specs.Places.{keysAscend, lowsAscend, ChildPlace}
-use Rattle.pages.specs.Layout.{countOf, rootOf, usedOf, heightOf, entryAt, entriesOf, childAt, childrenOf}
+use Rattle.pages.specs.Layout.{countOf, rootOf, usedOf, heightOf, entriesOf, childAt, childrenOf}
+use Rattle.pages.proofs.Children.{length-children}
 use Rattle.rules.proofs.Orders.{numbers-ordered}
 use Rattle.rules.specs.Document.{endMark}
 use Rattle.trees.specs.Trees.{Child, Tree, documentSizes, above, counted, under, inside, firstLow, ranges, ranged}
@@ -62,10 +62,6 @@ inner-filled s n pg u t =
     record { few = omega (arith, f .few); many = omega (arith, f .many) }
 
 -- ---- a child
-in-split : {A : Type 0} (xs : List A) (x : A) → In x xs → (b : List A) × (a : List A) × (xs ≡ b ++ x ∷ a)
-in-split (y ∷ ys) x (inl e) = ([], ys, ap (λ z. z ∷ ys) e)
-in-split (y ∷ ys) x (inr i) = let r = in-split ys x i in (y ∷ r .0, r .1, ap (λ zs. y ∷ zs) (r .2))
-
 pub subtree-child : (s : List ℕ) (n pg u : ℕ) → Subtree s (suc n) pg u → (c : P.Child) → In c (childrenOf (pageAt s pg)) → Subtree s n (c .page) u
 unfolding treeOf
 subtree-child s n pg u t c i =
@@ -99,13 +95,11 @@ ltb-under a b = go (leb b a) refl
     go true e = le-ltb a b (leb-true b a e)
     go false e = lt-ltb a b (leb-false b a e)
 
-pairs-same : {A : Type 0} (r q : A → A → Bool) → ((a b : A) → r a b ≡ q a b) → (xs : List A) → pairs r xs ≡ true → pairs q xs ≡ true
-pairs-same r q h xs e = subst (λ f. pairs f xs ≡ true) (fun-ext (λ a. fun-ext (λ b. h a b))) e
-
 pub keys-ascend : (s : List ℕ) (pg u : ℕ) → Subtree s 0 pg u → keysAscend (entriesOf (pageAt s pg)) ≡ true
 unfolding ranged treeOf keysAscend
 keys-ascend s pg u t =
-    pairs-same (λ (a b : Item). under compare (a .key) (b .key)) (λ a b. ltb (a .key) (b .key)) (λ a b. sym (ltb-under (a .key) (b .key))) (entriesOf (pageAt s pg))
+    pairs-weaker (λ (a b : Item). under compare (a .key) (b .key)) (λ a b. ltb (a .key) (b .key)) (entriesOf (pageAt s pg))
+    (λ a b _ _ e. ltb-under (a .key) (b .key) ∙ e)
     (test-sorted compare keyOf (t .low) (t .high) (entriesOf (pageAt s pg)) (t .keys) .order)
 
 -- every separator behind the first is above lo, and they ascend
@@ -214,14 +208,6 @@ subtree-wider s n pg u t =
         go false false d e = lit≤ tt
 
 -- ---- an inner page, as the code meets it
-pub length-children : (p : List ℕ) → length (childrenOf p) ≡ countOf p
-unfolding childrenOf
-length-children p = length-tab (countOf p) 0 (childAt p)
-
-pub length-entries : (p : List ℕ) → length (entriesOf p) ≡ countOf p
-unfolding entriesOf
-length-entries p = length-tab (countOf p) 0 (entryAt p)
-
 pub inner-in : (s : List ℕ) (n pg u : ℕ) → Subtree s n pg u → (n ≡ 0 → ⊥) → InnerIn s pg
 inner-in s zero pg u t h = absurd (h refl)
 inner-in s (suc n) pg u t h =

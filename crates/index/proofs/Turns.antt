@@ -12,7 +12,8 @@ use lib.ListN.{take, drop}
 use borrow.Author.Tests.{not-true}
 use Rattle.lists.specs.Lists.{tab, place, first, firstSome, orElse}
 use Rattle.lists.proofs.Tables.{tab-next, tab-done, drop-tab, first-next, first-found}
-use Rattle.lists.proofs.Rows.{map-drop}
+use Rattle.lists.proofs.Joins.{map-drop}
+use Rattle.lists.proofs.Tests.{some-map}
 use Rattle.numbers.specs.Numbers.{part}
 use Rattle.entries.specs.Meaning.{bookEntry}
 use Rattle.entries.specs.declared.Entry as E
@@ -21,6 +22,7 @@ use Rattle.rules.proofs.Orders.{numbers-ordered}
 use Rattle.pages.specs.declared.Child as P
 use Rattle.pages.specs.Layout.{countOf, rootOf, usedOf, heightOf, entryAt, entriesOf, childAt, childrenOf}
 use Rattle.pages.specs.Places.{keysAscend, EntryPlace, ChildPlace}
+use Rattle.pages.proofs.Entries.{length-entries}
 use Rattle.trees.specs.Trees.{flat, under}
 use Rattle.trees.proofs.Searches.{first-child-by-child}
 use Rattle.index.specs.declared.Top.{Top}
@@ -33,7 +35,7 @@ use Rattle.index.specs.Searches.{seeks, bookFound}
 use Rattle.index.specs.Descents.{Subtree, InnerIn, Starts, TopOf}
 use Rattle.index.proofs.Buffers.{page-lent}
 use Rattle.index.proofs.Frame.{kid}
-use Rattle.index.proofs.Subtrees.{keys-ascend, leaf-few, length-entries, child-place, subtree-root, subtree-wider}
+use Rattle.index.proofs.Subtrees.{keys-ascend, leaf-few, child-place, subtree-root, subtree-wider}
 
 -- ---- page 0
 module _ (s : List ℕ) (w : WholePages s) (height : ℕ) (e : height ≡ heightOf (take 512 s)) where
@@ -122,11 +124,6 @@ foundIn m s w c = first (seeks w) (flat ℕ Item m (treeOf m s (c .page)))
 abbrev pub foundFrom : ℕ → List ℕ → ℕ → Sought → ℕ → ℕ → Option Item
 foundFrom zero s pg w n i = none
 foundFrom (suc m) s pg w n i = firstSome (foundIn m s w) (tab (n - i) i (childAt (pageAt s pg)))
-
-some-map : {A B C : Type 0} (g : B → Option C) (f : A → B) (xs : List A) → firstSome g (map f xs) ≡ firstSome (λ x. g (f x)) xs
-unfolding firstSome
-some-map g f [] = refl
-some-map g f (x ∷ xs) = ap (orElse (g (f x))) (some-map g f xs)
 
 under-fails : (w : Sought) (x : Item) → under compare (x .key) (w .lo .0) ≡ true → seeks w x ≡ false
 under-fails w x h = not-sought w x (not-true (leb (w .lo .0) (x .key)) h)

@@ -1,6 +1,6 @@
 -- An inner page when the child that the entry belongs to has grown: its children are then the row that the tree has, and with the new child
 -- put in the page is the tree's, whole or divided. The other children's pages are not touched. Assumes nothing.
-use Rattle.pages.specs.Layout.{ChildFits}
+use Rattle.pages.specs.Layout.{ChildFits, countOf, childAt, childrenOf}
 use Prim.Native.Nat.{ℕ, zero, suc, _+_, _-_, _≤_, _<_, compare}
 use mathlib.Core.Path.{_≡_, refl, sym, ap, subst, _∙_}
 use mathlib.Core.Logic.{_≢_, _⊎_, inl, inr, ⊎-elim}
@@ -14,17 +14,17 @@ use lib.ListN.{length, set, take, drop, length-map, length-drop}
 use lib.Seq.{split-at, set-at, length-take-le}
 use borrow.Author.Tests.{le-leb, lt-leb, eq-eqb}
 use Rattle.lists.specs.Lists.{In, insertAt}
-use Rattle.lists.proofs.Elements.{append-in, insertAt-in}
+use Rattle.lists.proofs.Elements.{append-in, insertAt-in, drop-in, take-in}
 use Rattle.lists.proofs.Places.{length-insertAt, map-insertAt}
 use Rattle.lists.proofs.Tables.{getD-tab}
-use Rattle.lists.proofs.Rows.{map-append, map-take, map-drop}
+use Rattle.lists.proofs.Joins.{map-append, map-take, map-drop, map-same}
 use Rattle.pages.specs.declared.Child as P
-use Rattle.pages.specs.Layout.{countOf, childAt, childrenOf}
+use Rattle.pages.proofs.Children.{length-children}
 use Rattle.trees.specs.Trees.{Child, Tree, documentSizes, summed, isPage, above, times}
 use Rattle.trees.specs.Growth as G
 use Rattle.trees.specs.Growth.{halves, grown, place, widened}
 use Rattle.trees.proofs.Places.{grownAt, widened-at}
-use Rattle.trees.proofs.Pages.{grown-times}
+use Rattle.trees.proofs.Pages.{grown-times, summed-in, summed-append, above-yes}
 use Rattle.trees.proofs.Need.{Run, grown-needs}
 use Rattle.index.specs.declared.Grown.{Grown}
 use Rattle.index.specs.declared.Grown.the-variants.{Same, Split}
@@ -36,17 +36,12 @@ use Rattle.index.specs.Growing.{GrowIn, Grew, grownOf, zeroFirst, lowFir
 use Rattle.index.proofs.Buffers.{length-putPage, page-same, page-kept}
 use Rattle.index.proofs.Inners as Inner
 use Rattle.index.proofs.Frame as F
-use Rattle.index.proofs.Frame.{kid, Times, own-page, times-inner, summed-in, summed-append, map-same, frame, laid-frame}
-use Rattle.index.proofs.Subtrees.{used-page, inner-filled, length-children, child-place}
+use Rattle.index.proofs.Frame.{kid, Times, own-page, times-inner, frame, laid-frame}
+use Rattle.index.proofs.Subtrees.{used-page, inner-filled, child-place}
 use Rattle.index.proofs.Runs.{chosen, child-chosen, run-full, run-up}
-use Rattle.index.proofs.Divided.{child-small, in-drop}
-use Rattle.index.proofs.Grows.{in-take}
 
 isPage-own : (q : ℕ) → isPage q q ≡ 1
 isPage-own q = ap (λ b. cond {A = ℕ} b 1 0) (eq-eqb q q refl)
-
-pub unused : (u q : ℕ) → u ≤ q → above u q ≡ 1
-unused u q h = ap (λ b. cond {A = ℕ} b 1 0) (le-leb u q h)
 
 module _ (s : List ℕ) (n pg u : ℕ) (e : Item) (g : GrowIn s (suc n) pg u e) (st : Step) (h : Starts s pg (e .key) st) (q : ℕ)
     (c : q ≡ childAt (pageAt s pg) (st .slot) .page) (s₁ : List ℕ) (r₁ : Grown) (w : Grew n s s₁ q u e r₁) where
@@ -230,8 +225,8 @@ module _ (s : List ℕ) (n pg u : ℕ) (e : Item) (g : GrowIn s (suc n) pg u e) 
 
     clear-next : (y : P.Child) → In y ds → Times n v s₁ (y .page) ≡ 0
     clear-next =
-        let o = unused u v (w′ .more) in
-        let i = unused v v (omega arith) in
+        let o = above-yes u v (w′ .more) in
+        let i = above-yes v v (omega arith) in
         clear v (omega (arith, once v, sum-is v)) (omega (arith, once v))
 
     laid-all : (y : P.Child) → In y ds → Laid n s₁ (y .page)
@@ -240,7 +235,7 @@ module _ (s : List ℕ) (n pg u : ℕ) (e : Item) (g : GrowIn s (suc n) pg u e) 
     small-all : Inner.Smalls ds
     small-all y i =
         let f = inner-filled s n pg u t in
-        ⊎-elim (λ j. subst ChildFits j (child-small x (w′ .told .3))) (Inner.laid-small (suc n) (pageAt s pg) (t .laid .0) (f .many) y)
+        ⊎-elim (λ j. subst ChildFits j (w′ .told .3)) (Inner.laid-small (suc n) (pageAt s pg) (t .laid .0) (f .many) y)
         (insertAt-in (st .slot + 1) x cs y i)
 
     -- a page written with some of these children, where the children's pages are as they were
@@ -361,11 +356,11 @@ module _ (s : List ℕ) (n pg u : ℕ) (e : Item) (g : GrowIn s (suc n) pg u e) 
         λ y j m i. page-kept sa za v vm pr ir m (λ o. omega (arith, subst (λ p. 0 < Times n p s₁ (y .page)) o i, clear-next y j))
         ∙ page-kept s₁ (w .size) pg (t .which) pl il m (λ o. omega (arith, subst (λ p. 0 < Times n p s₁ (y .page)) o i, clear-own y j)) in
         let fl = page-tree sb pg lo (page-kept sa za v vm pr ir pg pv ∙ page-same s₁ (w .size) pg (t .which) pl il) (omega arith)
-        (λ y j. small-all y (in-take 16 ds y j)) (λ y j. same y (in-take 16 ds y j)) (λ y j. laid-all y (in-take 16 ds y j)) in
+        (λ y j. small-all y (take-in 16 ds y j)) (λ y j. same y (take-in 16 ds y j)) (λ y j. laid-all y (take-in 16 ds y j)) in
         let fr = page-tree sb v (zeroFirst hi) (page-same sa za v vm pr ir) (omega (arith, zero-length hi))
-        (zero-small hi (λ y j. small-all y (in-drop 16 ds y j)))
-        (λ y j. let o = zero-in hi y j in subst (F.Same n s₁ sb) (o .2) (same (o .0) (in-drop 16 ds (o .0) (o .1))))
-        (λ y j. let o = zero-in hi y j in subst (Laid n s₁) (o .2) (laid-all (o .0) (in-drop 16 ds (o .0) (o .1)))) in
+        (zero-small hi (λ y j. small-all y (drop-in 16 ds y j)))
+        (λ y j. let o = zero-in hi y j in subst (F.Same n s₁ sb) (o .2) (same (o .0) (drop-in 16 ds (o .0) (o .1))))
+        (λ y j. let o = zero-in hi y j in subst (Laid n s₁) (o .2) (laid-all (o .0) (drop-in 16 ds (o .0) (o .1)))) in
         let gr = grown-row v (map (kid n s₁) ds) (w′ .told .0) row-more
         ∙ ap (λ o. halves o 16 (G.lowOf 0) (G.fromLowest 0) v pg (map (kid n s₁) ds)) (lt-leb (length (map (kid n s₁) ds)) 30 (omega (arith, length-map ds (kid n s₁)))) in
         subst (λ o. Grew (suc n) s o pg u e (Split (v + 1) (record { low = record { 0 = lowFirst hi }; page = v }))) (sym y)
@@ -381,7 +376,7 @@ module _ (s : List ℕ) (n pg u : ℕ) (e : Item) (g : GrowIn s (suc n) pg u e) 
                 ∙ ap (λ ys. some (record { low = lowFirst hi; tree = record { number = v; holds = ys } })) (sym (zero-row hi))
                 ∙ ap (λ o. some (record { low = lowFirst hi; tree = o })) (sym (fr .0)),
             fr .1,
-            record { low = low-small hi (λ y j. small-all y (in-drop 16 ds y j)); page = omega arith },
+            record { low = low-small hi (λ y j. small-all y (drop-in 16 ds y j)); page = omega arith },
           );
           more = omega (arith, w′ .more);
           most = omega arith;

@@ -6,9 +6,8 @@ use mathlib.Core.List.{List, [], _∷_}
 use mathlib.Core.Option.{none, some}
 use lib.ListN.{length, take, drop, replicate}
 use Rattle.lists.specs.Lists.{insertAt}
-use Rattle.entries.specs.Records.{orZero}
 use Rattle.pages.specs.declared.Child as P
-use Rattle.pages.specs.Layout.{countOf, entriesOf, childrenOf}
+use Rattle.pages.specs.Layout.{EntryFits, ChildFits, countOf, entriesOf, childrenOf}
 use Rattle.trees.specs.Trees.{Child, Tree, documentSizes, times}
 use Rattle.trees.specs.Growth as G
 use Rattle.index.specs.declared.Grown.{Grown}
@@ -16,24 +15,13 @@ use Rattle.index.specs.declared.Grown.the-variants.{Same, Split}
 use Rattle.index.specs.Pictures.{Item, keyOf, pageAt, putPage, treeOf, leafPage, innerPage, Laid}
 use Rattle.index.specs.Descents.{Subtree, runOf}
 
--- numbers that fit their widths in a page
-pub record SmallEntry (e : Item) : Type 0 where
-  pub key : e .key < 18446744073709551616
-  pub owner : e .owner < 65536
-  pub now : orZero (e .now) < 4294967296
-  pub before : orZero (e .before) < 4294967296
-
-pub record SmallChild (c : P.Child) : Type 0 where
-  pub low : c .low .0 < 18446744073709551616
-  pub page : c .page < 65536
-
 -- a tree that an entry is to be put into; the pages that it may need are there
 pub record GrowIn (s : List ℕ) (n pg u : ℕ) (e : Item) : Type 0 where
   pub sub : Subtree s n pg u
   pub used : pg < u
   pub most : u ≤ 64
   pub room : u + runOf n (e .key) s pg ≤ 64
-  pub small : SmallEntry e
+  pub small : EntryFits e
 
 -- the tree with the entry
 abbrev pub grownOf : (n : ℕ) → Item → ℕ → List ℕ → ℕ → G.Grown ℕ (Tree ℕ Item n)
@@ -43,7 +31,7 @@ grownOf n e u s pg = G.grown compare keyOf 0 documentSizes n e u (treeOf n s pg)
 abbrev pub Told : (n : ℕ) → List ℕ → G.Grown ℕ (Tree ℕ Item n) → Grown → Type 0
 Told n s g (Same v) = (v ≡ g .used) × (g .beside ≡ none)
 Told n s g (Split v c) =
-    (v ≡ g .used) × (g .beside ≡ some (record { low = c .low .0; tree = treeOf n s (c .page) })) × Laid n s (c .page) × SmallChild c
+    (v ≡ g .used) × (g .beside ≡ some (record { low = c .low .0; tree = treeOf n s (c .page) })) × Laid n s (c .page) × ChildFits c
 
 abbrev pub usedIn : Grown → ℕ
 usedIn (Same v) = v
@@ -79,7 +67,7 @@ pub record LeafFull (s : List ℕ) (pg u i : ℕ) (e : Item) : Type 0 where
   pub count : countOf (pageAt s pg) ≡ 24
   pub place : i ≤ 24
   pub laid : pageAt s pg ≡ leafPage (entriesOf (pageAt s pg))
-  pub small : SmallEntry e
+  pub small : EntryFits e
 
 -- an inner page with one more child, at place i of those that it had
 abbrev pub zeroFirst : List P.Child → List P.Child
@@ -111,7 +99,7 @@ pub record InnerRoom (s : List ℕ) (n pg u i : ℕ) (c : P.Child) : Type 0 wher
   pub place : i ≤ countOf (pageAt s pg)
   pub next : 30 ≤ countOf (pageAt s pg) → u < 64
   pub laid : pageAt s pg ≡ innerPage n (childrenOf (pageAt s pg))
-  pub small : SmallChild c
+  pub small : ChildFits c
 
 -- and one that is full
 pub record InnerFull (s : List ℕ) (n pg u i : ℕ) (c : P.Child) : Type 0 where
@@ -122,7 +110,7 @@ pub record InnerFull (s : List ℕ) (n pg u i : ℕ) (c : P.Child) : Type 0 wher
   pub count : countOf (pageAt s pg) ≡ 30
   pub place : i ≤ 30
   pub laid : pageAt s pg ≡ innerPage n (childrenOf (pageAt s pg))
-  pub small : SmallChild c
+  pub small : ChildFits c
 
 -- the new root's page, from a page of zeros, and the buffer with it: "a new root last"
 abbrev pub rootPage : ℕ → ℕ → P.Child → List ℕ

@@ -1,6 +1,6 @@
 -- Document 01, "Records and pages": the page buffer read as a tree of pages with the rule book's entries, and when its bytes are exactly
 -- those that the tree writes. Assumes nothing.
-use Prim.Native.Nat.{ℕ, zero, suc, _*_, _-_, _≤_, _<_}
+use Prim.Native.Nat.{ℕ, zero, suc, _*_, _-_, _≤_, _<_, compare}
 use mathlib.Core.Path.{_≡_}
 use mathlib.Core.List.{List, map}
 use mathlib.Core.Option.{some}
@@ -13,7 +13,6 @@ use Rattle.trees.specs.Trees.{Child, Tree, Index, WholeIndex, documentSizes, fl
 use Rattle.pages.specs.declared.Child as P
 use Rattle.pages.specs.Layout.{putHead, putRoot, rootOf, usedOf, heightOf, entriesOf, childrenOf}
 use Rattle.pages.specs.Rows.{withRows, entryRow, childRow}
-use Prim.Native.Nat.{compare}
 
 abbrev pub Item : Type 0
 Item = Entry ℕ ℕ

@@ -5,13 +5,13 @@ ghost use mathlib.Core.List.{[], _∷_};
 ghost use Prim.Native.Nat.{_+_, _<_, compare};
 ghost use lib.ListN.{length, replicate};
 ghost use Rattle.rules.specs.Document.{endMark};
-ghost use Rattle.pages.specs.Layout.{putRoot};
+ghost use Rattle.pages.specs.Layout.{EntryFits, putRoot};
 ghost use Rattle.trees.specs.Growth.{missing};
 ghost use Rattle.index.specs.Pictures.{keyOf, pageAt, putPage, innerPage, entriesIn, WholePages};
 ghost use Rattle.index.specs.Changes.{Added};
 ghost use Rattle.entries.specs.Meaning.{bookEntry, bookValue};
 ghost use Rattle.entries.specs.Records.{orZero};
-ghost use Rattle.index.specs.Growing.{SmallEntry, GrowIn, Grew, LeafFull, LeafSplit, InnerRoom, InnerFull, Widened, rootPage, RootIn};
+ghost use Rattle.index.specs.Growing.{GrowIn, Grew, LeafFull, LeafSplit, InnerRoom, InnerFull, Widened, rootPage, RootIn};
 use super::Grown;
 use super::descent;
 use super::room;
@@ -51,7 +51,7 @@ pub fn add(pages: &mut [u8], e: Entry) -> bool
 
 // What an entry's type says, as a fact for the promises: its numbers fit their places in a page. There is nothing to do.
 pub fn fits_page(e: Entry)
-    ensures { λ _. ⌜ SmallEntry (bookEntry e) ⌝ }
+    ensures { λ _. ⌜ EntryFits (bookEntry e) ⌝ }
 {
     let now = e.now;
     let before = e.before;

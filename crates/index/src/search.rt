@@ -15,7 +15,6 @@ use super::Found;
 use super::Sought;
 use super::descent;
 use entries::Entry;
-use entries::Key;
 use pages::head;
 use pages::leaf;
 

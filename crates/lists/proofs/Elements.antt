@@ -1,4 +1,5 @@
--- The elements of a list: what the tests over it say of them, and which they are after ++, keep, map, insertAt, insertBefore and in a table.
+-- The elements of a list: what the tests over it say of them, and which they are after ++, take, drop, keep, map, insertAt, insertBefore and
+-- in a table.
 -- X-in says what an element of X is, in-X what is an element of X. By induction on the list. Assumes nothing.
 use mathlib.Core.Path.{_≡_, refl, sym, ap, subst, _∙_}
 use mathlib.Core.Logic.{_⊎_, inl, inr, ⊎-elim}
@@ -10,8 +11,10 @@ use native.Mathlib.Decide.{decLt}
 use native.Mathlib.Omega.{arith}
 use borrow.Author.Tests.{eqb-true, eq-eqb, not-true}
 use lib.Dec.{eqb}
+use lib.ListN.{drop, getD, length, take}
+use native.Mathlib.Nat.{le-of-suc-le-suc, not-suc-le-zero}
 use Rattle.lists.specs.Lists.{orElse, all, any, keep, first, last, isNil, In, member, tab, place, insertAt, insertBefore}
-use Rattle.lists.proofs.Tests.{and-left, and-right, and-both, either, or-left, or-right, fails, not-all}
+use Rattle.lists.proofs.Tests.{and-left, and-right, and-both, either, or-left, or-right, fails, not-all, alike}
 use Rattle.lists.proofs.Places.{insertBefore-is}
 
 module _ {A : Type 0} where
@@ -103,6 +106,35 @@ module _ {A : Type 0} where
   append-in (z ∷ xs) ys x (inl e) = inl (inl e)
   append-in (z ∷ xs) ys x (inr i) = ⊎-elim (λ j. inl (inr j)) inr (append-in xs ys x i)
 
+  pub in-left : (xs ys : List A) (x : A) → In x xs → In x (xs ++ ys)
+  in-left (y ∷ xs) ys x (inl e) = inl e
+  in-left (y ∷ xs) ys x (inr i) = inr (in-left xs ys x i)
+
+  pub in-right : (xs ys : List A) (x : A) → In x ys → In x (xs ++ ys)
+  in-right [] ys x i = i
+  in-right (y ∷ xs) ys x i = inr (in-right xs ys x i)
+
+  pub in-split : (xs : List A) (x : A) → In x xs → (b : List A) × (a : List A) × (xs ≡ b ++ x ∷ a)
+  in-split (y ∷ ys) x (inl e) = ([], ys, ap (λ z. z ∷ ys) e)
+  in-split (y ∷ ys) x (inr i) = let r = in-split ys x i in (y ∷ r .0, r .1, ap (λ zs. y ∷ zs) (r .2))
+
+  -- ---- some of a list, and one place of it
+  pub take-in : (n : ℕ) (xs : List A) (x : A) → In x (take n xs) → In x xs
+  take-in zero xs x i = absurd i
+  take-in (suc n) [] x i = i
+  take-in (suc n) (y ∷ ys) x (inl e) = inl e
+  take-in (suc n) (y ∷ ys) x (inr i) = inr (take-in n ys x i)
+
+  pub drop-in : (n : ℕ) (xs : List A) (x : A) → In x (drop n xs) → In x xs
+  drop-in zero xs x i = i
+  drop-in (suc n) [] x i = i
+  drop-in (suc n) (y ∷ ys) x i = inr (drop-in n ys x i)
+
+  pub in-place : (xs : List A) (i : ℕ) (d : A) → i < length xs → In (getD xs i d) xs
+  in-place [] i d h = absurd (not-suc-le-zero h)
+  in-place (x ∷ xs) zero d h = inl refl
+  in-place (x ∷ xs) (suc i) d h = inr (in-place xs i d (le-of-suc-le-suc h))
+
   -- ---- keep
   pub keep-in : (p : A → Bool) (xs : List A) (x : A) → In x (keep p xs) → In x xs × (p x ≡ true)
   unfolding keep
@@ -155,6 +187,16 @@ module _ {A : Type 0} where
       go (yes above) r = inr (r (omega arith) (omega arith))
       go (no same) r = inl (ap f (omega arith))
 
+  pub tab-in : (n i : ℕ) (f : ℕ → A) (x : A) → In x (tab n i f) → (k : ℕ) × (i ≤ k) × (k < i + n) × (f k ≡ x)
+  unfolding tab
+  tab-in zero i f x m = absurd m
+  tab-in (suc n) i f x (inl e) = (i, omega arith, omega arith, e)
+  tab-in (suc n) i f x (inr m) =
+      let y = tab-in n (i + 1) f x m in
+      let a : i + 1 ≤ y .0 = y .1 in
+      let b : y .0 < i + 1 + n = y .2 in
+      (y .0, omega arith, omega arith, y .3)
+
 -- ---- map
 module _ {A B : Type 0} where
   pub map-in : (f : A → B) (xs : List A) (y : B) → In y (map f xs) → (x : A) × In x xs × (f x ≡ y)
@@ -171,3 +213,8 @@ member-in q xs h = let w = any-in (λ x. eqb x q) xs h in subst (λ x. In x xs) 
 
 pub in-member : (q : ℕ) (xs : List ℕ) → In q xs → member q xs ≡ true
 in-member q xs i = in-any (λ x. eqb x q) xs q i (eq-eqb q q refl)
+
+-- who is kept, where whoever passes the test is there
+pub member-keep : (p : ℕ → Bool) (xs : List ℕ) (u : ℕ) → (p u ≡ true → In u xs) → member u (keep p xs) ≡ p u
+member-keep p xs u f =
+    alike (member u (keep p xs)) (p u) (λ h. keep-in p xs u (member-in u (keep p xs) h) .1) (λ h. in-member u (keep p xs) (in-keep p xs u (f h) h))

@@ -11,8 +11,8 @@ use lib.Dec.{eqb}
 use lib.ListN.{length}
 use Rattle.lists.specs.Lists.{all, keep, pairs, In}
 use Rattle.lists.proofs.Tests.{eqb-turn, keep-all}
-use Rattle.lists.proofs.Elements.{in-all, in-keep}
-use Rattle.lists.proofs.Pairs.{pairs-split}
+use Rattle.lists.proofs.Elements.{in-all, in-keep, all-in}
+use Rattle.lists.proofs.Pairs.{pairs-head, pairs-tail}
 
 module _ {A : Type 0} where
   keep-no-longer : (p : A → Bool) (xs : List A) → length (keep p xs) ≤ length xs
@@ -39,10 +39,10 @@ module _ {A : Type 0} where
       → In x xs → p x ≡ false → suc (length (keep p xs)) ≡ length xs
   unfolding keep
   keep-but-one r p (y ∷ ys) x d after before (inl e) h =
-      let others : all p ys ≡ true = in-all p ys (λ z j. after z (subst (λ w. r w z ≡ true) e (pairs-split r y ys d .0 z j))) in
+      let others : all p ys ≡ true = in-all p ys (λ z j. after z (subst (λ w. r w z ≡ true) e (all-in (r y) ys z (pairs-head r y ys d) j))) in
       rw (ap p e ∙ h, keep-all p ys others)
   keep-but-one r p (y ∷ ys) x d after before (inr i) h =
-      rw (before y (pairs-split r y ys d .0 x i)) (ap suc (keep-but-one r p ys x (pairs-split r y ys d .1) after before i h))
+      rw (before y (all-in (r y) ys x (pairs-head r y ys d) i)) (ap suc (keep-but-one r p ys x (pairs-tail r y ys d) after before i h))
 
 module _ {A : Type 0} where
   -- what has a number of its own in a list is no more than the list is long
@@ -51,9 +51,10 @@ module _ {A : Type 0} where
   no-more f [] ys d i = omega arith
   no-more f (x ∷ xs) ys d i =
       let others : ℕ → Bool = λ y. not (eqb y (f x)) in
-      let apart = pairs-split (λ a b. not (eqb (f a) (f b))) x xs d in
+      let differ : A → A → Bool = λ a b. not (eqb (f a) (f b)) in
       let shorter : length (keep others ys) < length ys =
       keep-shorter others ys (f x) (i x (inl refl)) (ap not (eq-eqb (f x) (f x) refl)) in
       let rest : length xs ≤ length (keep others ys) =
-      no-more f xs (keep others ys) (apart .1) (λ y j. in-keep others ys (f y) (i y (inr j)) (ap not (eqb-turn (f y) (f x)) ∙ apart .0 y j)) in
+      no-more f xs (keep others ys) (pairs-tail differ x xs d)
+      (λ y j. in-keep others ys (f y) (i y (inr j)) (ap not (eqb-turn (f y) (f x)) ∙ all-in (differ x) xs y (pairs-head differ x xs d) j)) in
       omega arith

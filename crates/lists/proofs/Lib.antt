@@ -1,9 +1,9 @@
 pub mod Tests
-pub mod Counts
 pub mod Places
-pub mod Tables
 pub mod Elements
-pub mod Rows
 pub mod Pairs
+pub mod Joins
+pub mod Tables
+pub mod Scans
 pub mod Finite
 pub mod Firsts

@@ -1,8 +1,8 @@
 -- Laws of a table by index: its length and places, its growth at either end, what changes f at one place, and loops that walk it.
 -- Structure by induction on the number of places; everything that compares two tables by what stands at each place. Assumes nothing.
-use mathlib.Core.Path.{_≡_, refl, sym, ap, _∙_}
+use mathlib.Core.Path.{_≡_, refl, sym, ap, _∙_, subst}
 use mathlib.Core.Logic.{_≢_}
-use mathlib.Core.Bool.{Bool, true, false, _&&_, _||_, and-assoc}
+use mathlib.Core.Bool.{Bool, true, false, _&&_, _||_}
 use mathlib.Core.List.{List, [], _∷_, _++_, map}
 use mathlib.Core.Option.{some}
 use Prim.Native.Nat.{ℕ, zero, suc, _+_, _-_, _≤_, _<_}
@@ -11,9 +11,10 @@ use native.Mathlib.Decide.{decLt, ℕ-discrete}
 use native.Mathlib.Omega.{arith}
 use lib.ListN.{length, getD, set, take, drop, length-set}
 use lib.Seq.{ext-getD, getD-set-same, getD-set-other}
-use Rattle.lists.specs.Lists.{tab, all, any, first, insertAt, removeAt}
-use Rattle.lists.proofs.Tests.{all-at, first-hit, first-miss}
-use Rattle.lists.proofs.Places.{length-insertAt, getD-insertAt-below, getD-insertAt-at, getD-insertAt-above, length-removeAt, getD-removeAt-below, getD-removeAt-above}
+use Rattle.lists.specs.Lists.{tab, all, any, first, removeAt}
+use Rattle.lists.proofs.Tests.{first-hit, first-miss}
+use Rattle.lists.proofs.Places.{length-removeAt, getD-removeAt-below, getD-removeAt-above}
+use Rattle.lists.proofs.Elements.{all-in, in-all, in-tab, tab-in}
 
 module _ {A : Type 0} where
   pub length-tab : (n i : ℕ) (f : ℕ → A) → length (tab n i f) ≡ n
@@ -44,6 +45,10 @@ module _ {A : Type 0} where
       let g : i + 1 + n ≡ i + suc n = omega arith in
       ap (λ k. tab k i f) e ∙ ap (λ r. f i ∷ r) (tab-append n m (i + 1) f ∙ ap (λ k. tab n (i + 1) f ++ tab m k f) g)
 
+  pub tab-last : (n : ℕ) (f : ℕ → A) → tab n 0 f ++ (f n ∷ []) ≡ tab (n + 1) 0 f
+  unfolding tab
+  tab-last n f = sym (tab-append n 1 0 f ∙ ap (λ k. tab n 0 f ++ (f k ∷ [])) (zero-add n))
+
   -- two tables of one size are equal where they agree at each place
   pub tab-same : (n i j : ℕ) (f g : ℕ → A) → ((k : ℕ) → k < n → f (i + k) ≡ g (j + k)) → tab n i f ≡ tab n j g
   tab-same n i j f g h =
@@ -52,9 +57,6 @@ module _ {A : Type 0} where
 
   pub tab-ext : (n i : ℕ) (f g : ℕ → A) → ((k : ℕ) → i ≤ k → k < i + n → f k ≡ g k) → tab n i f ≡ tab n i g
   tab-ext n i f g h = tab-same n i i f g (λ k l. h (i + k) (omega arith) (omega arith))
-
-  pub tab-shift : (n i k : ℕ) (f : ℕ → A) → tab n (i + k) f ≡ tab n i (λ j. f (j + k))
-  tab-shift n i k f = tab-same n (i + k) i f (λ j. f (j + k)) (λ j l. let e : i + k + j ≡ i + j + k = omega arith in ap f e)
 
   -- a list is the table of its places
   pub tab-getD : (l : List A) (d : A) → tab (length l) 0 (λ i. getD l i d) ≡ l
@@ -91,27 +93,6 @@ module _ {A : Type 0} where
         | yes q ↦ rw q (getD-set-same (tab n 0 f) i x x (omega (arith, length-tab n 0 f)) ∙ sym e)
         | no q ↦ getD-set-other (tab n 0 f) i k x x q ∙ getD-tab n 0 f k x l ∙ ap f (zero-add k) ∙ sym (same k l q)
       ]))
-
-  pub tab-insert : (n : ℕ) (f g : ℕ → A) (i : ℕ) (x : A) → i ≤ n → ((k : ℕ) → k < i → g k ≡ f k) → g i ≡ x → ((k : ℕ) → i ≤ k → k < n → g (k + 1) ≡ f k)
-      → tab (n + 1) 0 g ≡ insertAt i x (tab n 0 f)
-  tab-insert n f g i x h below e above =
-      sym (is-tab (insertAt i x (tab n 0 f)) (n + 1) g x (length-insertAt i x (tab n 0 f) ∙ ap (λ m. m + 1) len) (λ k l. at k l (decLt k i) (decLt i k)))
-    where
-      len : length (tab n 0 f) ≡ n
-      len = length-tab n 0 f
-
-      at : (k : ℕ) → k < n + 1 → Dec (k < i) → Dec (i < k) → getD (insertAt i x (tab n 0 f)) k x ≡ g k
-      at k l (yes a) b =
-          getD-insertAt-below i x (tab n 0 f) k x a (omega (arith, len)) ∙ getD-tab n 0 f k x (omega arith) ∙ ap f (zero-add k) ∙ sym (below k a)
-      at k l (no a) (no b) = let q : k ≡ i = omega arith in rw q (getD-insertAt-at i x (tab n 0 f) x (omega (arith, len)) ∙ sym e)
-      at k l (no a) (yes b) =
-          let q : k ≡ k - 1 + 1 = omega arith in
-          ap (λ m. getD (insertAt i x (tab n 0 f)) m x) q
-          ∙ getD-insertAt-above i x (tab n 0 f) (k - 1) x (omega arith) (omega (arith, len))
-          ∙ getD-tab n 0 f (k - 1) x (omega arith)
-          ∙ ap f (zero-add (k - 1))
-          ∙ sym (above (k - 1) (omega arith) (omega arith))
-          ∙ ap g (sym q)
 
   pub tab-remove : (n : ℕ) (f g : ℕ → A) (i : ℕ) → i < n → ((k : ℕ) → k < i → g k ≡ f k) → ((k : ℕ) → i ≤ k → k + 1 < n → g k ≡ f (k + 1))
       → tab (n - 1) 0 g ≡ removeAt i (tab n 0 f)
@@ -152,17 +133,14 @@ module _ {A : Type 0} where
   pub first-found : (p : A → Bool) (n i : ℕ) (f : ℕ → A) → i < n → p (f i) ≡ true → first p (tab (n - i) i f) ≡ some (f i)
   first-found p n i f h e = ap (first p) (tab-next n i f h) ∙ first-hit p (f i) (tab (n - (i + 1)) (i + 1) f) e
 
-  -- a loop that gathers a test without a branch: what is known so far, and the rest
-  pub all-gather : (p : A → Bool) (n i : ℕ) (f : ℕ → A) (whole ok : Bool) → i < n → whole ≡ (ok && all p (tab (n - i) i f))
-      → whole ≡ ((ok && p (f i)) && all p (tab (n - (i + 1)) (i + 1) f))
-  all-gather p n i f whole ok h e =
-      e ∙ ap (λ b. ok && b) (all-next p n i f h) ∙ sym (and-assoc ok (p (f i)) (all p (tab (n - (i + 1)) (i + 1) f)))
-
-  -- a test that passes throughout a table passes at each place
+  -- a test that passes throughout a table passes at each place, and the other way round
   pub all-tab : (p : A → Bool) (n i : ℕ) (f : ℕ → A) (k : ℕ) → all p (tab n i f) ≡ true → i ≤ k → k < i + n → p (f k) ≡ true
-  all-tab p n i f k e a b =
-      let q : i + (k - i) ≡ k = omega arith in
-      sym (ap p (getD-tab n i f (k - i) (f i) (omega arith) ∙ ap f q)) ∙ all-at p (tab n i f) (k - i) (f i) e (omega (arith, length-tab n i f))
+  all-tab p n i f k e a b = all-in p (tab n i f) (f k) e (in-tab n i f k a b)
+
+  pub all-of-tab : (p : A → Bool) (n i : ℕ) (f : ℕ → A) → ((k : ℕ) → i ≤ k → k < i + n → p (f k) ≡ true) → all p (tab n i f) ≡ true
+  all-of-tab p n i f h =
+      in-all p (tab n i f)
+      (λ x m. let y = tab-in n i f x m in subst (λ z. p z ≡ true) (y .3) (h (y .0) (y .1) (y .2)))
 
 module _ {A B : Type 0} where
   pub map-tab : (g : A → B) (n i : ℕ) (f : ℕ → A) → map g (tab n i f) ≡ tab n i (λ k. g (f k))

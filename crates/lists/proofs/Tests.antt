@@ -1,17 +1,17 @@
--- Laws of tests: joined by && and ||, and over lists all, any, keep and first, over ++, over map, at a place, and against one another.
+-- Laws of tests: joined by && and ||, and over lists all, any, keep, first and last, over ++, over map, at a place, and against one another.
 -- Each by induction on the list; where a test decides, its value is an argument of the step. Assumes nothing.
-use mathlib.Core.Path.{_≡_, refl, sym, ap, _∙_}
+use mathlib.Core.Path.{_≡_, refl, sym, ap, _∙_, ap₂}
 use mathlib.Core.Logic.{_⊎_, inl, inr}
 use mathlib.Core.Bool.{Bool, true, false, cond, not, _&&_, _||_, and-assoc, or-assoc, true≢false, false≢true}
 use mathlib.Core.List.{List, [], _∷_, _++_, map}
-use mathlib.Core.Option.{none, some, Option·map, Option·none-ne-some, Option·some-injective}
+use mathlib.Core.Option.{none, some, Option·map, Option·none-ne-some, Option·some-injective, Option}
 use Prim.Native.Nat.{ℕ, zero, suc, _<_}
 use native.Mathlib.Nat.{not-suc-le-zero, le-of-suc-le-suc, zero-lt-suc}
 use native.Mathlib.Omega.{arith}
 use borrow.Author.Tests.{eqb-true, eqb-false, eq-eqb, ne-eqb}
 use lib.Dec.{eqb}
 use lib.ListN.{length, getD}
-use Rattle.lists.specs.Lists.{all, any, keep, first, isNil}
+use Rattle.lists.specs.Lists.{all, any, keep, first, isNil, firstSome, last, orElse}
 
 -- the two halves of a test, and a test of its halves
 pub and-left : (a b : Bool) → (a && b) ≡ true → a ≡ true
@@ -43,6 +43,17 @@ pub or-right : (a b : Bool) → b ≡ true → (a || b) ≡ true
 or-right true b q = refl
 or-right false b q = q
 
+-- neither of two tests passes where their disjunction fails
+pub neither : (a b : Bool) → (a || b) ≡ false → (a ≡ false) × (b ≡ false)
+neither true b e = absurd (true≢false e)
+neither false b e = (refl, e)
+
+-- two tests that pass together
+pub alike : (a b : Bool) → (a ≡ true → b ≡ true) → (b ≡ true → a ≡ true) → a ≡ b
+alike true b f g = sym (f refl)
+alike false true f g = g refl
+alike false false f g = refl
+
 -- a test that cannot pass fails
 pub fails : (b : Bool) → (b ≡ true → ⊥) → b ≡ false
 fails true f = absurd (f refl)
@@ -73,11 +84,48 @@ module _ {A : Type 0} where
   nil-left [] ys e = refl
   nil-left (x ∷ xs) ys e = never (cc)
 
+  pub nil-append : (xs ys : List A) → isNil (xs ++ ys) ≡ (isNil xs && isNil ys)
+  nil-append [] ys = refl
+  nil-append (x ∷ xs) ys = refl
+
   -- ---- all
   pub all-append : (p : A → Bool) (xs ys : List A) → all p (xs ++ ys) ≡ (all p xs && all p ys)
   unfolding all
   all-append p [] ys = refl
   all-append p (x ∷ xs) ys = ap (λ b. p x && b) (all-append p xs ys) ∙ sym (and-assoc (p x) (all p xs) (all p ys))
+
+  pub all-head : (p : A → Bool) (x : A) (xs : List A) → all p (x ∷ xs) ≡ true → p x ≡ true
+  unfolding all
+  all-head p x xs h = and-left (p x) (all p xs) h
+
+  pub all-tail : (p : A → Bool) (x : A) (xs : List A) → all p (x ∷ xs) ≡ true → all p xs ≡ true
+  unfolding all
+  all-tail p x xs h = and-right (p x) (all p xs) h
+
+  pub all-cons : (p : A → Bool) (x : A) (xs : List A) → p x ≡ true → all p xs ≡ true → all p (x ∷ xs) ≡ true
+  unfolding all
+  all-cons p x xs h k = and-both (p x) (all p xs) h k
+
+  pub all-left : (p : A → Bool) (xs ys : List A) → all p (xs ++ ys) ≡ true → all p xs ≡ true
+  all-left p xs ys h = and-left (all p xs) (all p ys) (sym (all-append p xs ys) ∙ h)
+
+  pub all-right : (p : A → Bool) (xs ys : List A) → all p (xs ++ ys) ≡ true → all p ys ≡ true
+  all-right p xs ys h = and-right (all p xs) (all p ys) (sym (all-append p xs ys) ∙ h)
+
+  pub all-both : (p : A → Bool) (xs ys : List A) → all p xs ≡ true → all p ys ≡ true → all p (xs ++ ys) ≡ true
+  all-both p xs ys h k = all-append p xs ys ∙ and-both (all p xs) (all p ys) h k
+
+  pub all-weaker : (p q : A → Bool) → ((x : A) → p x ≡ true → q x ≡ true) → (xs : List A) → all p xs ≡ true → all q xs ≡ true
+  unfolding all
+  all-weaker p q f [] h = refl
+  all-weaker p q f (x ∷ xs) h = all-cons q x xs (f x (all-head p x xs h)) (all-weaker p q f xs (all-tail p x xs h))
+
+  pub all-also : (p q : A → Bool) (xs : List A) → all p xs ≡ true → all q xs ≡ true → all (λ x. p x && q x) xs ≡ true
+  unfolding all
+  all-also p q [] h k = refl
+  all-also p q (x ∷ xs) h k =
+      all-cons (λ x. p x && q x) x xs (and-both (p x) (q x) (all-head p x xs h) (all-head q x xs k))
+      (all-also p q xs (all-tail p x xs h) (all-tail q x xs k))
 
   pub all-at : (p : A → Bool) (xs : List A) (i : ℕ) (d : A) → all p xs ≡ true → i < length xs → p (getD xs i d) ≡ true
   unfolding all
@@ -91,40 +139,11 @@ module _ {A : Type 0} where
   all-each p [] d h = refl
   all-each p (x ∷ xs) d h = and-both (p x) (all p xs) (h 0 (zero-lt-suc (length xs))) (all-each p xs d (λ i k. h (suc i) (omega arith)))
 
-  pub all-ext : (p q : A → Bool) (xs : List A) (d : A) → ((i : ℕ) → i < length xs → p (getD xs i d) ≡ q (getD xs i d)) → all p xs ≡ all q xs
-  unfolding all
-  all-ext p q [] d h = refl
-  all-ext p q (x ∷ xs) d h =
-      ap (λ b. b && all p xs) (h 0 (zero-lt-suc (length xs))) ∙ ap (λ b. q x && b) (all-ext p q xs d (λ i k. h (suc i) (omega arith)))
-
   -- ---- any
   pub any-append : (p : A → Bool) (xs ys : List A) → any p (xs ++ ys) ≡ (any p xs || any p ys)
   unfolding any
   any-append p [] ys = refl
   any-append p (x ∷ xs) ys = ap (λ b. p x || b) (any-append p xs ys) ∙ sym (or-assoc (p x) (any p xs) (any p ys))
-
-  pub any-at : (p : A → Bool) (xs : List A) (i : ℕ) (d : A) → p (getD xs i d) ≡ true → i < length xs → any p xs ≡ true
-  unfolding any
-  any-at p [] i d e h = absurd (not-suc-le-zero h)
-  any-at p (x ∷ xs) zero d e h = or-left (p x) (any p xs) e
-  any-at p (x ∷ xs) (suc i) d e h = or-right (p x) (any p xs) (any-at p xs i d e (le-of-suc-le-suc h))
-
-  -- where some element passes, the place of one that does
-  pub any-place : (p : A → Bool) (xs : List A) (d : A) → any p xs ≡ true → (i : ℕ) × (i < length xs) × (p (getD xs i d) ≡ true)
-  unfolding any
-  any-place p [] d e = absurd (false≢true e)
-  any-place p (x ∷ xs) d e = go (p x) refl e (any-place p xs d)
-    where
-      go : (b : Bool) → p x ≡ b → (b || any p xs) ≡ true → (any p xs ≡ true → (i : ℕ) × (i < length xs) × (p (getD xs i d) ≡ true))
-          → (i : ℕ) × (i < suc (length xs)) × (p (getD (x ∷ xs) i d) ≡ true)
-      go true h e r = (0, zero-lt-suc (length xs), h)
-      go false h e r = let w = r e in (suc (w .0), omega (arith, w .1), w .2)
-
-  pub any-ext : (p q : A → Bool) (xs : List A) (d : A) → ((i : ℕ) → i < length xs → p (getD xs i d) ≡ q (getD xs i d)) → any p xs ≡ any q xs
-  unfolding any
-  any-ext p q [] d h = refl
-  any-ext p q (x ∷ xs) d h =
-      ap (λ b. b || any p xs) (h 0 (zero-lt-suc (length xs))) ∙ ap (λ b. q x || b) (any-ext p q xs d (λ i k. h (suc i) (omega arith)))
 
   -- ---- all against any
   pub not-any : (p : A → Bool) (xs : List A) → not (any p xs) ≡ all (λ x. not (p x)) xs
@@ -180,16 +199,6 @@ module _ {A : Type 0} where
   unfolding first
   first-miss p x xs e = rw e
 
-  -- the first of a list is its head, or the first of its tail
-  pub first-cons : (p : A → Bool) (x : A) (xs : List A) (y : A) → first p (x ∷ xs) ≡ some y
-      → ((p x ≡ true) × (x ≡ y)) ⊎ ((p x ≡ false) × (first p xs ≡ some y))
-  unfolding first
-  first-cons p x xs y e = go (p x) refl e
-    where
-      go : (b : Bool) → p x ≡ b → cond b (some x) (first p xs) ≡ some y → ((p x ≡ true) × (x ≡ y)) ⊎ ((p x ≡ false) × (first p xs ≡ some y))
-      go true h e = inl (h, Option·some-injective x y e)
-      go false h e = inr (h, e)
-
   pub first-passes : (p : A → Bool) (xs : List A) (y : A) → first p xs ≡ some y → p y ≡ true
   unfolding first
   first-passes p [] y e = absurd (Option·none-ne-some y e)
@@ -218,24 +227,31 @@ module _ {A : Type 0} where
       go true h r = refl
       go false h r = r h
 
-  -- over ++: the first of the first list, or, where none of that passes, of the second
-  pub first-append-left : (p : A → Bool) (xs ys : List A) (z : A) → first p xs ≡ some z → first p (xs ++ ys) ≡ some z
+  pub first-append : (p : A → Bool) (xs ys : List A) → first p (xs ++ ys) ≡ orElse (first p xs) (first p ys)
   unfolding first
-  first-append-left p [] ys z e = absurd (Option·none-ne-some z e)
-  first-append-left p (x ∷ xs) ys z e = go (p x) e (first-append-left p xs ys z)
+  first-append p [] ys = refl
+  first-append p (x ∷ xs) ys = go (p x) (first-append p xs ys)
     where
-      go : (b : Bool) → cond b (some x) (first p xs) ≡ some z → (first p xs ≡ some z → first p (xs ++ ys) ≡ some z) → cond b (some x) (first p (xs ++ ys)) ≡ some z
-      go true h r = h
-      go false h r = r h
+      go : (b : Bool) → first p (xs ++ ys) ≡ orElse (first p xs) (first p ys)
+          → cond b (some x) (first p (xs ++ ys)) ≡ orElse (cond b (some x) (first p xs)) (first p ys)
+      go true e = refl
+      go false e = e
 
-  pub first-append-right : (p : A → Bool) (xs ys : List A) → any p xs ≡ false → first p (xs ++ ys) ≡ first p ys
-  unfolding first any
-  first-append-right p [] ys e = refl
-  first-append-right p (x ∷ xs) ys e = go (p x) e (first-append-right p xs ys)
+  pub first-past : (p : A → Bool) (xs ys : List A) → all (λ x. not (p x)) xs ≡ true → first p (xs ++ ys) ≡ first p ys
+  unfolding first all
+  first-past p [] ys h = refl
+  first-past p (x ∷ xs) ys h = go (p x) h (first-past p xs ys)
     where
-      go : (b : Bool) → (b || any p xs) ≡ false → (any p xs ≡ false → first p (xs ++ ys) ≡ first p ys) → cond b (some x) (first p (xs ++ ys)) ≡ first p ys
-      go true h r = absurd (true≢false h)
-      go false h r = r h
+      go : (b : Bool) → (not b && all (λ z. not (p z)) xs) ≡ true → (all (λ z. not (p z)) xs ≡ true → first p (xs ++ ys) ≡ first p ys)
+          → cond b (some x) (first p (xs ++ ys)) ≡ first p ys
+      go true e f = absurd (false≢true e)
+      go false e f = f e
+
+  -- two tests that pass alike
+  pub first-same : (p q : A → Bool) → ((x : A) → p x ≡ q x) → (xs : List A) → first p xs ≡ first q xs
+  unfolding first
+  first-same p q h [] = refl
+  first-same p q h (x ∷ xs) = ap₂ (λ b o. cond b (some x) o) (h x) (first-same p q h xs)
 
   -- where it is kept, it is the first of those kept
   pub first-keep : (p q : A → Bool) (xs : List A) → ((x : A) → first p xs ≡ some x → q x ≡ true) → first p (keep q xs) ≡ first p xs
@@ -251,17 +267,23 @@ module _ {A : Type 0} where
       go false true d e g h = rw d (h g)
       go false false d e g h = h g
 
+  -- ---- last
+  pub last-last : (p : A → Bool) (xs : List A) (x : A) → last p (xs ++ (x ∷ [])) ≡ cond (p x) (some x) (last p xs)
+  unfolding last
+  last-last p [] x = refl
+  last-last p (y ∷ xs) x = ap (λ o. orElse o (cond (p y) (some y) none)) (last-last p xs x) ∙ go (p x)
+    where
+      go : (b : Bool) → orElse (cond b (some x) (last p xs)) (cond (p y) (some y) none)
+          ≡ cond b (some x) (orElse (last p xs) (cond (p y) (some y) none))
+      go true = refl
+      go false = refl
+
 -- ---- over map
 module _ {A B : Type 0} where
   pub all-map : (p : B → Bool) (f : A → B) (xs : List A) → all p (map f xs) ≡ all (λ x. p (f x)) xs
   unfolding all
   all-map p f [] = refl
   all-map p f (x ∷ xs) = ap (λ b. p (f x) && b) (all-map p f xs)
-
-  pub any-map : (p : B → Bool) (f : A → B) (xs : List A) → any p (map f xs) ≡ any (λ x. p (f x)) xs
-  unfolding any
-  any-map p f [] = refl
-  any-map p f (x ∷ xs) = ap (λ b. p (f x) || b) (any-map p f xs)
 
   pub first-map : (p : B → Bool) (f : A → B) (xs : List A) → first p (map f xs) ≡ Option·map f (first (λ x. p (f x)) xs)
   unfolding first
@@ -270,3 +292,18 @@ module _ {A B : Type 0} where
       rw (first-map p f xs)
       (elim (p (f x)) as (λ b. cond b (some (f x)) (Option·map f (first (λ x. p (f x)) xs)) ≡ Option·map f (cond b (some x) (first (λ x. p (f x)) xs)))
       [ true ↦ refl | false ↦ refl ])
+
+  -- nothing is kept where nothing passes
+  pub nil-kept : (f : A → B) (p : A → Bool) (xs : List A) → isNil (map f (keep p xs)) ≡ not (any p xs)
+  unfolding keep any
+  nil-kept f p [] = refl
+  nil-kept f p (x ∷ xs) = go (p x) (nil-kept f p xs)
+    where
+      go : (b : Bool) → isNil (map f (keep p xs)) ≡ not (any p xs) → isNil (map f (cond b (x ∷ keep p xs) (keep p xs))) ≡ not (b || any p xs)
+      go true r = refl
+      go false r = r
+
+  pub some-map : {C : Type 0} (g : B → Option C) (f : A → B) (xs : List A) → firstSome g (map f xs) ≡ firstSome (λ x. g (f x)) xs
+  unfolding firstSome
+  some-map g f [] = refl
+  some-map g f (x ∷ xs) = ap (orElse (g (f x))) (some-map g f xs)

@@ -1,6 +1,6 @@
 -- Two relations that every law of bytes goes through: n bytes at a place are those at another place, and only m bytes at a place differ.
 -- What is read depends only on the bytes that it reads; what is written touches only the bytes that it writes. Assumes nothing.
-use mathlib.Core.Path.{_≡_, sym, ap, _∙_}
+use mathlib.Core.Path.{_≡_, sym, ap, _∙_, refl}
 use mathlib.Core.List.{List}
 use Prim.Native.Nat.{ℕ, zero, suc, _+_, _-_, _≤_, _<_}
 use native.Mathlib.Nat.{add-zero, zero-add}
@@ -18,6 +18,9 @@ pub record Agree (n : ℕ) (s : List ℕ) (a : ℕ) (t : List ℕ) (b : ℕ) : T
 pub record Touches (b m : ℕ) (s t : List ℕ) : Type 0 where
   pub len : length t ≡ length s
   pub rest : (k : ℕ) → Apart k 1 b m → getD t k 0 ≡ getD s k 0
+
+pub agree-itself : {n : ℕ} {s : List ℕ} {a : ℕ} → Agree n s a s a
+agree-itself = record { byte = λ k h. refl }
 
 module _ {n : ℕ} {s t : List ℕ} {a b : ℕ} where
   pub agree-back : Agree n s a t b → Agree n t b s a

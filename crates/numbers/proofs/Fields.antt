@@ -1,8 +1,8 @@
 -- Laws of a record in bytes, a list of widths with a number for each: the laws of numbers, once for every list of widths.
 -- Each by induction on the widths. Assumes nothing.
-use mathlib.Core.Path.{_≡_, refl, ap, ap₂, _∙_}
+use mathlib.Core.Path.{_≡_, refl, ap₂, _∙_}
 use mathlib.Core.List.{List, [], _∷_}
-use Prim.Native.Nat.{ℕ, suc, _+_, _≤_}
+use Prim.Native.Nat.{ℕ, _+_, _≤_}
 use native.Mathlib.Nat.{not-suc-le-zero}
 use native.Mathlib.Omega.{arith}
 use lib.ListN.{length, replicate}
@@ -15,11 +15,6 @@ unfolding fieldsAt widthOf
 fieldsAt-ext [] g = refl
 fieldsAt-ext (w ∷ ws) g =
     ap₂ (λ v vs. v ∷ vs) (numberAt-ext w (agree-front w (omega arith) g)) (fieldsAt-ext ws (agree-within w (widthOf ws) (omega arith) g))
-
-pub length-fieldsAt : (ws s : List ℕ) (at : ℕ) → length (fieldsAt ws s at) ≡ length ws
-unfolding fieldsAt
-length-fieldsAt [] s at = refl
-length-fieldsAt (w ∷ ws) s at = ap suc (length-fieldsAt ws s (at + w))
 
 -- ---- what is written
 pub touches-putFields : (ws s : List ℕ) (at : ℕ) (vs : List ℕ) → Touches at (widthOf ws) s (putFields ws s at vs)

@@ -1,16 +1,18 @@
--- Whatever is written into bytes leaves bytes.
+-- Whatever is written into bytes leaves bytes, and bytes put together are bytes.
 -- Each byte afterwards is one that was there, one that was copied, or a remainder by 256. Assumes nothing.
 use mathlib.Core.Path.{_≡_, ap}
-use mathlib.Core.List.{List, [], _∷_}
+use mathlib.Core.List.{List, [], _∷_, _++_}
 use Prim.Native.Nat.{ℕ, zero, suc, _+_, _-_, _%_, _/_, _≤_, _<_}
 use native.Mathlib.Decide.{decLt, ℕ-discrete}
 use native.Mathlib.Omega.{arith}
 use lib.Dec.{lit<}
-use lib.ListN.{length, getD, set, drop, length-take, List·getD-eq-default}
-use lib.Seq.{getD-set-same, getD-set-other, set-out}
-use Rattle.numbers.specs.Numbers.{putNumber, putFields, part, putPart, copied, zeroed, Bytes}
+use lib.ListN.{length, getD, set, drop, length-take, List·getD-eq-default, List·getD-append, replicate}
+use lib.Seq.{getD-set-same, getD-set-other, set-out, getD-append-add}
+use Rattle.lists.proofs.Places.{getD-alike}
+use Rattle.lists.specs.Lists.{join}
+use Rattle.numbers.specs.Numbers.{putNumber, putFields, part, copied, zeroed, Bytes}
 use Rattle.numbers.proofs.Agree.{Agree, Touches}
-use Rattle.numbers.proofs.Parts.{getD-part, agree-putPart, touches-putPart}
+use Rattle.numbers.proofs.Parts.{getD-part}
 use Rattle.numbers.proofs.Moves.{agree-copied, touches-copied, agree-zeroed, touches-zeroed}
 
 -- a buffer of bytes, of which some are now those of another
@@ -26,6 +28,9 @@ bytes-from {b} {m} {s} {u} {t} {c} f g p q = record { below = λ i. at i (decLt 
 
 pub bytes-none : Bytes []
 bytes-none = record { below = λ i. lit< tt }
+
+pub bytes-zeros : (n : ℕ) → Bytes (replicate n 0)
+bytes-zeros n = record { below = λ i. omega (arith, getD-alike {A = ℕ} n i 0) }
 
 pub bytes-set : (s : List ℕ) (i v : ℕ) → v < 256 → Bytes s → Bytes (set s i v)
 bytes-set s i v h f = record { below = λ k. at k (ℕ-discrete k i) (decLt i (length s)) }
@@ -56,11 +61,25 @@ bytes-part at n s f =
       ];
     }
 
-pub bytes-putPart : (at : ℕ) (t s : List ℕ) → at + length t ≤ length s → Bytes t → Bytes s → Bytes (putPart at t s)
-bytes-putPart at t s h f g = bytes-from (touches-putPart at t s h) (agree-putPart at t s (omega arith)) g f
-
 pub bytes-copied : (n : ℕ) (src : List ℕ) (from to : ℕ) (s : List ℕ) → from + n ≤ length src → to + n ≤ length s → Bytes src → Bytes s → Bytes (copied n src from to s)
 bytes-copied n src from to s h l f g = bytes-from (touches-copied n src from to s h l) (agree-copied n src from to s h l) g f
 
 pub bytes-zeroed : (n at : ℕ) (s : List ℕ) → at + n ≤ length s → Bytes s → Bytes (zeroed n at s)
 bytes-zeroed n at s h f = bytes-from (touches-zeroed n at s h) (agree-zeroed n at s h) f bytes-none
+
+-- ---- one list behind another
+module _ (a b : List ℕ) where
+  pub bytes-append : Bytes a → Bytes b → Bytes (a ++ b)
+  bytes-append f g = record { below = λ i. at i (decLt i (length a)) }
+    where
+      at : (i : ℕ) → Dec (i < length a) → getD (a ++ b) i 0 < 256
+      at i (yes h) = omega (arith, List·getD-append a b 0 i h, f .below i)
+      at i (no h) =
+          let e : i ≡ length a + (i - length a) = omega arith in
+          omega (arith, ap (λ x. getD (a ++ b) x 0) e, getD-append-add a b (i - length a) 0, g .below (i - length a))
+
+module _ {A : Type 0} (f : A → List ℕ) where
+  pub bytes-join : ((x : A) → Bytes (f x)) → (xs : List A) → Bytes (join f xs)
+  unfolding join
+  bytes-join h [] = bytes-none
+  bytes-join h (x ∷ xs) = bytes-append (f x) (join f xs) (h x) (bytes-join h xs)

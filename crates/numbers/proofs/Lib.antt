@@ -5,5 +5,5 @@ pub mod Parts
 pub mod Moves
 pub mod Turns
 pub mod Rows
-pub mod Shifts
 pub mod Kept
+pub mod Splices

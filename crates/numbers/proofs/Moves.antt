@@ -30,9 +30,6 @@ module _ (n : ℕ) (src : List ℕ) (from to : ℕ) (s : List ℕ) (h : from + n
   pub length-copied : length (copied n src from to s) ≡ length s
   length-copied = touches-copied .len
 
-  pub getD-copied-in : (k : ℕ) → k < n → getD (copied n src from to s) (to + k) 0 ≡ getD src (from + k) 0
-  getD-copied-in k m = agree-copied .byte k m
-
   pub getD-copied-out : (k : ℕ) → Apart k 1 to n → getD (copied n src from to s) k 0 ≡ getD s k 0
   getD-copied-out k m = touches-copied .rest k m
 
@@ -93,9 +90,6 @@ module _ (n at : ℕ) (s : List ℕ) (h : at + n ≤ length s) where
 
   pub getD-zeroed-in : (k : ℕ) → k < n → getD (zeroed n at s) (at + k) 0 ≡ 0
   getD-zeroed-in k l = agree-zeroed .byte k l
-
-  pub getD-zeroed-out : (k : ℕ) → Apart k 1 at n → getD (zeroed n at s) k 0 ≡ getD s k 0
-  getD-zeroed-out k l = touches-zeroed .rest k l
 
   pub zeroed-ext : (u : List ℕ) → Agree n u at [] 0 → Touches at n s u → u ≡ zeroed n at s
   unfolding zeroed

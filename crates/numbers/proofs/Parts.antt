@@ -7,10 +7,10 @@ use native.Mathlib.Nat.{add-sub-cancel-left, zero-add, add-zero}
 use native.Mathlib.Decide.{decLt}
 use native.Mathlib.Omega.{arith}
 use lib.ListN.{length, getD, take, drop, length-append, length-take, length-drop, take-append-drop, List·getD-append}
-use lib.Seq.{ext-getD, length-take-le, getD-take, getD-drop, getD-append-add, drop-drop}
+use lib.Seq.{ext-getD, length-take-le, getD-take, getD-drop, getD-append-add, drop-drop, take-all}
 use borrow.Rule.Slice.PartMut.{putMid}
 use Rattle.numbers.specs.Numbers.{numberAt, widthOf, fieldsAt, part, putPart, Apart}
-use Rattle.numbers.proofs.Agree.{Agree, Touches, agree-back, agree-then, agree-front, untouched, touches-wider, touches-then}
+use Rattle.numbers.proofs.Agree.{Agree, Touches, agree-back, agree-then, agree-front, untouched}
 use Rattle.numbers.proofs.Numbers.{numberAt-ext}
 use Rattle.numbers.proofs.Fields.{fieldsAt-ext}
 
@@ -122,18 +122,13 @@ putPart-part at n s h =
     sym (putPart-ext at (part at n s) s s (omega arith) (agree-front (length (part at n s)) (omega arith) (agree-back (agree-part at n s)))
     (record { len = refl; rest = λ k l. refl }))
 
-pub part-part : (a n at m : ℕ) (s : List ℕ) → a + n ≤ m → at + m ≤ length s → part a n (part at m s) ≡ part (at + a) n s
-part-part a n at m s h l = part-ext n (omega (arith, length-part at m s l)) (omega arith) (inside at m s a n h)
+pub part-all : (n : ℕ) (s : List ℕ) → length s ≡ n → part 0 n s ≡ s
+unfolding part
+part-all n s e = take-all n s (omega arith)
 
 pub putPart-none : (at : ℕ) (s : List ℕ) → s ≡ putPart at [] s
 unfolding putPart
 putPart-none at s = simp (append-nil, add-zero) (sym (take-append-drop at s))
-
-pub putPart-twice : (at : ℕ) (t u s : List ℕ) → length u ≡ length t → at + length t ≤ length s → putPart at u (putPart at t s) ≡ putPart at u s
-putPart-twice at t u s e h =
-    let l = length-putPart at t s h in
-    putPart-ext at u s (putPart at u (putPart at t s)) (omega arith) (agree-putPart at u (putPart at t s) (omega arith))
-    (touches-then (touches-wider at (length u) (omega arith) (omega arith) (touches-putPart at t s h)) (touches-putPart at u (putPart at t s) (omega arith)))
 
 -- ---- a part that is lent: what the borrow checker says of it, and of the buffer that it goes back to
 pub lent : (at n : ℕ) (s : List ℕ) → take (at + n - at) (drop at s) ≡ part at n s

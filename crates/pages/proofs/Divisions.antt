@@ -16,7 +16,7 @@ use Rattle.pages.specs.Layout.{countOf}
 use Rattle.pages.specs.Rows.{rowsOf, withRows, Divided, asTheyAre, firstLow}
 use Rattle.pages.specs.Steps.{Parted}
 use Rattle.pages.proofs.Rows.{Wide, bytesOf, wide-first, wide-take, wide-drop, wide-insert, length-rowsOf, wide-rowsOf}
-use Rattle.pages.proofs.WithRows.{Fit, Kept, kept-with, length-insert, holds-with, rows-with, with-with}
+use Rattle.pages.proofs.WithRows.{Fit, length-insert, holds-with, rows-with, with-with}
 use Rattle.pages.proofs.Moves.{rows-stay, rows-go}
 
 pub parted : (l r l₁ r₁ r₂ : List ℕ) (from n stay go : ℕ) → r₁ ≡ copied n l (16 + from) 16 r → r₂ ≡ putNumber 2 r₁ 4 go
@@ -81,16 +81,6 @@ module _ {z n : ℕ} {l r x : List ℕ} (o : OneMore z n l r x) (i : ℕ) where
         room = rw m (omega (arith, mul-le-mul-left z q, o .right));
         few = omega (arith, o .few);
       }
-
--- what the two pages keep when they are divided so
-module _ {z n : ℕ} {l r x : List ℕ} (o : OneMore z n l r x) (i stay : ℕ) (first : List (List ℕ) → List (List ℕ)) (l′ r′ : List ℕ)
-    (d : Divided z stay first (insertAt i x (rowsOf z l)) l r l′ r′) where
-  pub kept-stay : stay ≤ n → Kept z l stay l′
-  kept-stay h = kept-with z l (take stay (insertAt i x (rowsOf z l))) stay l′ (fit-stay o i stay h) (length-stay o i stay h) (d .left)
-
-  pub kept-go : (m : ℕ) → Fit z r (first (drop stay (insertAt i x (rowsOf z l)))) → length (first (drop stay (insertAt i x (rowsOf z l)))) ≡ m
-      → Kept z r m r′
-  kept-go m f e = kept-with z r (first (drop stay (insertAt i x (rowsOf z l)))) m r′ f e (d .right)
 
 module _ (z : ℕ) (l r x l₁ r₁ : List ℕ) (i stay go : ℕ) (d : Parted (z * stay) (z * go) stay go l r l₁ r₁) (o : OneMore z (stay + go) l r x) (m : i ≤ stay + go) where
   abbrev rs : List (List ℕ)

@@ -1,5 +1,3 @@
-pub mod Heads
-pub mod Splices
 pub mod Rows
 pub mod WithRows
 pub mod Moves

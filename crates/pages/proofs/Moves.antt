@@ -11,16 +11,16 @@ use lib.Dec.{lit<}
 use lib.ListN.{length, getD, set, length-set, take, drop, replicate, length-replicate, length-drop, List·getD-append}
 use lib.Seq.{ext-getD, set-split, length-take-le, getD-append-add}
 use Rattle.lists.specs.Lists.{join, insertAt, removeAt}
-use Rattle.lists.proofs.Counts.{join-append}
 use Rattle.lists.proofs.Places.{insertAt-is, removeAt-is, length-insertAt, length-removeAt}
+use Rattle.lists.proofs.Joins.{join-append}
 use Rattle.numbers.specs.Numbers.{putNumber, widthOf, putFields, part, putPart, copied, moved, zeroed}
 use Rattle.numbers.proofs.Numbers.{length-putNumber, getD-putNumber-in, getD-putNumber-out}
 use Rattle.numbers.proofs.Fields.{length-putFields}
 use Rattle.numbers.proofs.Parts.{length-part, length-putPart, getD-putPart-out, putPart-part}
 use Rattle.numbers.proofs.Moves.{length-copied}
+use Rattle.numbers.proofs.Splices.{putPart-behind, putPart-before, put-row}
 use Rattle.pages.specs.Layout.{countOf}
 use Rattle.pages.specs.Rows.{rowsOf, withRows, fromZero}
-use Rattle.pages.proofs.Splices.{putPart-behind, putPart-before, put-row}
 use Rattle.pages.proofs.Rows.{bytesOf, wide-first, wide-rest, wide-more, length-rowsOf, bytes-take, bytes-drop}
 use Rattle.pages.proofs.WithRows.{Fit, Holds, holds-same, holds-with}
 

@@ -10,15 +10,15 @@ use lib.Dec.{eqb}
 use lib.ListN.{length, take, drop, length-append, take-append-drop}
 use lib.Seq.{take-at, drop-at}
 use borrow.Author.Tests.{eqb-true, eq-eqb}
-use Rattle.lists.specs.Lists.{all, join, tab, insertAt, removeAt}
+use Rattle.lists.specs.Lists.{all, join, tab, insertAt}
 use Rattle.lists.proofs.Tests.{and-left, and-right, and-both, all-append}
-use Rattle.lists.proofs.Places.{all-insertAt, all-removeAt}
+use Rattle.lists.proofs.Places.{all-insertAt}
 use Rattle.lists.proofs.Tables.{length-tab, take-tab, drop-tab}
 use Rattle.numbers.specs.Numbers.{part}
 use Rattle.numbers.proofs.Parts.{length-part}
+use Rattle.numbers.proofs.Splices.{part-append}
 use Rattle.pages.specs.Layout.{countOf}
 use Rattle.pages.specs.Rows.{rowAt, rowsOf}
-use Rattle.pages.proofs.Splices.{part-append}
 
 -- every row has z bytes
 abbrev pub isWide : ℕ → List ℕ → Bool
@@ -63,9 +63,6 @@ module _ (z : ℕ) where
   pub wide-insert : (i : ℕ) (r : List ℕ) (rs : List (List ℕ)) → length r ≡ z → Wide z rs → Wide z (insertAt i r rs)
   wide-insert i r rs e w =
       all-insertAt (isWide z) i r rs ∙ and-both (isWide z r) (all (isWide z) rs) (eq-eqb (length r) z e) w
-
-  pub wide-remove : (i : ℕ) (rs : List (List ℕ)) → Wide z rs → Wide z (removeAt i rs)
-  wide-remove i rs w = all-removeAt (isWide z) i rs w
 
   pub wide-join : (f : List ℕ → List (List ℕ)) → ((r : List ℕ) → length r ≡ z → Wide z (f r)) → (rs : List (List ℕ)) → Wide z rs → Wide z (join f rs)
   unfolding join all

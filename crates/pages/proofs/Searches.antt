@@ -9,25 +9,12 @@ use native.Mathlib.Omega.{arith}
 use lib.Dec.{leb, ltb}
 use lib.ListN.{drop}
 use Rattle.lists.specs.Lists.{tab, place}
-use Rattle.lists.proofs.Tables.{tab-next, tab-done, drop-tab}
+use Rattle.lists.proofs.Tables.{drop-tab}
+use Rattle.lists.proofs.Scans.{scan-done, scan-found, scan-next}
 use Rattle.rules.specs.Kinds.{Entry}
 use Rattle.pages.specs.declared.Child.{Child}
 use Rattle.pages.specs.Layout.{countOf, entryAt, entriesOf, childAt, childrenOf}
 use Rattle.pages.specs.Places.{EntryPlace, ChildPlace}
-
--- ---- the place in what is left of a table
-module _ {A : Type 0} (q : A → Bool) (n i : ℕ) (f : ℕ → A) where
-  place-on : i < n → q (f i) ≡ false → place q (tab (n - i) i f) ≡ suc (place q (tab (n - (i + 1)) (i + 1) f))
-  unfolding place
-  place-on h e = rw (tab-next n i f h, e)
-
-  place-here : i < n → q (f i) ≡ true → place q (tab (n - i) i f) ≡ 0
-  unfolding place
-  place-here h e = rw (tab-next n i f h, e)
-
-  place-end : n ≤ i → place q (tab (n - i) i f) ≡ 0
-  unfolding place
-  place-end h = rw (tab-done n i f h)
 
 -- ---- the first entry at or above k
 abbrev from : ℕ → Entry ℕ ℕ → Bool
@@ -47,18 +34,17 @@ module _ (p : List ℕ) (k n : ℕ) where
   module _ (i : ℕ) (s : EntryFrom p k n i) where
     pub entry-on : (x : ℕ) (b : Bool) → x ≡ entryAt p i .key → b ≡ leb k x → b ≡ false → i < n → EntryFrom p k n (i + 1)
     entry-on x b a d e h =
-        let q = place-on (from k) n i (entryAt p) h (ap (leb k) (sym a) ∙ sym d ∙ e) in
-        record { found = omega (arith, s .found) }
+        record { found = scan-next (from k) n (entryAt p) (place (from k) (entriesOf p)) i b (d ∙ ap (leb k) a) h (s .found) e }
 
     pub entry-here : (x : ℕ) (b : Bool) → n ≡ countOf p → x ≡ entryAt p i .key → b ≡ leb k x → b ≡ true → i < n → EntryPlace p k i
     entry-here x b c a d e h =
-        let q = place-here (from k) n i (entryAt p) h (ap (leb k) (sym a) ∙ sym d ∙ e) in
-        record { within = omega arith; first = λ _. omega (arith, s .found) }
+        let q = scan-found (from k) n (entryAt p) (place (from k) (entriesOf p)) i b (d ∙ ap (leb k) a) h (s .found) e in
+        record { within = omega arith; first = λ _. q }
 
     pub entry-end : n ≡ countOf p → i ≤ n → n ≤ i → EntryPlace p k i
     entry-end c h l =
-        let q = place-end (from k) n i (entryAt p) l in
-        record { within = omega arith; first = λ _. omega (arith, s .found) }
+        let q = scan-done (from k) n (entryAt p) (place (from k) (entriesOf p)) i l h (s .found) in
+        record { within = omega arith; first = λ _. omega arith }
 
 -- ---- the child that k belongs to
 abbrev beyond : ℕ → Child → Bool
@@ -81,15 +67,16 @@ module _ (p : List ℕ) (k n : ℕ) where
   module _ (i : ℕ) (s : ChildFrom p k n i) where
     pub child-on : (b : Bool) → b ≡ ltb k (childAt p (i + 1) .low .0) → b ≡ false → i + 1 < n → ChildFrom p k n (i + 1)
     child-on b a e h =
-        let q = place-on (beyond k) n (i + 1) (childAt p) h (sym a ∙ e) in
-        record { found = omega (arith, s .found) }
+        let q = scan-next (beyond k) n (childAt p) (suc (place (beyond k) (drop 1 (childrenOf p)))) (i + 1) b a h (omega (arith, s .found)) e in
+        record { found = omega arith }
 
     pub child-here : (b : Bool) → n ≡ countOf p → b ≡ ltb k (childAt p (i + 1) .low .0) → b ≡ true → i + 1 < n → ChildPlace p k i
     child-here b c a e h =
-        let q = place-here (beyond k) n (i + 1) (childAt p) h (sym a ∙ e) in
-        record { within = omega arith; last = λ _. omega (arith, s .found) }
+        let q = scan-found (beyond k) n (childAt p) (suc (place (beyond k) (drop 1 (childrenOf p)))) (i + 1) b a h (omega (arith, s .found)) e in
+        record { within = omega arith; last = λ _. omega arith }
 
     pub child-end : n ≡ countOf p → i < n → n ≤ i + 1 → ChildPlace p k i
     child-end c h l =
-        let q = place-end (beyond k) n (i + 1) (childAt p) l in
-        record { within = omega arith; last = λ _. omega (arith, s .found) }
+        let m = suc (place (beyond k) (drop 1 (childrenOf p))) in
+        let q = scan-done (beyond k) n (childAt p) m (i + 1) l (omega arith) (omega (arith, s .found)) in
+        record { within = omega arith; last = λ _. omega arith }

@@ -1,33 +1,30 @@
 -- A leaf settled in one pass: the rows passed are settled and stand at the front, the others are as they were; in the end the rest is zero.
 -- The page in the loop is the page at first with what is left of the rows passed put at byte 16. Assumes nothing.
 use mathlib.Core.Path.{_≡_, refl, sym, ap, ap₂, _∙_, subst}
-use mathlib.Core.Logic.{inl, inr}
 use mathlib.Core.Bool.{Bool, true, false, cond}
-use mathlib.Core.List.{List, [], _∷_, _++_, map, append-nil, map-append}
-use Prim.Native.Nat.{ℕ, zero, suc, _+_, _-_, _*_, _≤_, _<_}
+use mathlib.Core.List.{List, [], _∷_, _++_, map, append-nil}
+use Prim.Native.Nat.{ℕ, _+_, _-_, _*_, _≤_, _<_}
 use native.Mathlib.Nat.{zero-add, add-zero}
 use native.Mathlib.Omega.{arith}
 use lib.Dec.{eqb, lit≤}
 use lib.ListN.{length, replicate, length-append}
 use borrow.Author.Tests.{eq-eqb, ne-eqb, not-true, not-false}
-use Rattle.lists.specs.Lists.{In, all, join, tab}
-use Rattle.lists.proofs.Counts.{join-append}
+use Rattle.lists.specs.Lists.{all, join, tab}
 use Rattle.lists.proofs.Tables.{tab-append}
-use Rattle.numbers.specs.Numbers.{putNumber, widthOf, putPart, copied, moved, zeroed, Bytes}
+use Rattle.lists.proofs.Joins.{join-append}
+use Rattle.numbers.specs.Numbers.{putNumber, widthOf, putPart, copied, moved, zeroed}
 use Rattle.numbers.proofs.Parts.{touches-putPart, part-apart, putPart-part, putPart-none}
-use Rattle.numbers.proofs.Kept.{bytes-part}
+use Rattle.numbers.proofs.Splices.{putPart-behind, put-row}
 use Rattle.rules.specs.Kinds.{Entry}
-use Rattle.rules.specs.Entries.{ghost, present, left, settled, committed, rolledBack}
+use Rattle.rules.specs.Entries.{ghost, present, left, committed, rolledBack}
 use Rattle.entries.specs.declared.Entry as Code
 use Rattle.entries.specs.Meaning.{bookEntry}
-use Rattle.pages.specs.Layout.{EntryFits, countOf, entryWidths, entryFields, entryAt, putEntry, entriesOf}
+use Rattle.pages.specs.Layout.{countOf, entryWidths, entryFields, entryAt, putEntry}
 use Rattle.pages.specs.Rows.{rowAt, rowsOf, withRows, entryRow, endOf, rowLeft, leafSettled}
 use Rattle.pages.specs.Steps.{RowSettled}
-use Rattle.pages.proofs.Splices.{putPart-behind, put-row}
-use Rattle.pages.proofs.Rows.{Wide, bytesOf, wide-more, wide-tab, wide-join, length-bytes, length-rowsOf, wide-rowsOf}
-use Rattle.pages.proofs.WithRows.{Fit, Kept, kept-with, count-with}
+use Rattle.pages.proofs.Rows.{Wide, bytesOf, wide-more, wide-tab, wide-join, length-bytes}
 use Rattle.pages.proofs.Moves.{with-is}
-use Rattle.pages.proofs.Entries.{rowEntry, row-entry, entry-row, row-fits, end-fits, length-entryRow, entries-with, entries-rows}
+use Rattle.pages.proofs.Entries.{rowEntry, row-entry, length-entryRow}
 
 -- ---- what is left of one row
 module _ (c : Bool) (t : ℕ) (r : List ℕ) where
@@ -43,17 +40,6 @@ module _ (c : Bool) (t : ℕ) (r : List ℕ) where
   unfolding rowLeft left
   left-kept h g = rw (eq-eqb (rowEntry r .owner) t h, not-false (present (endOf c (rowEntry r))) g)
 
-  -- at most one row, of an entry's width
-  length-left : length (rowLeft c t r) ≤ 1
-  unfolding rowLeft left
-  length-left = at (eqb (rowEntry r .owner) t) (present (endOf c (rowEntry r)))
-    where
-      at : (b d : Bool)
-          → length (cond b (map entryRow (cond b (cond d (endOf c (rowEntry r) ∷ []) []) (rowEntry r ∷ []))) (r ∷ [])) ≤ 1
-      at false d = lit≤ tt
-      at true true = lit≤ tt
-      at true false = lit≤ tt
-
   wide-left : length r ≡ 20 → Wide 20 (rowLeft c t r)
   unfolding rowLeft left all
   wide-left e = at (eqb (rowEntry r .owner) t) (present (endOf c (rowEntry r)))
@@ -62,12 +48,6 @@ module _ (c : Bool) (t : ℕ) (r : List ℕ) where
       at false d = wide-more 20 r [] e refl
       at true true = wide-more 20 (entryRow (endOf c (rowEntry r))) [] (length-entryRow (endOf c (rowEntry r))) refl
       at true false = refl
-
-pub few-left : (c : Bool) (t : ℕ) (rs : List (List ℕ)) → length (join (rowLeft c t) rs) ≤ length rs
-unfolding join
-few-left c t [] = lit≤ tt
-few-left c t (r ∷ rs) =
-    omega (arith, length-append (rowLeft c t r) (join (rowLeft c t) rs), length-left c t r, few-left c t rs)
 
 -- ---- one row passed, by what the code finds there
 one-row : (r : List ℕ) → bytesOf (r ∷ []) ≡ r
@@ -188,72 +168,3 @@ module _ (c : Bool) (t : ℕ) (p₀ p : List ℕ) (i j n : ℕ) (s : SettledTo c
       ∙ with-is 20 p₀ (leftOf c t p₀ i) j (bytesOf (leftOf c t p₀ i) ++ replicate (20 * (n - j)) 0) (sym (s .place))
       (ap (λ x. bytesOf (leftOf c t p₀ i) ++ replicate (20 * (x - j)) 0) (sym e))
       ∙ ap (λ x. withRows 20 p₀ (leftOf c t p₀ x)) q
-
--- ---- the entries of a leaf that has been settled
-fit-settled : (c : Bool) (t : ℕ) (p : List ℕ) → length p ≡ 512 → countOf p ≤ 24 → Fit 20 p (join (rowLeft c t) (rowsOf 20 p))
-fit-settled c t p l h =
-    let own : 16 + 20 * countOf p ≤ length p = omega arith in
-    let m = length-rowsOf 20 p in
-    let n = few-left c t (rowsOf 20 p) in
-    record { wide = wide-join 20 (rowLeft c t) (wide-left c t) (rowsOf 20 p) (wide-rowsOf 20 p own); own = own; room = omega arith; few = omega arith }
-
--- what is left of a row says what is left of its entry; that the row's bytes are bytes is needed where the entry is written anew
-said-left : (c : Bool) (t : ℕ) (r : List ℕ) → Bytes r → map rowEntry (rowLeft c t r) ≡ left (endOf c) t (rowEntry r)
-unfolding rowLeft left
-said-left c t r b = at (eqb (rowEntry r .owner) t) (present (endOf c (rowEntry r)))
-  where
-    at : (x y : Bool)
-        → map rowEntry (cond x (map entryRow (cond x (cond y (endOf c (rowEntry r) ∷ []) []) (rowEntry r ∷ []))) (r ∷ []))
-        ≡ cond x (cond y (endOf c (rowEntry r) ∷ []) []) (rowEntry r ∷ [])
-    at false y = refl
-    at true false = refl
-    at true true = ap (λ e. e ∷ []) (entry-row (endOf c (rowEntry r)) (end-fits c (rowEntry r) (row-fits r b)))
-
--- and what is left of an entry's row is the rows of what is left of it
-left-entry : (c : Bool) (t : ℕ) (e : Entry ℕ ℕ) → EntryFits e → rowLeft c t (entryRow e) ≡ map entryRow (left (endOf c) t e)
-unfolding rowLeft left
-left-entry c t e f = rw (entry-row e f) (at (eqb (e .owner) t))
-  where
-    at : (b : Bool) → cond b (map entryRow (cond b (cond (present (endOf c e)) (endOf c e ∷ []) []) (e ∷ []))) (entryRow e ∷ [])
-        ≡ map entryRow (cond b (cond (present (endOf c e)) (endOf c e ∷ []) []) (e ∷ []))
-    at true = refl
-    at false = refl
-
-pub rows-settled : (c : Bool) (t : ℕ) (es : List (Entry ℕ ℕ)) → ((e : Entry ℕ ℕ) → In e es → EntryFits e)
-    → join (rowLeft c t) (map entryRow es) ≡ map entryRow (settled (endOf c) t es)
-unfolding join settled
-rows-settled c t [] f = refl
-rows-settled c t (e ∷ es) f =
-    ap₂ (λ x y. x ++ y) (left-entry c t e (f e (inl refl))) (rows-settled c t es (λ x i. f x (inr i)))
-    ∙ sym (map-append entryRow (left (endOf c) t e) (join (left (endOf c) t) es))
-
-said-tab : (c : Bool) (t : ℕ) (p : List ℕ) → Bytes p → (n i : ℕ)
-    → map rowEntry (join (rowLeft c t) (tab n i (rowAt 20 p))) ≡ join (left (endOf c) t) (map rowEntry (tab n i (rowAt 20 p)))
-unfolding join tab rowAt
-said-tab c t p b zero i = refl
-said-tab c t p b (suc n) i =
-    map-append rowEntry (rowLeft c t (rowAt 20 p i)) (join (rowLeft c t) (tab n (i + 1) (rowAt 20 p)))
-    ∙ ap₂ (λ x y. x ++ y) (said-left c t (rowAt 20 p i) (bytes-part (16 + 20 * i) 20 p b)) (said-tab c t p b n (i + 1))
-
-pub entries-settled : (c : Bool) (t : ℕ) (p : List ℕ) → Bytes p → length p ≡ 512 → countOf p ≤ 24
-    → entriesOf (leafSettled c t p) ≡ settled (endOf c) t (entriesOf p)
-unfolding leafSettled settled rowsOf
-entries-settled c t p b l h =
-    entries-with p (join (rowLeft c t) (rowsOf 20 p)) (fit-settled c t p l h)
-    ∙ said-tab c t p b (countOf p) 0
-    ∙ ap (join (left (endOf c) t)) (entries-rows p)
-
-pub kept-settled : (c : Bool) (t : ℕ) (p : List ℕ) → length p ≡ 512 → countOf p ≤ 24 → Kept 20 p (countOf (leafSettled c t p)) (leafSettled c t p)
-unfolding leafSettled
-kept-settled c t p l h =
-    let f = fit-settled c t p l h in
-    kept-with 20 p (join (rowLeft c t) (rowsOf 20 p)) (countOf (leafSettled c t p)) (leafSettled c t p) f
-    (sym (count-with 20 p (join (rowLeft c t) (rowsOf 20 p)) f)) refl
-
-pub fewer-settled : (c : Bool) (t : ℕ) (p : List ℕ) → length p ≡ 512 → countOf p ≤ 24 → countOf (leafSettled c t p) ≤ countOf p
-unfolding leafSettled
-fewer-settled c t p l h =
-    let m = length-rowsOf 20 p in
-    let n = few-left c t (rowsOf 20 p) in
-    let k = count-with 20 p (join (rowLeft c t) (rowsOf 20 p)) (fit-settled c t p l h) in
-    omega arith

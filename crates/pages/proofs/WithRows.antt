@@ -1,26 +1,25 @@
 -- Laws of a page that is given other rows (`withRows`): what is read of it then, that it may be done at once instead of in two steps, and
 -- that unused bytes stay zero. By what stands at each byte of it, which says all of it. Assumes nothing.
-use mathlib.Core.Path.{_≡_, refl, sym, ap, ap₂, _∙_, subst}
+use mathlib.Core.Path.{_≡_, refl, sym, ap, ap₂, _∙_}
 use mathlib.Core.Bool.{true}
 use mathlib.Core.List.{List, _++_}
-use Prim.Native.Nat.{ℕ, zero, suc, _+_, _-_, _*_, _/_, _%_, _≤_, _<_}
+use Prim.Native.Nat.{ℕ, _+_, _-_, _*_, _/_, _%_, _≤_, _<_}
 use native.Mathlib.Nat.{mul-le-mul-left, mul-sub, zero-add, div-one}
 use native.Mathlib.Decide.{decLt}
 use native.Mathlib.Omega.{arith}
 use lib.Dec.{lit<, lit≤}
 use lib.ListN.{length, getD, replicate, length-append, length-replicate, getD-replicate, List·getD-append}
-use lib.Seq.{ext-getD, take-all, getD-append-add}
-use Rattle.lists.specs.Lists.{insertAt, removeAt}
-use Rattle.lists.proofs.Places.{length-insertAt, length-removeAt}
+use lib.Seq.{ext-getD, getD-append-add}
+use Rattle.lists.specs.Lists.{insertAt}
+use Rattle.lists.proofs.Places.{length-insertAt}
 use Rattle.numbers.specs.Numbers.{numberAt, part, putPart, zeroAt, Apart, Bytes}
 use Rattle.numbers.proofs.Agree.{Agree}
 use Rattle.numbers.proofs.Numbers.{numberAt-ext, length-putNumber, getD-putNumber-in, getD-putNumber-out, number-below}
-use Rattle.numbers.proofs.Parts.{length-putPart, getD-part, getD-putPart-in, getD-putPart-out, part-ext}
+use Rattle.numbers.proofs.Parts.{length-putPart, getD-part, getD-putPart-in, getD-putPart-out, part-ext, part-all}
 use Rattle.numbers.proofs.Moves.{zeroAt-true, zeroAt-is}
-use Rattle.numbers.proofs.Kept.{bytes-putNumber, bytes-putPart}
-use Rattle.pages.specs.Layout.{kindOf, countOf, levelOf}
+use Rattle.pages.specs.Layout.{kindOf, countOf}
 use Rattle.pages.specs.Rows.{rowsOf, withRows}
-use Rattle.pages.proofs.Rows.{Wide, bytesOf, length-bytes, rows-told, length-rowsOf, wide-rowsOf, bytes-rowsOf, wide-insert, wide-remove}
+use Rattle.pages.proofs.Rows.{Wide, bytesOf, length-bytes, rows-told, length-rowsOf, wide-rowsOf, bytes-rowsOf}
 
 -- the page has room for its own rows and for these
 pub record Fit (z : ℕ) (p : List ℕ) (rs : List (List ℕ)) : Type 0 where
@@ -57,24 +56,6 @@ holds-same z p rs u v f g = ext-getD 0 u v (f .len ∙ sym (g .len)) (λ k l. in
     inHead k (yes h) (no a) (yes b) c = let e : k ≡ 4 = omega arith in rw e (f .low ∙ sym (g .low))
     inHead k (yes h) (no a) (no b) (yes c) = let e : k ≡ 5 = omega arith in rw e (f .high ∙ sym (g .high))
     inHead k (yes h) (no a) (no b) (no c) = f .head k h (omega arith) ∙ sym (g .head k h (omega arith))
-
-part-all : (n : ℕ) (s : List ℕ) → length s ≡ n → part 0 n s ≡ s
-unfolding part
-part-all n s e = take-all n s (omega arith)
-
-pub zero-at : (n i : ℕ) → _≡_ {A = ℕ} (getD (replicate n 0) i 0) 0
-zero-at zero i = refl
-zero-at (suc n) zero = refl
-zero-at (suc n) (suc i) = zero-at n i
-
-bytes-zeros : (s : List ℕ) (n : ℕ) → Bytes s → Bytes (s ++ replicate n 0)
-bytes-zeros s n h = record { below = λ i. at i (decLt i (length s)) }
-  where
-    at : (i : ℕ) → Dec (i < length s) → getD (s ++ replicate n 0) i 0 < 256
-    at i (yes a) = omega (arith, List·getD-append s (replicate n 0) 0 i a, h .below i)
-    at i (no a) =
-        let q : i ≡ length s + (i - length s) = omega arith in
-        omega (arith, ap (λ x. getD (s ++ replicate n 0) x 0) q, getD-append-add s (replicate n 0) (i - length s) 0, zero-at n (i - length s))
 
 -- the bytes that are written from 16 on
 abbrev pub strip : ℕ → List ℕ → List (List ℕ) → List ℕ
@@ -139,9 +120,6 @@ module _ (z : ℕ) (p : List ℕ) (rs : List (List ℕ)) (f : Fit z p rs) where
   pub kind-with : kindOf (withRows z p rs) ≡ kindOf p
   kind-with = head-with 2 2 (lit≤ tt) (lit< tt)
 
-  pub level-with : levelOf (withRows z p rs) ≡ levelOf p
-  level-with = head-with 2 6 (lit≤ tt) (lit< tt)
-
   pub rows-with : rowsOf z (withRows z p rs) ≡ rs
   rows-with =
       let l = length-with in
@@ -175,35 +153,6 @@ module _ (z : ℕ) (p : List ℕ) (rs : List (List ℕ)) (f : Fit z p rs) where
           ∙ ap (λ x. getD p x 0) q
           ∙ zeroAt-true (b - (16 + z * countOf p)) (16 + z * countOf p) p e (omega (arith, f .own)) .byte (k - (16 + z * countOf p)) i
 
-  -- ---- bytes stay bytes
-  pub bytes-with : Bytes p → Bytes (bytesOf rs) → Bytes (withRows z p rs)
-  unfolding withRows
-  bytes-with g h =
-      bytes-putNumber 2 (putPart 16 (strip z p rs) p) 4 (length rs) (bytes-putPart 16 (strip z p rs) p span (bytes-zeros (bytesOf rs) (z * (countOf p - length rs)) h) g)
-
--- ---- all that is kept of a page that is given n rows
-pub record Kept (z : ℕ) (p : List ℕ) (n : ℕ) (p′ : List ℕ) : Type 0 where
-  pub len : length p′ ≡ length p
-  pub count : countOf p′ ≡ n
-  pub kind : kindOf p′ ≡ kindOf p
-  pub level : levelOf p′ ≡ levelOf p
-  pub head : (w at : ℕ) → at + w ≤ 16 → Apart at w 4 2 → numberAt w p′ at ≡ numberAt w p at
-  pub zero : (b : ℕ) → b ≤ length p → zeroAt (b - (16 + z * countOf p)) (16 + z * countOf p) p ≡ true
-      → zeroAt (b - (16 + z * n)) (16 + z * n) p′ ≡ true
-
-pub kept-with : (z : ℕ) (p : List ℕ) (rs : List (List ℕ)) (n : ℕ) (p′ : List ℕ) → Fit z p rs → length rs ≡ n → p′ ≡ withRows z p rs → Kept z p n p′
-kept-with z p rs n p′ f e q =
-    subst (Kept z p n) (sym q)
-    (subst (λ m. Kept z p m (withRows z p rs)) e
-    (record {
-      len = length-with z p rs f;
-      count = count-with z p rs f;
-      kind = kind-with z p rs f;
-      level = level-with z p rs f;
-      head = head-with z p rs f;
-      zero = zero-with z p rs f;
-    }))
-
 -- ---- rows that fit
 fit-own : (z : ℕ) (p : List ℕ) → 16 + z * countOf p ≤ length p → countOf p < 65536 → Fit z p (rowsOf z p)
 fit-own z p h l =
@@ -213,21 +162,6 @@ fit-own z p h l =
 module _ (z : ℕ) (p : List ℕ) (i : ℕ) where
   pub length-insert : (r : List ℕ) → length (insertAt i r (rowsOf z p)) ≡ countOf p + 1
   length-insert r = length-insertAt i r (rowsOf z p) ∙ ap (λ m. m + 1) (length-rowsOf z p)
-
-  pub length-remove : i < countOf p → length (removeAt i (rowsOf z p)) ≡ countOf p - 1
-  length-remove h = length-removeAt i (rowsOf z p) (rw (length-rowsOf z p) h) ∙ ap (λ m. m - 1) (length-rowsOf z p)
-
-  pub fit-insert : (r : List ℕ) → length r ≡ z → 16 + z * (countOf p + 1) ≤ length p → countOf p + 1 < 65536 → Fit z p (insertAt i r (rowsOf z p))
-  fit-insert r e h l =
-      let m : length (insertAt i r (rowsOf z p)) ≡ countOf p + 1 = length-insert r in
-      let own : 16 + z * countOf p ≤ length p = omega arith in
-      record { wide = wide-insert z i r (rowsOf z p) e (wide-rowsOf z p own); own = own; room = rw m h; few = omega arith }
-
-  pub fit-remove : i < countOf p → 16 + z * countOf p ≤ length p → countOf p < 65536 → Fit z p (removeAt i (rowsOf z p))
-  fit-remove k h l =
-      let m : length (removeAt i (rowsOf z p)) ≡ countOf p - 1 = length-remove k in
-      let n : countOf p - 1 ≤ countOf p = omega arith in
-      record { wide = wide-remove z i (rowsOf z p) (wide-rowsOf z p h); own = h; room = rw m (omega (arith, mul-le-mul-left z n)); few = omega arith }
 
 pub fit-with : (z : ℕ) (p : List ℕ) (rs qs : List (List ℕ)) → Fit z p rs → Fit z p qs → Fit z (withRows z p rs) qs
 fit-with z p rs qs f g =

@@ -9,7 +9,7 @@ use native.Mathlib.Omega.{arith}
 use borrow.Author.Tests.{ltb-false}
 use lib.ListN.{length}
 use Rattle.lists.specs.Lists.{join, In}
-use Rattle.lists.proofs.Rows.{join-append}
+use Rattle.lists.proofs.Joins.{join-append}
 use Rattle.rules.specs.Kinds.{Call, Lock}
 use Rattle.rules.specs.Locks.{inUse, sameName, conflict}
 use Rattle.rules.specs.Queue.{St}

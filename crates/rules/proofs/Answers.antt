@@ -56,7 +56,9 @@ module _ (B : Book) where
       record {
         waited = waited;
         freed = freed;
-        once = pairs-cons otherAnswered (t .answer) (w .answers) (λ a i. ap not (fewer (a .asker) (v .waited a i) .1)) (v .once);
+        once =
+            pairs-cons otherAnswered (t .answer) (w .answers)
+            (in-all (otherAnswered (t .answer)) (w .answers) (λ a i. ap not (fewer (a .asker) (v .waited a i) .1))) (v .once);
         still = λ u k. fewer u (v .still u k) .0;
       }
     where
@@ -107,7 +109,8 @@ module _ (B : Book) where
     answer-first m h =
         record {
           known = and-both (isTransaction B t) _ known (in-all (λ a. isTransaction B (a .asker)) (worked B s .answers) worked-known);
-          once = pairs-cons otherAnswered (says B t m) (worked B s .answers) (λ a i. ap not (ne-eqb t (a .asker) (other a i))) (worked-served s .once);
+          once = pairs-cons otherAnswered (says B t m) (worked B s .answers)
+              (in-all (otherAnswered (says B t m)) (worked B s .answers) (λ a i. ap not (ne-eqb t (a .asker) (other a i)))) (worked-served s .once);
         }
       where
         other : (a : An B) → In a (worked B s .answers) → t ≡ a .asker → ⊥

@@ -13,8 +13,8 @@ use lib.ListN.{length}
 use Rattle.lists.specs.Lists.{In, all, pairs, member}
 use Rattle.lists.proofs.Tests.{and-left, and-right, and-both, or-left, or-right}
 use Rattle.lists.proofs.Tables.{length-tab}
-use Rattle.lists.proofs.Elements.{some-in, any-in, in-any, all-fails, keep-in, in-keep, member-in, in-member}
-use Rattle.lists.proofs.Pairs.{pairs-split, pairs-cons}
+use Rattle.lists.proofs.Elements.{some-in, any-in, in-any, all-fails, keep-in, in-keep, member-in, in-member, in-all}
+use Rattle.lists.proofs.Pairs.{pairs-cons, pairs-tail}
 use Rattle.lists.proofs.Finite.{no-more}
 use Rattle.rules.specs.Kinds.{Book}
 use Rattle.rules.specs.Queue.{St, Q, Wait, waits, oldest, newest, everyone, linked, further, reached, onCircle}
@@ -48,7 +48,7 @@ module _ (B : Book) (s : St B) where
   straight-from x [] t u c e d i = absurd i
   straight-from x (v ∷ us) t u c e d (inl q) =
       subst (λ y. Straight y u) q (record { steps = us; chain = c .1; arrives = e; once = d })
-  straight-from x (v ∷ us) t u c e d (inr i) = straight-from v us t u (c .1) e (pairs-split different v us d .1) i
+  straight-from x (v ∷ us) t u c e d (inr i) = straight-from v us t u (c .1) e (pairs-tail different v us d) i
 
   straight : (t : ℕ) (us : List ℕ) → Chain B s t us → Straight t (endOf B t us)
   unfolding all pairs
@@ -226,7 +226,8 @@ module _ (B : Book) (s : St B) where
     nobody-twice : (t : ℕ) (us : List ℕ) → Chain B s t us → pairs different (t ∷ us) ≡ true
     unfolding all pairs
     nobody-twice t [] c = refl
-    nobody-twice t (v ∷ us) c = pairs-cons different t (v ∷ us) (λ u i. ap not (ne-eqb t u (round u i))) (nobody-twice v us (c .1))
+    nobody-twice t (v ∷ us) c =
+        pairs-cons different t (v ∷ us) (in-all (different t) (v ∷ us) (λ u i. ap not (ne-eqb t u (round u i)))) (nobody-twice v us (c .1))
       where
         round : (u : ℕ) → In u (v ∷ us) → t ≡ u → ⊥
         round u i e =

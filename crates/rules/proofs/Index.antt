@@ -8,13 +8,12 @@ use mathlib.Core.Bool.{Bool, true, false, cond, not, _&&_, true≢false, false�
 use mathlib.Core.List.{List, [], _∷_, _++_, map}
 use mathlib.Core.Option.{Option, none, some, Option·map}
 use lib.Dec.{eqb}
-use borrow.Author.Tests.{not-true}
-use Rattle.lists.specs.Lists.{keep, first, pairs, In, join, insertBefore}
+use Rattle.lists.specs.Lists.{keep, first, pairs, In, join, insertBefore, all}
 use Rattle.lists.proofs.Tests.{and-left, and-right, and-both, fails, never, first-keep, all-map, first-map}
 use Rattle.lists.proofs.Elements.{all-in, in-all, any-in, in-any, first-in, keep-in, in-keep, insertBefore-in, in-insertBefore, map-in, in-map}
-use Rattle.lists.proofs.Pairs.{pairs-split, pairs-cons, first-least, pairs-keep, pairs-map}
+use Rattle.lists.proofs.Pairs.{pairs-cons, first-least, pairs-keep, pairs-map, pairs-head, pairs-tail}
 use Rattle.rules.specs.Kinds.{Book, Ordered, Entry, Name, on, end}
-use Rattle.rules.specs.Entries.{Entries, atMost, same, present, left, settled, takenOut, put, changed}
+use Rattle.rules.specs.Entries.{Entries, atMost, same, present, left, settled, put, changed}
 use Rattle.rules.specs.Locks.{named, itself}
 use Rattle.rules.specs.Runs.{En}
 use Rattle.rules.specs.Good.{below, ascending, isName}
@@ -58,15 +57,6 @@ module _ {K R : Type 0} (f : Entry K R → Entry K R) (t : ℕ) where
   settled-other es e i q =
       let z : settledOne e ≡ e = rw q in
       rw (settled-is es) (subst (λ (v : Entry K R). In v (map settledOne (keep stays es))) z (in-map settledOne (keep stays es) e (in-keep stays es e i (rw q))))
-
-  -- a key that is taken out was that of an entry of t's, absent after its end
-  pub takenOut-in : (es : List (Entry K R)) (k : K) → In k (takenOut f t es)
-      → (e : Entry K R) × In e es × (eqb (e .owner) t ≡ true) × (present (f e) ≡ false) × (e .key ≡ k)
-  unfolding takenOut
-  takenOut-in es k i =
-      let w = map-in (λ (e : Entry K R). e .key) (keep (λ e. eqb (e .owner) t && not (present (f e))) es) k i in
-      let j : In (w .0) es × (eqb (w .0 .owner) t && not (present (f (w .0))) ≡ true) = keep-in _ es (w .0) (w .1) in
-      (w .0, j .0, and-left _ _ (j .1), not-true (present (f (w .0))) (and-right (eqb (w .0 .owner) t) _ (j .1)), w .2)
 
 module _ (B : Book) where
   -- the first entry at or above k
@@ -183,20 +173,23 @@ module _ (B : Book) where
 
     pairs-put : (e : En B) (es : Entries B) → ((x : En B) → In x es → same B (x .key) (e .key) ≡ false) → pairs (below B) es ≡ true
         → pairs (below B) (put B e es) ≡ true
-    unfolding put insertBefore
-    pairs-put e [] m h = pairs-cons (below B) e [] (λ y i. absurd i) h
+    unfolding put insertBefore all
+    pairs-put e [] m h = pairs-cons (below B) e [] refl h
     pairs-put e (x ∷ xs) m h =
-        let b = pairs-split (below B) x xs h in
-        go (atMost B (e .key) (x .key)) refl (b .0) (pairs-put e xs (λ y i. m y (inr i)) (b .1))
+        go (atMost B (e .key) (x .key)) refl (λ y. all-in (below B x) xs y (pairs-head (below B) x xs h))
+        (pairs-put e xs (λ y i. m y (inr i)) (pairs-tail (below B) x xs h))
       where
         go : (b : Bool) → atMost B (e .key) (x .key) ≡ b → ((y : En B) → In y xs → below B x y ≡ true) → pairs (below B) (put B e xs) ≡ true
             → pairs (below B) (cond b (e ∷ x ∷ xs) (x ∷ put B e xs)) ≡ true
         go true q f k =
             pairs-cons (below B) e (x ∷ xs)
-            (λ y i. ⊎-elim (λ z. subst (λ (v : En B). below B e v ≡ true) z (below-other e x q (m x (inl refl)))) (λ j. below-along e x y q (f y j)) i) h
+            (in-all (below B e) (x ∷ xs)
+            (λ y i. ⊎-elim (λ z. subst (λ (v : En B). below B e v ≡ true) z (below-other e x q (m x (inl refl)))) (λ j. below-along e x y q (f y j)) i))
+            h
         go false q f k =
             pairs-cons (below B) x (put B e xs)
-            (λ y i. ⊎-elim (λ z. subst (λ (v : En B). below B x v ≡ true) z (rw q)) (λ j. f y j) (put-in e xs y i)) k
+            (in-all (below B x) (put B e xs)
+            (λ y i. ⊎-elim (λ z. subst (λ (v : En B). below B x v ≡ true) z (rw q)) (λ j. f y j) (put-in e xs y i))) k
 
     pub ascending-put : (e : En B) (es : Entries B) → ((x : En B) → In x es → same B (x .key) (e .key) ≡ false) → B .legal (e .key) ≡ true
         → ascending B es ≡ true → ascending B (put B e es) ≡ true

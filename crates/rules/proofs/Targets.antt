@@ -10,8 +10,8 @@ use lib.Dec.{eqb}
 use borrow.Author.Tests.{eqb-true, not-true}
 use Rattle.lists.specs.Lists.{first, pairs, In, insertBefore}
 use Rattle.lists.proofs.Tests.{and-left, never}
-use Rattle.lists.proofs.Elements.{first-in, none-first}
-use Rattle.lists.proofs.Pairs.{first-least, pairs-split}
+use Rattle.lists.proofs.Elements.{first-in, none-first, all-in}
+use Rattle.lists.proofs.Pairs.{first-least, pairs-head, pairs-tail}
 use Rattle.lists.proofs.Firsts.{first-only, first-agree}
 use Rattle.rules.specs.Kinds.{Book, Ordered, X, on, end, read}
 use Rattle.rules.specs.Entries.{Entries, atMost, same, ghost, put}
@@ -155,7 +155,9 @@ module _ (B : Book) where
         go : (b : Bool) → p e ≡ b → (_≡_ {A = Option (En B)} (cond b (some e) none) none) ⊎ ((_≡_ {A = Option (En B)} (cond b (some e) none) (some e)) × (p e ≡ true) × UpTo none (e .key))
         go true q = inr (refl, q, λ y m. never (cc))
         go false q = inl refl
-    first-with p e (y ∷ ys) h = let w = pairs-split (below B) y ys h in go (atMost B (e .key) (y .key)) (p e) (p y) refl refl refl (w .0) (first-with p e ys (w .1))
+    first-with p e (y ∷ ys) h =
+        go (atMost B (e .key) (y .key)) (p e) (p y) refl refl refl (λ z. all-in (below B y) ys z (pairs-head (below B) y ys h))
+        (first-with p e ys (pairs-tail (below B) y ys h))
       where
         go : (b c d : Bool) → atMost B (e .key) (y .key) ≡ b → p e ≡ c → p y ≡ d → ((z : En B) → In z ys → below B y z ≡ true)
             → (first p (put B e ys) ≡ first p ys) ⊎ ((first p (put B e ys) ≡ some e) × (p e ≡ true) × UpTo (first p ys) (e .key))

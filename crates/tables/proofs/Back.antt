@@ -1,22 +1,19 @@
 -- The way back, from the rule book's values to their numbers: reading undoes writing, and writing undoes reading where the numbers are in
 -- order, so that values tell their bytes. Each by the cases of the value, or by the tests of the numbers. Assumes nothing.
-use Prim.Native.Nat.{ℕ, _+_, _*_, _<_}
-use mathlib.Core.Path.{_≡_, refl, sym, ap, ap₂, _∙_}
+use Prim.Native.Nat.{ℕ, _+_}
+use mathlib.Core.Path.{_≡_, refl, sym, ap, ap₂}
 use mathlib.Core.Logic.{_≢_}
 use mathlib.Core.Bool.{Bool, true, false, cond, _&&_, _||_, false≢true}
-use mathlib.Core.List.{List, [], _∷_, map}
+use mathlib.Core.List.{List, [], _∷_}
 use mathlib.Core.Option.{none, some}
 use borrow.Author.Tests.{eqb-true, ne-eqb}
 use lib.Dec.{eqb}
 use lib.ListN.{getD}
 use Rattle.lists.proofs.Tests.{and-left, and-right}
-use Rattle.lists.proofs.Tables.{tab-ext, map-tab}
-use Rattle.numbers.specs.Numbers.{widthOf, fieldsAt, rows, Bytes}
-use Rattle.numbers.proofs.Agree.{Agree}
-use Rattle.numbers.proofs.Rows.{rows-inj}
+use Rattle.numbers.specs.Numbers.{fieldsAt}
 use Rattle.rules.specs.Kinds.{Ask, read, insert, delete, Mode, S, X, on, end, Lock}
 use Rattle.rules.specs.Document.{endMark}
-use Rattle.tables.specs.Layout.{locksMost, recordPlace, recordAt, askBy, askIn, askAt, askWidths, askFields, lockWidths, lockPlace, nameIn, nameNumber, modeIn, modeNumber, slotIn, slotFields, slotAt, slotsOf}
+use Rattle.tables.specs.Layout.{recordPlace, recordAt, askBy, askIn, askAt, askWidths, askFields, nameIn, nameNumber, modeIn, modeNumber, slotIn, slotFields}
 use Rattle.tables.proofs.Values.{name-back}
 
 -- ---- names and modes
@@ -64,20 +61,6 @@ slot-back k h v z e = go (eqb h 0) refl e
         let zz = eqb-true z 0 (and-right (isMode v) (eqb z 0) q) in
         rw (name-back k, mode-back v (and-left (isMode v) (eqb z 0) q), zz)
 
--- slots tell their bytes, where their rows are read back as they were
-pub slots-tell : (d u : List ℕ) → Bytes d → Bytes u
-    → ((i : ℕ) → i < locksMost → slotFields (slotAt d i) ≡ fieldsAt lockWidths d (lockPlace i))
-    → ((i : ℕ) → i < locksMost → slotFields (slotAt u i) ≡ fieldsAt lockWidths u (lockPlace i))
-    → slotsOf d ≡ slotsOf u → Agree (16 * locksMost) d (lockPlace 0) u (lockPlace 0)
-unfolding widthOf slotsOf rows
-slots-tell d u f g p q e = rows-inj lockWidths 16 locksMost refl f g (sym (fields d p) ∙ ap (map slotFields) e ∙ fields u q)
-  where
-    fields : (s : List ℕ) → ((i : ℕ) → i < locksMost → slotFields (slotAt s i) ≡ fieldsAt lockWidths s (lockPlace i))
-        → map slotFields (slotsOf s) ≡ rows lockWidths 576 16 locksMost s
-    fields s h =
-        map-tab slotFields locksMost 0 (slotAt s)
-        ∙ tab-ext locksMost 0 (λ i. slotFields (slotAt s i)) (λ i. fieldsAt lockWidths s (lockPlace i)) (λ i _ l. h i l)
-
 -- ---- requests, by their four numbers
 abbrev pub askOf : List ℕ → Ask ℕ ℕ
 askOf vs = askBy (getD vs 0 0) (getD vs 1 0) (getD vs 2 0) (getD vs 3 0)
@@ -85,12 +68,6 @@ askOf vs = askBy (getD vs 0 0) (getD vs 1 0) (getD vs 2 0) (getD vs 3 0)
 pub ask-of : (d : List ℕ) (t : ℕ) → askAt d t ≡ askOf (fieldsAt askWidths d (recordPlace t + 2))
 unfolding askIn recordAt fieldsAt
 ask-of d t = refl
-
-pub ask-there : (a : Ask ℕ ℕ) → askOf (askFields a) ≡ a
-unfolding askFields
-ask-there (read lo hi) = refl
-ask-there (insert k r) = refl
-ask-there (delete k) = refl
 
 -- numbers in order: one of the three kinds, and what it does not use is zero
 abbrev pub isAsk : ℕ → ℕ → ℕ → Bool

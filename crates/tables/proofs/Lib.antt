@@ -1,5 +1,4 @@
 pub mod Values
-pub mod Scans
 pub mod Back
 pub mod Slots
 pub mod Takes

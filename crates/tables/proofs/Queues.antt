@@ -4,8 +4,8 @@
 use Prim.Native.Nat.{ℕ, zero, suc, _+_, _-_, _*_, _≤_, _<_}
 use mathlib.Core.Path.{_≡_, refl, sym, ap, ap₂, _∙_}
 use mathlib.Core.Logic.{_≢_}
-use mathlib.Core.Bool.{Bool, true, false, not}
-use mathlib.Core.List.{List, [], _∷_, _++_}
+use mathlib.Core.Bool.{Bool, true, not}
+use mathlib.Core.List.{List, [], _∷_}
 use native.Mathlib.Nat.{not-suc-le-zero, le-of-suc-le-suc, zero-add}
 use native.Mathlib.Omega.{arith}
 use borrow.Author.Tests.{eqb-true, eqb-false, eq-eqb, ne-eqb, lt-ltb, le-ltb, not-true}
@@ -13,33 +13,24 @@ use lib.Dec.{eqb, ltb}
 use lib.ListN.{length, getD, set}
 use Rattle.lists.specs.Lists.{all, any, keep, pairs, tab, removeAt}
 use Rattle.lists.proofs.Tests.{and-left, and-right, all-at, all-each, keep-all, not-any}
-use Rattle.lists.proofs.Tables.{length-tab, getD-tab, tab-append, tab-ext, tab-remove, all-tab}
-use Rattle.numbers.specs.Numbers.{numberAt, putNumber, widthOf, fieldsAt, moved, zeroed, Fits}
+use Rattle.lists.proofs.Tables.{length-tab, getD-tab, tab-remove}
+use Rattle.lists.proofs.Scans.{place-any, place-passes}
+use Rattle.numbers.specs.Numbers.{numberAt, putNumber, fieldsAt, moved, zeroed}
 use Rattle.numbers.proofs.Agree.{Touches, agree-within, touches-wider, touches-then}
 use Rattle.numbers.proofs.Numbers.{numberAt-ext, number-same, touches-putNumber}
-use Rattle.numbers.proofs.Fields.{fields-same}
 use Rattle.numbers.proofs.Moves.{touches-copied, agree-copied, touches-zeroed, agree-zeroed}
 use Rattle.rules.specs.Kinds.{Paging, Ask, Queued}
 use Rattle.rules.specs.Queue.{leave}
 use Rattle.rules.specs.Good.{otherAsker}
 use Rattle.rules.specs.Document.{document}
-use Rattle.tables.specs.Layout.{deskSize, transactionsMost, headWidths, queued, queuePlace, inPlace, recordPlace, askAt, askWidths, askFields, putAsk, slotsOf, queuedAt, queueOf, marksOf}
+use Rattle.tables.specs.Layout.{deskSize, transactionsMost, headWidths, queued, queuePlace, inPlace, recordPlace, askAt, askFields, putAsk, queuedAt, queueOf}
 use Rattle.tables.specs.Moves.{waitsIn, queueJoined, queueLeft}
-use Rattle.tables.proofs.Back.{askOf, ask-of, ask-there}
-use Rattle.tables.proofs.Scans.{place-any, place-passes}
 use Rattle.tables.proofs.Order.{InOrder}
-use Rattle.tables.proofs.Frames.{touches-ask, ask-beside, place-beside, slots-beside, marks-beside, head-beside, head-count}
+use Rattle.tables.proofs.Frames.{touches-ask, ask-beside, place-beside, head-beside, head-count}
 
 pub length-queue : (d : List ℕ) → length (queueOf d) ≡ queued d
 unfolding queueOf
 length-queue d = length-tab (queued d) 0 (queuedAt d)
-
--- a request is read back as it was written
-ask-same : (d : List ℕ) (t : ℕ) (a : Ask ℕ ℕ) → length d ≡ deskSize → t ≤ transactionsMost → Fits askWidths (askFields a)
-    → askAt (putAsk d t (askFields a)) t ≡ a
-unfolding putAsk widthOf
-ask-same d t a size h fit =
-    ask-of (putAsk d t (askFields a)) t ∙ ap askOf (fields-same askWidths d (recordPlace t + 2) (askFields a) fit (omega arith)) ∙ ask-there a
 
 -- ---- a request joins
 module _ (d : List ℕ) (t : ℕ) (a : Ask ℕ ℕ) (size : length d ≡ deskSize) (order : InOrder d) (room : queued d < transactionsMost)
@@ -65,10 +56,6 @@ module _ (d : List ℕ) (t : ℕ) (a : Ask ℕ ℕ) (size : length d ≡ deskSiz
   touches-joined =
       touches-then (touches-wider 4 60 (omega arith) (omega arith) touches-placed) (touches-wider 4 60 (omega arith) (omega arith) touches-counted)
 
-  pub count-joined : queued (queueJoined d t a) ≡ queued d + 1
-  unfolding queueJoined
-  count-joined = number-same 2 placed 4 (queued d + 1) (omega arith) (omega (arith, touches-placed .len, touches-asked .len))
-
   -- the places: the new one at the end, the others as they were
   pub place-joined : (i : ℕ) → i < transactionsMost → i ≢ queued d → inPlace (queueJoined d t a) i ≡ inPlace d i
   place-joined i h e = place-beside touches-counted i (omega arith) ∙ place-beside touches-placed i (omega arith) ∙ place-beside touches-asked i (omega arith)
@@ -76,49 +63,6 @@ module _ (d : List ℕ) (t : ℕ) (a : Ask ℕ ℕ) (size : length d ≡ deskSiz
   pub last-joined : inPlace (queueJoined d t a) (queued d) ≡ t
   last-joined =
       place-beside touches-counted (queued d) (omega arith) ∙ number-same 2 asked (queuePlace (queued d)) t (omega arith) (omega (arith, touches-asked .len))
-
-  ask-joined : (s : ℕ) → 1 ≤ s → s ≢ t → askAt (queueJoined d t a) s ≡ askAt d s
-  ask-joined s h e = ask-beside touches-joined s (omega arith) ∙ ask-beside touches-asked s (omega arith)
-
-  asked-joined : Fits askWidths (askFields a) → askAt (queueJoined d t a) t ≡ a
-  asked-joined fit = ask-beside touches-joined t (omega arith) ∙ ask-same d t a size high fit
-
-  others : any (λ q. eqb (q .asker) t) (queueOf d) ≡ false → (i : ℕ) → i < queued d → inPlace d i ≢ t
-  unfolding queueOf queuedAt
-  others e i h =
-      eqb-false (inPlace d i) t
-      (not-true (eqb (inPlace d i) t)
-      (all-tab (λ q. not (eqb (q .asker) t)) (queued d) 0 (queuedAt d) i (sym (not-any (λ q. eqb (q .asker) t) (queueOf d)) ∙ ap not e)
-      (omega arith) (omega arith)))
-
-  pub queue-joined : Fits askWidths (askFields a) → any (λ q. eqb (q .asker) t) (queueOf d) ≡ false
-      → queueOf (queueJoined d t a) ≡ queueOf d ++ (record { asker = t; asks = a } ∷ [])
-  unfolding queueOf queuedAt tab
-  queue-joined fit new =
-      ap (λ n. tab n 0 (queuedAt u)) count-joined
-      ∙ tab-append (queued d) 1 0 (queuedAt u)
-      ∙ ap₂ (λ qs q. qs ++ (q ∷ [])) (tab-ext (queued d) 0 (queuedAt u) (queuedAt d) (λ i _ h. same i (omega arith))) last
-    where
-      u : List ℕ
-      u = queueJoined d t a
-
-      same : (i : ℕ) → i < queued d → queuedAt u i ≡ queuedAt d i
-      same i h =
-          ap (λ s. record { asker = s; asks = askAt u s }) (place-joined i (omega arith) (omega arith))
-          ∙ ap (λ x. record { asker = inPlace d i; asks = x }) (ask-joined (inPlace d i) (order .from i h) (others new i h))
-
-      last : queuedAt u (0 + queued d) ≡ record { asker = t; asks = a }
-      last =
-          ap (queuedAt u) (zero-add (queued d))
-          ∙ ap (λ s. record { asker = s; asks = askAt u s }) last-joined
-          ∙ ap (λ x. record { asker = t; asks = x }) (asked-joined fit)
-
-  -- what stays
-  pub slots-joined : slotsOf (queueJoined d t a) ≡ slotsOf d
-  slots-joined = slots-beside touches-joined (omega arith) ∙ slots-beside touches-asked (omega arith)
-
-  pub marks-joined : marksOf (queueJoined d t a) ≡ marksOf d
-  marks-joined = marks-beside touches-joined (λ s h l. omega arith) ∙ marks-beside touches-asked (λ s h l. omega arith)
 
   pub head-joined : fieldsAt headWidths (queueJoined d t a) 0 ≡ set (fieldsAt headWidths d 0) 2 (queued d + 1)
   unfolding queueJoined
@@ -242,15 +186,6 @@ module _ (d : List ℕ) (q : ℕ) (size : length d ≡ deskSize) (order : InOrde
 
   ask-left : (s : ℕ) → 1 ≤ s → s ≢ leaver → askAt (queueLeft d q) s ≡ askAt d s
   ask-left s h e = ask-beside touches-left s (omega arith) ∙ ask-beside touches-cleared s (omega arith)
-
-  -- what stays
-  pub slots-left : slotsOf (queueLeft d q) ≡ slotsOf d
-  slots-left =
-      let n = order .to q there in
-      slots-beside touches-left (omega arith) ∙ slots-beside touches-cleared (omega arith)
-
-  pub marks-left : marksOf (queueLeft d q) ≡ marksOf d
-  marks-left = marks-beside touches-left (λ s h k. omega arith) ∙ marks-beside touches-cleared (λ s h k. omega arith)
 
   pub head-left : fieldsAt headWidths (queueLeft d q) 0 ≡ set (fieldsAt headWidths d 0) 2 (queued d - 1)
   unfolding queueLeft

@@ -1,26 +1,22 @@
--- Releasing the locks of a transaction: one slot after the other as the code does it, and that the slots are then the rule book's `released`.
+-- Releasing the locks of a transaction: one slot after the other as the code does it, and what stands in each row then.
 -- When i slots are passed, the first i rows are released and the rest is as it was. Assumes nothing.
 use Prim.Native.Nat.{ℕ, zero, suc, _+_, _-_, _*_, _≤_, _<_}
 use mathlib.Core.Path.{_≡_, refl, sym, ap, subst, _∙_}
 use mathlib.Core.Bool.{Bool, true, false, cond}
-use mathlib.Core.List.{List, [], _∷_, _++_, append-assoc, append-nil}
-use mathlib.Core.Option.{none, some}
-use native.Mathlib.Nat.{zero-add, add-zero}
+use mathlib.Core.List.{List, [], _∷_, _++_, append-nil}
+use native.Mathlib.Nat.{zero-add}
 use native.Mathlib.Omega.{arith}
 use borrow.Author.Tests.{eq-eqb, ne-eqb}
-use lib.Dec.{eqb, lit≤}
-use lib.ListN.{length, take, drop, replicate, length-append, length-replicate}
-use lib.Seq.{take-at, drop-at, drop-drop, length-take-le}
+use lib.Dec.{eqb}
+use lib.ListN.{length, replicate, length-append, length-replicate}
 use Rattle.lists.specs.Lists.{tab, join}
-use Rattle.lists.proofs.Tables.{tab-append, tab-ext, map-tab}
-use Rattle.lists.proofs.Counts.{join-append}
-use Rattle.numbers.specs.Numbers.{numberAt, widthOf, fieldsAt, part, putPart, zeroed}
+use Rattle.lists.proofs.Tables.{tab-append}
+use Rattle.lists.proofs.Joins.{join-append}
+use Rattle.numbers.specs.Numbers.{numberAt, part, putPart, zeroed}
 use Rattle.numbers.proofs.Agree.{Touches, touches-wider}
-use Rattle.numbers.proofs.Parts.{length-part, numberAt-part, fieldsAt-part, putPart-part, putPart-none, part-apart, part-same, touches-putPart}
-use Rattle.rules.specs.Kinds.{Paging, Lock}
-use Rattle.rules.specs.Locks.{freed, released}
-use Rattle.rules.specs.Document.{document}
-use Rattle.tables.specs.Layout.{deskSize, locksMost, lockWidths, lockPlace, nameIn, modeIn, slotIn, slotAt, slotsOf}
+use Rattle.numbers.proofs.Parts.{length-part, numberAt-part, putPart-part, putPart-none, part-apart, part-same, touches-putPart}
+use Rattle.numbers.proofs.Splices.{putPart-behind}
+use Rattle.tables.specs.Layout.{deskSize, locksMost, lockPlace}
 use Rattle.tables.specs.Moves.{rowFreed, rowReleased, locksReleased}
 
 -- ---- one slot, as the code tests and writes it
@@ -47,21 +43,6 @@ releasedTo t i d = putPart (lockPlace 0) (join (rowFreed t) (tab i 0 (λ k. part
 pub release-start : (t : ℕ) (d : List ℕ) → d ≡ releasedTo t 0 d
 unfolding releasedTo join tab
 release-start t d = putPart-none (lockPlace 0) d
-
-putPart-append : (at : ℕ) (a b s : List ℕ) → at + length a ≤ length s → putPart at (a ++ b) s ≡ putPart (at + length a) b (putPart at a s)
-unfolding putPart
-putPart-append at a b s h =
-    let front : List ℕ = take at s ++ a in
-    let len : length front ≡ at + length a = length-append (take at s) a ∙ ap (λ n. n + length a) (length-take-le at s (omega arith)) in
-    let len₂ : at + length (a ++ b) ≡ at + length a + length b = simp length-append (omega arith) in
-    let rest : drop (at + length (a ++ b)) s ≡ drop (at + length a + length b) (front ++ drop (at + length a) s) =
-    ap (λ n. drop n s) len₂
-    ∙ sym (drop-drop (length b) (at + length a) s)
-    ∙ ap (λ x. drop (length b) x) (sym (drop-at front (drop (at + length a) s) (at + length a) len))
-    ∙ drop-drop (length b) (at + length a) (front ++ drop (at + length a) s) in
-    ap (λ x. x ++ drop (at + length (a ++ b)) s)
-    (sym (append-assoc (take at s) a b) ∙ ap (λ x. x ++ b) (sym (take-at front (drop (at + length a) s) (at + length a) len)))
-    ∙ ap (λ x. take (at + length a) (front ++ drop (at + length a) s) ++ b ++ x) rest
 
 module _ (t : ℕ) (d : List ℕ) (size : length d ≡ deskSize) where
   abbrev row : ℕ → List ℕ
@@ -101,7 +82,7 @@ module _ (t : ℕ) (d : List ℕ) (size : length d ≡ deskSize) where
       let n = length-rows i 0 (omega arith) in
       let place : lockPlace i ≡ 576 + length (join (rowFreed t) (tab i 0 row)) = omega arith in
       ap (λ p. putPart p (rowFreed t (row i)) (releasedTo t i d)) place
-      ∙ sym (putPart-append 576 (join (rowFreed t) (tab i 0 row)) (rowFreed t (row i)) d (omega arith))
+      ∙ putPart-behind 576 (length (join (rowFreed t) (tab i 0 row))) (join (rowFreed t) (tab i 0 row)) (rowFreed t (row i)) d refl (omega arith)
       ∙ ap (λ rs. putPart 576 rs d) (sym (rows-next i))
 
   -- what the loop has passed over is not touched yet
@@ -133,7 +114,9 @@ module _ (t : ℕ) (d : List ℕ) (size : length d ≡ deskSize) where
       ∙ join-append (rowFreed t) (tab k 0 row) (tab (n - k) (0 + k) row) in
       let whole : putPart 576 (join (rowFreed t) (tab n 0 row)) d
       ≡ putPart (576 + length (join (rowFreed t) (tab k 0 row))) (join (rowFreed t) (tab (n - k) (0 + k) row)) (releasedTo t k d) =
-      ap (λ x. putPart 576 x d) parts ∙ putPart-append 576 (join (rowFreed t) (tab k 0 row)) (join (rowFreed t) (tab (n - k) (0 + k) row)) d (omega arith) in
+      ap (λ x. putPart 576 x d) parts
+      ∙ sym (putPart-behind 576 (length (join (rowFreed t) (tab k 0 row))) (join (rowFreed t) (tab k 0 row))
+      (join (rowFreed t) (tab (n - k) (0 + k) row)) d refl (omega arith)) in
       let m = touches-releasedTo k (omega arith) .len in
       subst (Touches (lockPlace k) (16 * (n - k)) (releasedTo t k d)) (sym whole)
       (touches-wider (lockPlace k) (16 * (n - k)) (omega arith) (omega arith)
@@ -149,42 +132,3 @@ module _ (t : ℕ) (d : List ℕ) (size : length d ≡ deskSize) where
       ∙ ap (part (lockPlace k) 16) (sym (released-next k h))
       ∙ part-same (lockPlace k) 16 (rowFreed t (row k)) (releasedTo t k d) (length-freed (row k) (length-part (lockPlace k) 16 d (omega arith)))
       (omega (arith, m .len))
-
-  -- the slot that a row holds, when the row is freed
-  slot-zero : slotIn (fieldsAt lockWidths (replicate 16 0) 0) ≡ none
-  unfolding slotIn fieldsAt numberAt
-  slot-zero = refl
-
-  slot-freed : (P : Paging ℕ) (r : List ℕ) → slotIn (fieldsAt lockWidths (rowFreed t r) 0) ≡ freed (document P) t (slotIn (fieldsAt lockWidths r 0))
-  unfolding slotIn fieldsAt
-  slot-freed P r = zero (eqb (numberAt 2 r 8) t) ∙ go (eqb (numberAt 2 r 8) t) (eqb (numberAt 2 r 8) 0) refl
-    where
-      held : Lock ℕ
-      held = record { name = nameIn (numberAt 8 r 0); holder = numberAt 2 r 8; mode = modeIn (numberAt 2 r 10) }
-
-      zero : (b : Bool) → slotIn (fieldsAt lockWidths (cond b (replicate 16 0) r) 0) ≡ cond b none (slotIn (fieldsAt lockWidths r 0))
-      zero true = slot-zero
-      zero false = refl
-
-      go : (b z : Bool) → eqb (numberAt 2 r 8) t ≡ b → cond b none (cond z none (some held)) ≡ freed (document P) t (cond z none (some held))
-      go true true e = refl
-      go true false e = rw e
-      go false true e = refl
-      go false false e = rw e
-
-  pub slot-released : (P : Paging ℕ) (k : ℕ) → k < locksMost → slotAt (locksReleased t d) k ≡ freed (document P) t (slotAt d k)
-  unfolding slotAt widthOf
-  slot-released P k h =
-      sym (fields (locksReleased t d))
-      ∙ ap (λ r. slotIn (fieldsAt lockWidths r 0)) (row-released k h)
-      ∙ slot-freed P (row k)
-      ∙ ap (freed (document P) t) (fields d)
-    where
-      fields : (s : List ℕ) → slotIn (fieldsAt lockWidths (part (lockPlace k) 16 s) 0) ≡ slotIn (fieldsAt lockWidths s (lockPlace k))
-      fields s = ap slotIn (fieldsAt-part lockWidths (lockPlace k) 16 s 0 (lit≤ tt) ∙ ap (fieldsAt lockWidths s) (add-zero (lockPlace k)))
-
-  pub slots-released : (P : Paging ℕ) → slotsOf (locksReleased t d) ≡ released (document P) t (slotsOf d)
-  unfolding slotsOf released
-  slots-released P =
-      tab-ext locksMost 0 (slotAt (locksReleased t d)) (λ k. freed (document P) t (slotAt d k)) (λ k _ h. slot-released P k h)
-      ∙ sym (map-tab (freed (document P) t) locksMost 0 (slotAt d))

@@ -19,7 +19,7 @@ use Rattle.tables.proofs.Values.{name-back}
 use Rattle.tables.proofs.Back.{slot-there}
 
 -- ---- a lock written and read back
-mode-fits : (m : Mode) → modeNumber m < 256 ^ 2
+pub mode-fits : (m : Mode) → modeNumber m < 256 ^ 2
 mode-fits S = lit< tt
 mode-fits X = lit< tt
 

@@ -12,6 +12,7 @@ use lib.Dec.{eqb, ltb}
 use lib.ListN.{length, getD, set}
 use Rattle.lists.specs.Lists.{all, any, pairs, place}
 use Rattle.lists.proofs.Tests.{and-left, and-right}
+use Rattle.lists.proofs.Scans.{place-any, place-passes}
 use Rattle.rules.specs.Kinds.{Book, Paging, Mode, Name, Lock}
 use Rattle.rules.specs.Entries.{isThere}
 use Rattle.rules.specs.Locks.{Slots, inUse, stronger, sameName, isOf, holds, raised, behind, added, taken}
@@ -21,7 +22,6 @@ use Rattle.tables.specs.declared.Slot as Sl
 use Rattle.tables.specs.Layout.{deskSize, locksMost, nameIn, slotAt, putSlot, slotsOf, bookSlot}
 use Rattle.tables.specs.Moves.{isSlotOf, strengthened, heldIn, freeIn, lockTaken, lockGiven}
 use Rattle.tables.proofs.Values.{names-any, same-is, same-itself}
-use Rattle.tables.proofs.Scans.{place-any, place-passes}
 use Rattle.tables.proofs.Slots.{lock, lock-fits, lock-back, slots-put, length-slots, slot-in}
 
 -- ---- the code's cases: t has the name, a slot is free, none is

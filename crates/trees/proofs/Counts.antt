@@ -10,7 +10,8 @@ use lib.Dec.{leb}
 use lib.ListN.{length, take, drop, length-append, length-take, length-drop, take-append-drop}
 use borrow.Author.Tests.{leb-true, leb-false, le-leb}
 use Rattle.lists.specs.Lists.{insertBefore, all}
-use Rattle.lists.proofs.Rows.{and-left, and-right, and-both, all-head, all-tail, all-left, all-right, all-both, length-insertBefore}
+use Rattle.lists.proofs.Tests.{and-left, and-right, and-both, all-head, all-tail, all-left, all-right, all-both}
+use Rattle.lists.proofs.Places.{length-insertBefore}
 use Rattle.trees.specs.Trees.{Sizes, Child, Tree, Index, Fair, counted, atMost}
 use Rattle.trees.specs.Growth.{Grown, halves, beside, parts, fromLowest, lowKey, lowOf, widened, grown, rooted, withItem}
 use Rattle.trees.proofs.Spots.{Lies, widen}

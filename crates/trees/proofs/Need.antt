@@ -11,7 +11,8 @@ use lib.Dec.{leb, eqb}
 use lib.ListN.{length, length-append}
 use borrow.Author.Tests.{leb-true, leb-false, le-leb, eq-eqb, ne-eqb}
 use Rattle.lists.specs.Lists.{insertBefore, all}
-use Rattle.lists.proofs.Rows.{all-head, all-right, length-insertBefore}
+use Rattle.lists.proofs.Tests.{all-head, all-right}
+use Rattle.lists.proofs.Places.{length-insertBefore}
 use Rattle.trees.specs.Trees.{Sizes, Child, Tree, Index, counted, atMost}
 use Rattle.trees.specs.Growth.{Grown, Row, halves, beside, parts, fromLowest, lowKey, lowOf, widened, belongs, grown, rooted, withItem, fullRun, needed}
 use Rattle.trees.proofs.Spots.{widen}

@@ -10,7 +10,9 @@ use lib.Dec.{leb, isEq}
 use lib.ListN.{length, take, drop, take-append-drop}
 use borrow.Author.Tests.{leb-false}
 use Rattle.lists.specs.Lists.{all, join, insertBefore}
-use Rattle.lists.proofs.Rows.{all-head, all-left, all-right, join-append, insertBefore-past, insertBefore-front, Cut, cut}
+use Rattle.lists.proofs.Tests.{all-head, all-left, all-right}
+use Rattle.lists.proofs.Joins.{join-append, Cut, cut}
+use Rattle.lists.proofs.Places.{insertBefore-past, insertBefore-front}
 use Rattle.rules.specs.Kinds.{Ordered}
 use Rattle.trees.specs.Trees.{Sizes, Fair, Page, Child, Tree, flat, counted, atMost, inside, firstLow, ranges, ranged}
 use Rattle.trees.specs.Growth.{Grown, halves, divided, beside, parts, fromLowest, lowKey, lowOf, widened, missing, grown}

@@ -1,28 +1,50 @@
 -- Each page once: a page stands in the grown tree, in the tree beside it and among the unused as often as before. By induction on the level;
 -- of a list of children only sums are known. Assumes nothing.
-use Prim.Native.Nat.{ℕ, zero, suc, _+_, Ordering}
+use Prim.Native.Nat.{ℕ, zero, suc, _+_, Ordering, _<_, _≤_}
 use mathlib.Core.Path.{_≡_, refl, sym, ap, _∙_}
 use mathlib.Core.Bool.{Bool, true, false, cond}
 use mathlib.Core.List.{List, [], _∷_, _++_, map}
 use mathlib.Core.Option.{Option, none, some}
 use lib.Dec.{leb, eqb}
 use lib.ListN.{length, take, drop, take-append-drop}
-use borrow.Author.Tests.{leb-true, leb-false, eqb-true, eqb-false}
+use borrow.Author.Tests.{leb-true, leb-false, eqb-true, eqb-false, le-leb, lt-leb}
 use native.Mathlib.Omega.{arith}
-use Rattle.lists.specs.Lists.{insertBefore}
+use mathlib.Core.Logic.{inl, inr}
+use Rattle.lists.specs.Lists.{insertBefore, In}
 use Rattle.trees.specs.Trees.{atMost, Sizes, Page, Child, Tree, Index, summed, isPage, above, times, EachOnce}
 use Rattle.trees.specs.Growth.{Grown, halves, beside, parts, fromLowest, lowKey, lowOf, widened, grown, rooted, withItem}
 use Rattle.trees.proofs.Spots.{Lies, widen}
 
-summed-append : {A : Type 0} (f : A → ℕ) (xs ys : List A) → summed f (xs ++ ys) ≡ summed f xs + summed f ys
+pub summed-append : {A : Type 0} (f : A → ℕ) (xs ys : List A) → summed f (xs ++ ys) ≡ summed f xs + summed f ys
 unfolding summed
 summed-append f [] ys = omega arith
 summed-append f (x ∷ xs) ys = let r = summed-append f xs ys in omega arith
+
+pub summed-in : {A : Type 0} (f : A → ℕ) (xs : List A) (x : A) → In x xs → f x ≤ summed f xs
+unfolding summed
+summed-in f (y ∷ ys) x (inl e) = omega (arith, ap f e)
+summed-in f (y ∷ ys) x (inr i) = omega (arith, summed-in f ys x i)
+
+pub summed-some : {A : Type 0} (f : A → ℕ) (xs : List A) → 0 < summed f xs → (x : A) × In x xs × (0 < f x)
+unfolding summed
+summed-some f [] h = absurd (omega arith)
+summed-some {A} f (x ∷ xs) h = go (f x) refl (summed-some f xs)
+  where
+    go : (m : ℕ) → f x ≡ m → (0 < summed f xs → (y : A) × In y xs × (0 < f y)) → (y : A) × In y (x ∷ xs) × (0 < f y)
+    go zero e r = let y = r (omega arith) in (y .0, inr (y .1), y .2)
+    go (suc m) e r = (x, inl refl, omega arith)
 
 pub summed-map : {A B : Type 0} (g : B → ℕ) (f : A → B) (xs : List A) → summed g (map f xs) ≡ summed (λ x. g (f x)) xs
 unfolding summed
 summed-map g f [] = refl
 summed-map g f (x ∷ xs) = ap (λ m. g (f x) + m) (summed-map g f xs)
+
+-- page q is unused, or used
+pub above-yes : (u q : ℕ) → u ≤ q → above u q ≡ 1
+above-yes u q h = ap (λ b. cond {A = ℕ} b 1 0) (le-leb u q h)
+
+pub above-no : (u q : ℕ) → q < u → above u q ≡ 0
+above-no u q h = ap (λ b. cond {A = ℕ} b 1 0) (lt-leb u q h)
 
 -- page u is taken into use
 pub above-next : (u q : ℕ) → isPage q u + above (u + 1) q ≡ above u q

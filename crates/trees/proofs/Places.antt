@@ -1,14 +1,14 @@
 -- The child that a key belongs to, by its place: how the code finds it, what is asked of it, and the row when it has grown, with the new
 -- child one place behind. From where the key belongs. Assumes nothing.
-use Prim.Native.Nat.{ℕ, _+_, _≤_, _<_, Ordering}
+use Prim.Native.Nat.{ℕ, _+_, _≤_, Ordering}
 use mathlib.Core.Path.{_≡_, sym, ap, _∙_}
 use mathlib.Core.List.{List, _∷_, _++_}
 use mathlib.Core.Option.{Option, none, some}
 use native.Mathlib.Omega.{arith}
-use lib.ListN.{length, getD, set, length-append}
+use lib.ListN.{length, getD, set}
 use lib.Seq.{getD-append-seam, set-append-seam}
 use Rattle.lists.specs.Lists.{insertAt}
-use Rattle.lists.proofs.Rows.{insertAt-behind}
+use Rattle.lists.proofs.Places.{insertAt-behind}
 use Rattle.trees.specs.Trees.{Child}
 use Rattle.trees.specs.Growth.{Grown, Row, beside, place, belongs, widened}
 use Rattle.trees.proofs.Spots.{Lies, at-spot, widen}
@@ -19,11 +19,6 @@ grownAt i c t none cs = set cs i (record { low = c .low; tree = t })
 grownAt i c t (some d) cs = insertAt (i + 1) d (set cs i (record { low = c .low; tree = t }))
 
 module _ {K T : Type 0} (compare : K → K → Ordering) (k : K) where
-  pub place-inside : (cs : List (Child K T)) → 1 ≤ length cs → place compare k cs < length cs
-  place-inside =
-      at-spot compare k (λ cs. 1 ≤ length cs → place compare k cs < length cs) (λ h. absurd (omega arith))
-      (λ b c a l h. omega (arith, l .at, length-append b (c ∷ a)))
-
   -- with any child to stand for a missing one
   module _ (none-such : Child K T) where
     own : (b : List (Child K T)) (c : Child K T) (a : List (Child K T)) → Lies compare k (b ++ c ∷ a) b c a

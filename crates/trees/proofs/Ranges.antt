@@ -6,7 +6,7 @@ use mathlib.Core.Bool.{Bool, true, _&&_}
 use mathlib.Core.List.{List, [], _∷_, _++_, map, append-nil}
 use mathlib.Core.Option.{Option, some}
 use Rattle.lists.specs.Lists.{all, pairs, join}
-use Rattle.lists.proofs.Rows.{and-left, and-right, and-both, all-weaker}
+use Rattle.lists.proofs.Tests.{and-left, and-right, and-both, all-weaker}
 use Rattle.rules.specs.Kinds.{Ordered}
 use Rattle.trees.specs.Trees.{Child, Tree, atMost, under, inside, firstLow, ranges, ranged}
 use Rattle.trees.specs.Growth.{withTree}

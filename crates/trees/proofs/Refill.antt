@@ -5,7 +5,7 @@ use mathlib.Core.Path.{_≡_, PathP, refl, sym, ap, ap₂, pathJ, _∙_}
 use mathlib.Core.List.{List, [], _∷_, map, nil≢cons, cons≢nil, head-eq-of-cons-eq, tail-eq-of-cons-eq}
 use lib.ListN.{length, length-map}
 use Rattle.lists.specs.Lists.{join}
-use Rattle.lists.proofs.Rows.{map-append, append-apart}
+use Rattle.lists.proofs.Joins.{map-append, append-apart}
 use Rattle.trees.specs.Trees.{Child, Tree, Index, flat}
 use Rattle.trees.specs.Growth.{withTree, leaves, inLeaves}
 use Rattle.trees.specs.Shapes.{shaped, shape}

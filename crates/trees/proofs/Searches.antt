@@ -9,7 +9,9 @@ use lib.Dec.{isEq}
 use lib.ListN.{drop}
 use lib.Seq.{drop-append-seam}
 use Rattle.lists.specs.Lists.{all, pairs, join, first, firstSome}
-use Rattle.lists.proofs.Rows.{all-cons, pairs-head, pairs-tail, all-weaker, join-append, first-past, first-join}
+use Rattle.lists.proofs.Tests.{all-cons, all-weaker, first-past}
+use Rattle.lists.proofs.Pairs.{pairs-head, pairs-tail}
+use Rattle.lists.proofs.Joins.{join-append, first-join}
 use Rattle.rules.specs.Kinds.{Ordered}
 use Rattle.trees.specs.Trees.{Child, Tree, flat, atMost, under, ranges, ranged}
 use Rattle.trees.specs.Growth.{place, missing}

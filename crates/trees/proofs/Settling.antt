@@ -4,10 +4,13 @@ use Prim.Native.Nat.{ℕ, zero, suc, Ordering}
 use mathlib.Core.Path.{_≡_, refl, sym, ap, ap₂, subst, fun-ext, _∙_}
 use mathlib.Core.Logic.{inl, inr}
 use mathlib.Core.Bool.{Bool, true, false, cond, not, _&&_, _||_}
-use mathlib.Core.List.{List, [], _∷_, _++_, map}
+use mathlib.Core.List.{List, [], _∷_, _++_, map, map-map}
 use lib.Dec.{isEq, eqb}
 use Rattle.lists.specs.Lists.{all, any, pairs, keep, join, In}
-use Rattle.lists.proofs.Rows.{all-head, all-tail, pairs-head, pairs-tail, all-in, map-map, map-alike, map-append, keep-append, join-append}
+use Rattle.lists.proofs.Tests.{all-head, all-tail, keep-append}
+use Rattle.lists.proofs.Pairs.{pairs-head, pairs-tail}
+use Rattle.lists.proofs.Elements.{all-in}
+use Rattle.lists.proofs.Joins.{map-alike, map-append, join-append}
 use Rattle.rules.specs.Kinds.{Book, Ordered, Entry}
 use Rattle.rules.specs.Entries.{present, left, settled, takenOut, changed}
 use Rattle.trees.specs.Trees.{Tree, Index, flat}
@@ -99,15 +102,6 @@ module _ {K A : Type 0} {compare : K → K → Ordering} (L : Ordered K compare)
       (λ xs ys. ap (keep q) (map-append key xs ys) ∙ keep-append q (map key xs) (map key ys))
       K (x .level) (x .tree) (λ y i. one y ∙ (turned (out y) (key y ∷ []) ∙ ap (λ b. cond (not b) (key y ∷ []) []) (sym (among y out items h i))))
       ∙ sym (leaves-twice K (keep q) (map key) (x .level) (x .tree))))
-
-  pub shape-kept : (p : A → Bool) (x : Index K A) → pairs (ascends compare key) (flat K A (x .level) (x .tree)) ≡ true
-      → shape key (inLeaves K A A (keep p) x) ≡ without compare (map key (keep (λ y. not (p y)) (flat K A (x .level) (x .tree)))) (shape key x)
-  unfolding keep
-  shape-kept p x h = shape-without (keep p) refl (keep-append p) (λ y. not (p y)) (λ y. go y (p y)) x h
-    where
-      go : (y : A) (b : Bool) → map key (cond b (y ∷ []) []) ≡ cond (not b) [] (key y ∷ [])
-      go y true = refl
-      go y false = refl
 
 -- the rule book's entries: a transaction's end
 pub shape-settled : {K R : Type 0} {compare : K → K → Ordering} → Ordered K compare

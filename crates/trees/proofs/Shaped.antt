@@ -1,20 +1,18 @@
--- The shape: an insert into a tree of items, seen by its keys alone, is the insert of the key into the shape; whether it fits, and whether a
--- tree is whole, is seen by the shape. Each definition against map, by the definition's own recursion. Assumes nothing.
+-- The shape: an insert into a tree of items, seen by its keys alone, is the insert of the key into the shape; and whether it fits
+-- is seen by the shape. Each definition against map, by the definition's own recursion. Assumes nothing.
 use Prim.Native.Nat.{ℕ, zero, suc, _+_, Ordering}
 use mathlib.Core.Path.{_≡_, refl, sym, ap, ap₂, fun-ext, _∙_}
-use mathlib.Core.Logic.{_↔_}
 use mathlib.Core.Bool.{Bool, true, false, cond, _&&_}
 use mathlib.Core.List.{List, [], _∷_, _++_, map}
 use mathlib.Core.Option.{Option, none, some, Option·map}
 use lib.Dec.{leb, eqb}
 use lib.ListN.{length, drop, length-map}
-use Rattle.lists.specs.Lists.{all, insertBefore}
-use Rattle.lists.proofs.Rows.{all-map, pairs-map, map-append, map-take, map-drop, map-insertBefore}
-use Rattle.trees.specs.Trees.{Sizes, Page, Child, Tree, Index, WholeIndex, above, flat, times, counted, atMost, under, inside, ranges, ranged}
+use Rattle.lists.specs.Lists.{insertBefore}
+use Rattle.lists.proofs.Joins.{map-append, map-take, map-drop}
+use Rattle.lists.proofs.Places.{map-insertBefore}
+use Rattle.trees.specs.Trees.{Sizes, Page, Child, Tree, Index, atMost}
 use Rattle.trees.specs.Growth.{Grown, Row, halves, divided, beside, parts, spliced, behind, lowKey, lowOf, fromLowest, widened, belongs, grown, rooted, withItem, fullRun, needed, fits, withTree, leaves, inLeaves}
 use Rattle.trees.specs.Shapes.{shaped, shape}
-use Rattle.trees.proofs.Ranges.{ranges-map}
-use Rattle.trees.proofs.Thinning.{first-low-map, times-leaves, flat-leaves}
 
 -- a page, a grown tree and a row with what they hold changed
 abbrev pageTo : {C D : Type 0} → (List C → List D) → Page C → Page D
@@ -141,56 +139,3 @@ module _ {K A : Type 0} (compare : K → K → Ordering) (key : A → K) (lowest
   pub fits-shape : (k : K) (x : Index K A) → fits compare (λ k. k) lowest Z k (shape key x) ≡ fits compare key lowest Z k x
   unfolding fits shape inLeaves
   fits-shape k x = ap (λ m. leb (x .used + m) (Z .pages)) (needed-shape k x)
-
-pub flat-shape : {K A : Type 0} (key : A → K) (x : Index K A)
-    → flat K K (shape key x .level) (shape key x .tree) ≡ map key (flat K A (x .level) (x .tree))
-unfolding shape inLeaves
-flat-shape {K} key x = flat-leaves K (map key) refl (map-append key) (x .level) (x .tree)
-
--- counts and ranges see only the keys
-module _ {K A : Type 0} (key : A → K) where
-  counted-shape : (Z : Sizes) (least n : ℕ) (t : Tree K A n) → counted K K Z least n (shaped key n t) ≡ counted K A Z least n t
-  unfolding counted leaves
-  counted-shape Z least zero t = ap (λ m. leb m (Z .leafMost)) (length-map (t .holds) key)
-  counted-shape Z least (suc n) t =
-      let h = shaped key n in
-      ap₂ (λ m b. (leb least m && leb m (Z .innerMost)) && b) (length-map (t .holds) (withTree h))
-      (all-map (λ c. counted K K Z (Z .fewest) n (c .tree)) (withTree h) (t .holds)
-      ∙ ap (λ p. all p (t .holds)) (fun-ext (λ c. counted-shape Z (Z .fewest) n (c .tree))))
-
-  ranged-shape : (compare : K → K → Ordering) (lowest : K) (n : ℕ) (lo : K) (hi : Option K) (t : Tree K A n)
-      → ranged compare (λ k. k) lowest n lo hi (shaped key n t) ≡ ranged compare key lowest n lo hi t
-  unfolding ranged leaves
-  ranged-shape compare lowest zero lo hi t =
-      ap₂ _&&_ (all-map (λ k. atMost compare lo k && inside compare k hi) key (t .holds)) (pairs-map (under compare) key (t .holds))
-  ranged-shape compare lowest (suc n) lo hi t =
-      let h = shaped key n in
-      ap₂ _&&_ (first-low-map compare lowest h (t .holds))
-      (ranges-map compare (ranged compare (λ k. k) lowest n) h lo hi (t .holds)
-      ∙ ap (λ f. ranges compare f lo hi (t .holds)) (fun-ext (λ lo. fun-ext (λ hi. fun-ext (ranged-shape compare lowest n lo hi)))))
-
-  pub shape-whole : (compare : K → K → Ordering) (lowest : K) (top : Option K) (Z : Sizes) (x : Index K A)
-      → WholeIndex compare key lowest top Z x ↔ WholeIndex compare (λ k. k) lowest top Z (shape key x)
-  unfolding shape inLeaves
-  shape-whole compare lowest top Z x =
-      let counts = counted-shape Z 2 (x .level) (x .tree) in
-      let keys = ranged-shape compare lowest (x .level) lowest top (x .tree) in (
-        λ w.
-            record {
-              pages = record { once = λ q. pages q ∙ w .pages .once q };
-              counts = counts ∙ w .counts;
-              keys = keys ∙ w .keys;
-              room = w .room;
-            },
-        λ w.
-            record {
-              pages = record { once = λ q. sym (pages q) ∙ w .pages .once q };
-              counts = sym counts ∙ w .counts;
-              keys = sym keys ∙ w .keys;
-              room = w .room;
-            },
-      )
-    where
-      pages : (q : ℕ) → times K K (x .level) q (shaped key (x .level) (x .tree)) + above (x .used) q
-          ≡ times K A (x .level) q (x .tree) + above (x .used) q
-      pages q = ap (λ m. m + above (x .used) q) (times-leaves K (map key) (x .level) q (x .tree))

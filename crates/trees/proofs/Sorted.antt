@@ -8,7 +8,9 @@ use mathlib.Core.Option.{Option, some}
 use lib.Dec.{isEq}
 use borrow.Author.Tests.{not-true}
 use Rattle.lists.specs.Lists.{all, pairs, insertBefore}
-use Rattle.lists.proofs.Rows.{and-left, and-right, and-both, all-head, all-tail, all-cons, pairs-head, pairs-tail, pairs-cons, all-left, all-right, all-both, all-weaker, all-also, pairs-apart, pairs-together, all-insertBefore}
+use Rattle.lists.proofs.Tests.{and-left, and-right, and-both, all-head, all-tail, all-cons, all-left, all-right, all-both, all-weaker, all-also}
+use Rattle.lists.proofs.Pairs.{pairs-head, pairs-tail, pairs-cons, pairs-apart, pairs-together}
+use Rattle.lists.proofs.Places.{all-insertBefore}
 use Rattle.rules.specs.Kinds.{Ordered}
 use Rattle.trees.specs.Trees.{atMost, under, inside}
 use Rattle.trees.specs.Growth.{missing}

@@ -10,7 +10,9 @@ use lib.Dec.{isEq, eqb}
 use lib.ListN.{length, length-map}
 use borrow.Author.Tests.{leb-true, le-leb}
 use Rattle.lists.specs.Lists.{all, pairs, keep, join}
-use Rattle.lists.proofs.Rows.{all-head, all-tail, all-cons, pairs-head, pairs-tail, pairs-cons, all-weaker, all-map, keep-append, map-append, join-append, join-map, pieces-join}
+use Rattle.lists.proofs.Tests.{all-head, all-tail, all-cons, all-weaker, all-map, keep-append}
+use Rattle.lists.proofs.Pairs.{pairs-head, pairs-tail, pairs-cons}
+use Rattle.lists.proofs.Joins.{map-append, join-append, join-map, pieces-join}
 use Rattle.rules.specs.Kinds.{Book, Entry}
 use Rattle.rules.specs.Entries.{present, left, settled, changed}
 use Rattle.trees.specs.Trees.{Sizes, Child, Tree, Index, WholeIndex, summed, isPage, above, flat, times, counted, atMost, under, inside, firstLow, ranged}

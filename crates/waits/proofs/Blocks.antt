@@ -1,15 +1,15 @@
 -- A request is blocked where a lock stands against it, or where it is behind another's: the two halves of the rule book's `blockers`.
 -- A list that is kept is empty where no element passes the test. Assumes nothing.
-use Prim.Native.Nat.{ℕ, _+_, _-_, _≤_, _<_, compare}
+use Prim.Native.Nat.{ℕ, _-_, _≤_, _<_, compare}
 use mathlib.Core.Path.{_≡_, refl, sym, ap, ap₂, _∙_}
-use mathlib.Core.Bool.{Bool, true, false, cond, not, _&&_, _||_}
-use mathlib.Core.List.{List, [], _∷_, _++_, map}
+use mathlib.Core.Bool.{Bool, true, false, cond, not, _&&_}
+use mathlib.Core.List.{List, [], _++_}
 use mathlib.Core.Option.{Option}
-use native.Mathlib.Nat.{sub-zero, zero-add}
+use native.Mathlib.Nat.{sub-zero}
 use borrow.Author.Tests.{lt-ltb, le-ltb}
 use lib.Dec.{eqb, ltb}
-use Rattle.lists.specs.Lists.{any, keep, isNil, tab}
-use Rattle.lists.proofs.Tables.{tab-append, any-next, any-done}
+use Rattle.lists.specs.Lists.{any, isNil, tab}
+use Rattle.lists.proofs.Tests.{nil-append, nil-kept}
 use Rattle.rules.specs.Kinds.{Name, Mode, Lock, Paging}
 use Rattle.rules.specs.Locks as K
 use Rattle.trees.specs.Trees.{documentSizes}
@@ -28,36 +28,6 @@ use Rattle.waits.specs.Blocks.{ahead, blockersAt, isRival, isBehind}
 
 abbrev pub paging : Paging ℕ
 paging = treePaging compare 0 documentSizes
-
--- ---- lists
-pub tab-last : {A : Type 0} (n : ℕ) (f : ℕ → A) → tab n 0 f ++ (f n ∷ []) ≡ tab (n + 1) 0 f
-unfolding tab
-tab-last n f = sym (tab-append n 1 0 f ∙ ap (λ k. tab n 0 f ++ (f k ∷ [])) (zero-add n))
-
-nil-append : {A : Type 0} (xs ys : List A) → isNil (xs ++ ys) ≡ (isNil xs && isNil ys)
-nil-append [] ys = refl
-nil-append (x ∷ xs) ys = refl
-
-nil-kept : {A B : Type 0} (f : A → B) (p : A → Bool) (xs : List A) → isNil (map f (keep p xs)) ≡ not (any p xs)
-unfolding keep any
-nil-kept f p [] = refl
-nil-kept f p (x ∷ xs) = go (p x) (nil-kept f p xs)
-  where
-    go : (b : Bool) → isNil (map f (keep p xs)) ≡ not (any p xs) → isNil (map f (cond b (x ∷ keep p xs) (keep p xs))) ≡ not (b || any p xs)
-    go true r = refl
-    go false r = r
-
--- ---- a scan for an element that passes: whether one does is whether one of those left does
-module _ {A : Type 0} (p : A → Bool) (n : ℕ) (f : ℕ → A) (whole : Bool) (i : ℕ) where
-  module _ (b : Bool) (q : b ≡ p (f i)) (h : i < n) (e : whole ≡ any p (tab (n - i) i f)) where
-    pub scan-next : b ≡ false → whole ≡ any p (tab (n - (i + 1)) (i + 1) f)
-    scan-next z = e ∙ any-next p n i f h ∙ ap (λ x. x || any p (tab (n - (i + 1)) (i + 1) f)) (sym q ∙ z)
-
-    pub scan-found : b ≡ true → true ≡ whole
-    scan-found z = sym (e ∙ any-next p n i f h ∙ ap (λ x. x || any p (tab (n - (i + 1)) (i + 1) f)) (sym q ∙ z))
-
-  pub scan-none : n ≤ i → whole ≡ any p (tab (n - i) i f) → false ≡ whole
-  scan-none h e = sym (e ∙ any-done p n i f h)
 
 pub slots-start : (p : Option (Lock ℕ) → Bool) (d : List ℕ) → any p (slotsOf d) ≡ any p (tab (locksMost - 0) 0 (slotAt d))
 unfolding slotsOf

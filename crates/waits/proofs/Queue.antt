@@ -8,7 +8,8 @@ use mathlib.Core.Option.{Option, none, some}
 use native.Mathlib.Nat.{sub-zero}
 use native.Mathlib.Omega.{arith}
 use Rattle.lists.specs.Lists.{any, first, isNil, tab}
-use Rattle.lists.proofs.Tables.{tab-next, tab-done}
+use Rattle.lists.proofs.Tables.{tab-next, tab-done, tab-last}
+use Rattle.lists.proofs.Scans.{any-hit, any-end}
 use Rattle.rules.specs.Kinds.{Entry, Lock}
 use Rattle.rules.specs.Locks as K
 use Rattle.rules.specs.Queue.{Wait, waitsFrom, waits, oldest}
@@ -21,7 +22,7 @@ use Rattle.waits.specs.declared.Place.{Place}
 use Rattle.waits.specs.declared.Place.the-variants.{At, Nowhere}
 use Rattle.waits.specs.Choices.{bookWant, Chosen}
 use Rattle.waits.specs.Blocks.{ahead, blockersAt, isBehind}
-use Rattle.waits.proofs.Blocks.{tab-last, scan-found, scan-none, blocked-held, blocked-behind, blocked-not}
+use Rattle.waits.proofs.Blocks.{blocked-held, blocked-behind, blocked-not}
 
 -- the request at a place, with all who block it
 abbrev pub waitAt : List ℕ → List ℕ → ℕ → Wait book
@@ -82,11 +83,11 @@ module _ (p d : List ℕ) where
         pub turn-held : (b : Bool) → i < locksMost → b ≡ isSlotAgainst t (bookWant w .name) (bookWant w .mode) (slotAt d i) → b ≡ true
             → oldest book (stateOf p d) ≡ oldestFrom p d (q′ + 1)
         turn-held b l x y =
-            passed (blocked-held p d q t w a v (sym (scan-found against locksMost (slotAt d) (any against (slotsOf d)) i b x l r y)))
+            passed (blocked-held p d q t w a v (sym (any-hit against (slotAt d) (any against (slotsOf d)) locksMost i b r l x y)))
 
         module _ (l : locksMost ≤ i) (b : Bool) (x : b ≡ isBehind p d q′ t (bookWant w)) where
           none-against : any against (slotsOf d) ≡ false
-          none-against = sym (scan-none against locksMost (slotAt d) (any against (slotsOf d)) i l r)
+          none-against = sym (any-end against (slotAt d) (any against (slotsOf d)) locksMost i r l)
 
           behind-is : isBehind p d q t (bookWant w) ≡ b
           behind-is = ap (λ k. isBehind p d k t (bookWant w)) (sym s) ∙ sym x

@@ -9,9 +9,10 @@ use mathlib.Core.Option.{Option, none, some}
 use native.Mathlib.Nat.{sub-zero, zero-add}
 use native.Mathlib.Omega.{arith}
 use lib.ListN.{length, set, replicate}
-use Rattle.lists.specs.Lists.{In, orElse, last, pairs, tab}
+use Rattle.lists.specs.Lists.{In, last, pairs, tab}
 use Rattle.lists.proofs.Tables.{tab-append, tab-next}
-use Rattle.lists.proofs.Rows.{in-right}
+use Rattle.lists.proofs.Elements.{in-right}
+use Rattle.lists.proofs.Tests.{last-last}
 use Rattle.rules.specs.Kinds.{Entry, Queued}
 use Rattle.rules.specs.Locks as K
 use Rattle.rules.specs.Queue.{Wait, waitsFrom, waits, onCircle, newest}
@@ -30,15 +31,6 @@ use Rattle.waits.specs.Choices.{Chosen}
 use Rattle.waits.specs.Blocks.{ahead, blockersAt, Rows}
 use Rattle.waits.proofs.Known.{whole-order}
 use Rattle.waits.proofs.Queue.{waitAt, ahead-next}
-
-last-last : {A : Type 0} (p : A → Bool) (xs : List A) (x : A) → last p (xs ++ (x ∷ [])) ≡ cond (p x) (some x) (last p xs)
-unfolding last
-last-last p [] x = refl
-last-last p (y ∷ xs) x = ap (λ o. orElse o (cond (p y) (some y) none)) (last-last p xs x) ∙ go (p x)
-  where
-    go : (b : Bool) → orElse (cond b (some x) (last p xs)) (cond (p y) (some y) none) ≡ cond b (some x) (orElse (last p xs) (cond (p y) (some y) none))
-    go true = refl
-    go false = refl
 
 waits-append : (es : List (Entry ℕ ℕ)) (ls : K.Slots book) (qs xs ys : List (Queued ℕ ℕ))
     → waitsFrom book es ls qs (xs ++ ys) ≡ waitsFrom book es ls qs xs ++ waitsFrom book es ls (qs ++ xs) ys

@@ -11,7 +11,8 @@ use lib.Bits.{bitOr}
 use lib.Dec.{ltb}
 use Rattle.lists.specs.Lists.{keep, member, tab}
 use Rattle.lists.proofs.Tests.{any-append, keep-append}
-use Rattle.lists.proofs.Rows.{map-append}
+use Rattle.lists.proofs.Joins.{map-append}
+use Rattle.lists.proofs.Tables.{tab-last}
 use Rattle.rules.specs.Kinds.{Name, Mode, Lock, Queued}
 use Rattle.rules.specs.Locks as K
 use Rattle.tables.specs.declared.Lock as L
@@ -31,7 +32,7 @@ use Rattle.waits.specs.declared.Want.{Want}
 use Rattle.waits.specs.Choices.{bookWant}
 use Rattle.waits.specs.Blocks.{ahead, blockersAt, isRival, HoldersKnown, holderOf, withHolder, withRival}
 use Rattle.waits.proofs.Known.{whole-order}
-use Rattle.waits.proofs.Blocks.{paging, tab-last, holds-by, blockers-are}
+use Rattle.waits.proofs.Blocks.{paging, holds-by, blockers-are}
 
 -- ---- lists and sets
 module _ (m : ℕ) (us : List ℕ) (s : SetOf m us) where

@@ -2,14 +2,14 @@
 -- A search for nobody skips no ghost, one for a transaction only its own; a key of the index is never the end mark.
 use Prim.Native.Nat.{ℕ, _≤_}
 use mathlib.Core.Path.{_≡_, refl, sym, ap, ap₂, _∙_}
-use mathlib.Core.Bool.{Bool, true, false, cond, not, _&&_, _||_}
-use mathlib.Core.List.{List, [], _∷_}
+use mathlib.Core.Bool.{Bool, true, false, not, _&&_, _||_}
+use mathlib.Core.List.{List}
 use mathlib.Core.Option.{Option, none, some}
 use native.Mathlib.Omega.{arith}
 use borrow.Author.Tests.{ne-eqb, ltb-true}
 use lib.Dec.{leb, eqb, ltb}
 use Rattle.lists.specs.Lists.{all, first, pairs}
-use Rattle.lists.proofs.Tests.{and-right}
+use Rattle.lists.proofs.Tests.{and-right, first-same}
 use Rattle.lists.proofs.Elements.{all-in}
 use Rattle.rules.specs.Kinds.{Entry, S, X, Ask}
 use Rattle.rules.specs.Entries.{ghost}
@@ -24,6 +24,7 @@ use Rattle.entries.specs.declared.Ask.the-variants as AV
 use Rattle.entries.specs.Meaning.{bookAsk}
 use Rattle.tables.specs.declared.Mode as M
 use Rattle.tables.specs.Layout.{nameIn, nameNumber, bookMode, askAt, inPlace, queuedAt}
+use Rattle.tables.proofs.Back.{name-there}
 use Rattle.index.specs.declared.Found.{Found}
 use Rattle.index.specs.declared.Found.the-variants.{Here}
 use Rattle.index.specs.Searches.{seeks, bookFound}
@@ -34,11 +35,6 @@ use Rattle.waits.specs.declared.Want.{Want}
 use Rattle.waits.specs.Choices.{bookWant}
 
 -- ---- the searches
-first-same : {A : Type 0} (p q : A → Bool) → ((x : A) → p x ≡ q x) → (xs : List A) → first p xs ≡ first q xs
-unfolding first
-first-same p q h [] = refl
-first-same p q h (x ∷ xs) = ap₂ (λ b o. cond b (some x) o) (h x) (first-same p q h xs)
-
 -- nobody has no ghosts
 plainly : (a b c d : Bool) → (a && (b || not ((not true && c) && d))) ≡ a
 plainly true true c d = refl

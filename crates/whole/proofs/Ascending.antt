@@ -14,7 +14,7 @@ use lib.Dec.{eqb, ltb}
 use lib.ListN.{length, getD, List·getD-eq-default}
 use Rattle.lists.specs.Lists.{tab, all, pairs}
 use Rattle.lists.proofs.Tests.{both, and-both, either, or-left, or-right, fails, eqb-turn}
-use Rattle.lists.proofs.Tables.{all-tab}
+use Rattle.lists.proofs.Tables.{all-tab, all-of-tab}
 use Rattle.numbers.specs.Numbers.{numberAt, fieldsAt}
 use Rattle.numbers.proofs.Numbers.{numberAt-ext, number-none}
 use Rattle.rules.specs.Kinds.{Lock, Mode, S, X, Name, on, end}
@@ -24,7 +24,6 @@ use Rattle.rules.specs.Good.{together}
 use Rattle.rules.proofs.Orders.{numbers-ordered}
 use Rattle.rules.proofs.Keys.{name-equal}
 use Rattle.tables.specs.Layout.{lockPlace, nameNumber, slotIn, slotAt, slotsOf}
-use Rattle.whole_pages.proofs.Tabs.{all-of-tab}
 use Rattle.desks.specs.States.{book}
 use Rattle.whole.specs.Checks.{slotTogether}
 use Rattle.whole.specs.Orders.{placed, comesFirst, goesUp, clashes, begins, hasPlace}

@@ -14,6 +14,7 @@ use lib.ListN.{length, drop-of-length-le}
 use Rattle.lists.specs.Lists.{tab, all, any, In}
 use Rattle.lists.proofs.Tests.{both}
 use Rattle.lists.proofs.Tables.{all-next, all-done, any-next, any-done}
+use Rattle.lists.proofs.Elements.{in-tab}
 use Rattle.numbers.specs.Numbers.{numberAt, part, zeroAt}
 use Rattle.numbers.proofs.Numbers.{number-none}
 use Rattle.pages.specs.Layout.{countOf, entriesOf, childAt, childrenOf}
@@ -22,7 +23,6 @@ use Rattle.index.specs.Pictures.{pageAt}
 use Rattle.whole_pages.specs.declared.Span.{Span}
 use Rattle.whole_pages.specs.Checks.{headOk, entriesOk, entryFieldsAt, leafOk, firstOk, childFieldsAt, childrenOk, innerOk}
 use Rattle.whole_pages.specs.Walks.{spanOf, spans, pageOk, treeOk}
-use Rattle.whole_pages.proofs.Tabs.{tab-in}
 use Rattle.whole_pages.proofs.Inners.{head-length}
 use Rattle.whole.specs.Checks.{entryHeld, hasKey, findAt, ownersAt, Fine}
 
@@ -88,7 +88,7 @@ module _ (s : List ℕ) (q : ℕ) where
   fine-child zero i k c f z e l g = absurd (z refl)
   fine-child (suc n) i k c f z e l g =
       let a = both (pageOk (suc n) (f .least) s (spanOf q (f .low) (f .high))) (all (treeOk n 15 s) (spans (f .low) (f .high) (childrenOf (pageAt s q)))) (f .ok) in
-      let b = span-there (treeOk n 15 s) (f .high) (f .low) (childrenOf (pageAt s q)) (a .1) (childAt (pageAt s q) i) (tab-in (countOf (pageAt s q)) 0 (childAt (pageAt s q)) i (omega arith) (omega arith)) in
+      let b = span-there (treeOk n 15 s) (f .high) (f .low) (childrenOf (pageAt s q)) (a .1) (childAt (pageAt s q) i) (in-tab (countOf (pageAt s q)) 0 (childAt (pageAt s q)) i (omega arith) (omega arith)) in
       let w : Fine n s c = record { least = 15; low = b .0; high = b .1; one = lit≤ tt; bytes = f .bytes; size = f .size; ok = subst (λ x. treeOk n 15 s (spanOf x (b .0) (b .1)) ≡ true) (sym g) (b .2) } in
       let same : n ≡ suc n - 1 = omega arith in
       subst (λ m. Fine m s c) same w

@@ -9,9 +9,9 @@ use native.Mathlib.Omega.{arith}
 use borrow.Author.Tests.{leb-true, le-leb}
 use lib.Dec.{leb}
 use Rattle.lists.specs.Lists.{all, any, join, In}
-use Rattle.lists.proofs.Tests.{all-append, any-append}
-use Rattle.lists.proofs.Rows.{all-both}
+use Rattle.lists.proofs.Tests.{all-append, any-append, all-both}
 use Rattle.lists.proofs.Elements.{all-in}
+use Rattle.lists.proofs.Tables.{all-of-tab}
 use Rattle.numbers.specs.Numbers.{numberAt, fieldsAt, Bytes}
 use Rattle.numbers.proofs.Numbers.{number-below}
 use Rattle.numbers.proofs.Kept.{bytes-part}
@@ -23,9 +23,9 @@ use Rattle.trees.proofs.Order.{flat-sorted}
 use Rattle.pages.specs.Layout.{countOf, entryIn, entryAt, entriesOf, childrenOf}
 use Rattle.pages.specs.declared.Child as P
 use Rattle.index.specs.Pictures.{Item, keyOf, pageAt, treeOf}
+use Rattle.index.proofs.Frame.{kid}
 use Rattle.whole_pages.specs.Walks.{spanOf}
-use Rattle.whole_pages.proofs.Tabs.{all-of-tab}
-use Rattle.whole_pages.proofs.Trees.{kid, tree-facts}
+use Rattle.whole_pages.proofs.Trees.{tree-facts}
 use Rattle.whole.specs.Checks.{entryHeld, hasKey, findAt, ownersAt, Fine}
 
 -- ---- a key, and the owners

@@ -28,7 +28,7 @@ use Rattle.index.proofs.Leaves.{leaf-entries}
 use Rattle.index.proofs.Heads.{length-head}
 use Rattle.index.proofs.Roots.{blank-none}
 use Rattle.index.proofs.Adds.{becomes}
-use Rattle.whole_pages.proofs.Layouts.{zero-at}
+use Rattle.lists.proofs.Places.{getD-alike}
 use Rattle.desks.specs.States.{book, stateOf, deskWith}
 use Rattle.desks.proofs.Desks.{desk-says}
 use Rattle.desks.proofs.Itself.{desk-itself, desk-state}
@@ -72,7 +72,7 @@ module _ (z : List ℕ) (size : length z ≡ 32768) (zeros : (k : ℕ) → getD 
   zero-page q h =
       let n = length-page z size q h in
       ext-getD 0 (pageAt z q) (replicate 512 0) (n ∙ sym (length-replicate {A = ℕ} 512 0))
-      (λ k i. getD-part (512 * q) 512 z k (omega arith) ∙ zeros (512 * q + k) ∙ sym (zero-at 512 k))
+      (λ k i. getD-part (512 * q) 512 z k (omega arith) ∙ zeros (512 * q + k) ∙ sym (getD-alike 512 k 0))
 
   bare-is : Becomes (putPage (putPage z 1 (leafPage [])) 0 (headPage 1 2 1)) bare
   unfolding treeOf leafPage
@@ -91,7 +91,7 @@ module _ (z : List ℕ) (size : length z ≡ 32768) (zeros : (k : ℕ) → getD 
 
 pub fresh-becomes : Becomes freshPages bare
 unfolding freshPages
-fresh-becomes = bare-is (replicate 32768 0) (length-replicate {A = ℕ} 32768 0) (zero-at 32768)
+fresh-becomes = bare-is (replicate 32768 0) (length-replicate {A = ℕ} 32768 0) (λ k. getD-alike 32768 k 0)
 
 pub fresh-picture : Whole freshPages freshDesk × (stateOf freshPages freshDesk ≡ fresh book)
 unfolding freshDesk

@@ -4,7 +4,7 @@ use mathlib.Core.Path.{_≡_, refl, sym, ap, ap₂, subst, _∙_}
 use mathlib.Core.Bool.{Bool, true, false, cond, not, _&&_, _||_}
 use mathlib.Core.List.{List}
 use mathlib.Core.Option.{Option, none, some}
-use Prim.Native.Nat.{ℕ, zero, suc, _+_, _*_, _-_, _≤_, _<_}
+use Prim.Native.Nat.{ℕ, zero, suc, _+_, _*_, _-_, _≤_, _<_, compare}
 use native.Mathlib.Nat.{sub-zero}
 use native.Mathlib.Omega.{arith}
 use borrow.Author.Tests.{not-true, not-false, eq-eqb, ne-eqb}
@@ -12,7 +12,7 @@ use lib.Dec.{eqb, lit≤}
 use lib.ListN.{length, take, drop}
 use Rattle.lists.specs.Lists.{tab, all, any, pairs}
 use Rattle.lists.proofs.Tests.{both}
-use Rattle.lists.proofs.Tables.{tab-next, tab-done, all-next, all-done, any-next, any-done}
+use Rattle.lists.proofs.Tables.{tab-next, tab-done}
 use Rattle.rules.specs.Kinds.{Lock, Entry, on, end}
 use Rattle.rules.specs.Document.{endMark}
 use Rattle.numbers.specs.Numbers.{Bytes, numberAt, zeroAt}
@@ -33,10 +33,9 @@ use Rattle.tables.specs.declared.Slot.the-variants as SV
 use Rattle.tables.specs.declared.Lock as L
 use Rattle.trees.specs.Shapes.{treePaging}
 use Rattle.trees.specs.Trees.{documentSizes}
-use Prim.Native.Nat.{compare}
 use Rattle.pages.specs.Layout.{countOf, entryAt, entriesOf, rootOf, usedOf, heightOf}
 use Rattle.index.specs.Pictures.{pageAt}
-use Rattle.whole_pages.proofs.Fronts.{lent-page}
+use Rattle.index.proofs.Buffers.{page-lent}
 use Rattle.whole_desk.specs.Checks.{deskOk}
 use Rattle.whole.specs.Checks.{slotTogether, slotHasX, slotHolds, entryHeld, hasKey, findAt, ownersAt, named, slotNamed, locksOk, wholeOk, Fine}
 
@@ -69,26 +68,6 @@ pub later-free : (d : List ℕ) (i : ℕ) (a : Sl.Slot) (b : Bool) → bookSlot 
     → true ≡ all (slotTogether (slotAt d i)) (tab (256 - (i + 1)) (i + 1) (slotAt d))
 later-free d i a b e f t = sym (all-free d (slotAt d i) (256 - (i + 1)) (i + 1) (not-true (isThere (slotAt d i)) (ap (λ x. not (isThere x)) (sym e) ∙ sym f ∙ t)))
 
--- ---- a table, from one place on
-module _ {A : Type 0} (p : A → Bool) (f : ℕ → A) (whole : Bool) (n i : ℕ) where
-  pub all-bad : (b : Bool) → whole ≡ all p (tab (n - i) i f) → i < n → b ≡ p (f i) → not b ≡ true → false ≡ whole
-  all-bad b inv l e t = sym (inv ∙ all-next p n i f l ∙ ap (λ x. x && all p (tab (n - (i + 1)) (i + 1) f)) (sym e ∙ not-true b t))
-
-  pub all-step : (b : Bool) → whole ≡ all p (tab (n - i) i f) → i < n → b ≡ p (f i) → not b ≡ false → whole ≡ all p (tab (n - (i + 1)) (i + 1) f)
-  all-step b inv l e t = inv ∙ all-next p n i f l ∙ ap (λ x. x && all p (tab (n - (i + 1)) (i + 1) f)) (sym e ∙ not-false b t)
-
-  pub all-end : whole ≡ all p (tab (n - i) i f) → n ≤ i → true ≡ whole
-  all-end inv l = sym (inv ∙ all-done p n i f l)
-
-  pub any-hit : (b : Bool) → whole ≡ any p (tab (n - i) i f) → i < n → b ≡ p (f i) → b ≡ true → true ≡ whole
-  any-hit b inv l e t = sym (inv ∙ any-next p n i f l ∙ ap (λ x. x || any p (tab (n - (i + 1)) (i + 1) f)) (sym e ∙ t))
-
-  pub any-step : (b : Bool) → whole ≡ any p (tab (n - i) i f) → i < n → b ≡ p (f i) → b ≡ false → whole ≡ any p (tab (n - (i + 1)) (i + 1) f)
-  any-step b inv l e t = inv ∙ any-next p n i f l ∙ ap (λ x. x || any p (tab (n - (i + 1)) (i + 1) f)) (sym e ∙ t)
-
-  pub any-end : whole ≡ any p (tab (n - i) i f) → n ≤ i → false ≡ whole
-  any-end inv l = sym (inv ∙ any-done p n i f l)
-
 -- ---- every two slots
 module _ (d : List ℕ) (i : ℕ) (inv : pairs slotTogether (slotsOf d) ≡ pairs slotTogether (tab (256 - i) i (slotAt d))) where
   pairs-turn : i < 256 → pairs slotTogether (slotsOf d) ≡ (all (slotTogether (slotAt d i)) (tab (256 - (i + 1)) (i + 1) (slotAt d)) && pairs slotTogether (tab (256 - (i + 1)) (i + 1) (slotAt d)))
@@ -113,7 +92,7 @@ slot-holds d i t k s a b e f g = ap₂ (λ x y. x && y) f g ∙ ap (slotHolds t 
 
 module _ (s d : List ℕ) (q i : ℕ) (e : E.Entry) (f : bookEntry e ≡ entryAt (take (512 * q + 512 - 512 * q) (drop (512 * q) s)) i) where
   read-there : bookEntry e ≡ entryAt (pageAt s q) i
-  read-there = f ∙ ap (λ p. entryAt p i) (lent-page s q)
+  read-there = f ∙ ap (λ p. entryAt p i) (page-lent s q)
 
   pub unowned : e .owner ≡ 0 → true ≡ entryHeld d (entryAt (pageAt s q) i)
   unfolding entryHeld
@@ -126,7 +105,7 @@ module _ (s d : List ℕ) (q i : ℕ) (e : E.Entry) (f : bookEntry e ≡ entryAt
       g ∙ sym (ap (entryHeld d) (sym read-there) ∙ ap (λ b. b || any (slotHolds (e .owner) (e .key .0)) (slotsOf d)) (ne-eqb (e .owner) 0 z))
 
 pub key-lent : (s : List ℕ) (q i k r : ℕ) → r ≡ entryAt (take (512 * q + 512 - 512 * q) (drop (512 * q) s)) i .key → eqb r k ≡ hasKey k (entryAt (pageAt s q) i)
-key-lent s q i k r e = ap (λ x. eqb x k) (e ∙ ap (λ p. entryAt p i .key) (lent-page s q))
+key-lent s q i k r e = ap (λ x. eqb x k) (e ∙ ap (λ p. entryAt p i .key) (page-lent s q))
 
 -- ---- the entries of a leaf
 pub entries-start : (s : List ℕ) (q n : ℕ) → n ≡ countOf (pageAt s q) → entriesOf (pageAt s q) ≡ tab (n - 0) 0 (entryAt (pageAt s q))

@@ -11,7 +11,7 @@ use lib.Dec.{eqb, ltb, leb}
 use lib.ListN.{getD, take, drop}
 use Rattle.lists.specs.Lists.{tab, all, any, place, join}
 use Rattle.lists.proofs.Tables.{tab-next, tab-done, all-next, all-done}
-use Rattle.lists.proofs.Rows.{join-map}
+use Rattle.lists.proofs.Joins.{join-map}
 use Rattle.rules.specs.Entries.{isThere}
 use Rattle.rules.specs.Locks.{conflict}
 use Rattle.rules.specs.Document.{endMark}
@@ -26,8 +26,8 @@ use Rattle.tables.specs.declared.Lock as L
 use Rattle.pages.specs.Layout.{countOf, entryAt, entriesOf, childAt, childrenOf}
 use Rattle.pages.specs.declared.Child.{Child}
 use Rattle.index.specs.Pictures.{Item, pageAt, treeOf}
-use Rattle.whole_pages.proofs.Fronts.{lent-page}
-use Rattle.whole_pages.proofs.Trees.{kid}
+use Rattle.index.proofs.Frame.{kid}
+use Rattle.index.proofs.Buffers.{page-lent}
 use Rattle.whole.specs.declared.Passage.{Passage}
 use Rattle.whole.specs.declared.Passage.the-variants.{To, Stuck}
 use Rattle.whole.specs.Checks.{slotTogether, slotHolds}
@@ -152,7 +152,7 @@ x-placed d o a x t k r e f = f ∙ ap (λ y. slotHolds t k (slotAt d y)) e
 module _ (s d o : List ℕ) (m q i k j : ℕ) (e : E.Entry) (f : bookEntry e ≡ entryAt (take (512 * q + 512 - 512 * q) (drop (512 * q) s)) i)
     (g : j ≡ stretch (placed d o) m (e .key .0) k) where
   entry-is : bookEntry e ≡ entryAt (pageAt s q) i
-  entry-is = f ∙ ap (λ p. entryAt p i) (lent-page s q)
+  entry-is = f ∙ ap (λ p. entryAt p i) (page-lent s q)
 
   test-is : (b : Bool) → (eqb (e .owner) 0 || any (slotHolds (e .owner) (e .key .0)) (tab (j - k) k (placed d o))) ≡ b
       → cond b (To j) Stuck ≡ pastEntry (placed d o) m (entryAt (pageAt s q) i) k

@@ -14,7 +14,8 @@ use lib.Dec.{eqb, leb}
 use lib.ListN.{length, getD}
 use Rattle.lists.specs.Lists.{tab, all, any, pairs, In}
 use Rattle.lists.proofs.Tests.{both, and-both}
-use Rattle.lists.proofs.Elements.{all-in, in-all, any-in, in-any}
+use Rattle.lists.proofs.Elements.{all-in, in-all, any-in, in-any, tab-in, in-tab}
+use Rattle.lists.proofs.Tables.{all-of-tab}
 use Rattle.numbers.specs.Numbers.{fieldsAt, zeroAt}
 use Rattle.rules.specs.Kinds.{Lock, Name, on, end}
 use Rattle.rules.specs.Entries.{isThere}
@@ -23,7 +24,6 @@ use Rattle.trees.specs.Trees.{flat}
 use Rattle.tables.specs.Layout.{lockWidths, lockPlace, nameIn, nameNumber, modeIn, slotIn, slotAt, slotsOf}
 use Rattle.tables.proofs.Values.{name-back}
 use Rattle.index.specs.Pictures.{Item, treeOf}
-use Rattle.whole_pages.proofs.Tabs.{in-tab, tab-in, all-of-tab}
 use Rattle.whole_desk.proofs.Free.{zero-free}
 use Rattle.whole.specs.declared.Passage.{Passage}
 use Rattle.whole.specs.declared.Passage.the-variants.{To, Stuck}
@@ -100,7 +100,7 @@ module _ (n : ℕ) (s : List ℕ) (q : ℕ) (fine : Fine n s q) (d o p : List �
   unfolding slotsOf
   place-slot t free a h =
       let l = slot-some t true d (getD o a 0) size (λ z. false≢true (sym free ∙ z)) h in
-      tab-in 256 0 (slotAt d) (getD o a 0) (omega arith) (omega arith)
+      in-tab 256 0 (slotAt d) (getD o a 0) (omega arith) (omega arith)
 
   held-is : (e : Item) → heldIn f m e ≡ entryHeld d e
   unfolding entryHeld slotsOf
@@ -112,19 +112,19 @@ module _ (n : ℕ) (s : List ℕ) (q : ℕ) (fine : Fine n s q) (d o p : List �
       there : any t (tab m 0 f) ≡ true → any t (tab 256 0 (slotAt d)) ≡ true
       there h =
           let y = any-in t (tab m 0 f) h in
-          let z = in-tab m 0 f (y .0) (y .1) in
+          let z = tab-in m 0 f (y .0) (y .1) in
           let v : t (f (z .0)) ≡ true = ap t (z .3) ∙ y .2 in
           let l = slot-some t true d (getD o (z .0) 0) size false≢true v in
-          in-any t (tab 256 0 (slotAt d)) (f (z .0)) (tab-in 256 0 (slotAt d) (getD o (z .0) 0) (omega arith) (omega arith)) v
+          in-any t (tab 256 0 (slotAt d)) (f (z .0)) (in-tab 256 0 (slotAt d) (getD o (z .0) 0) (omega arith) (omega arith)) v
 
       back : any t (tab 256 0 (slotAt d)) ≡ true → any t (tab m 0 f) ≡ true
       back h =
           let y = any-in t (tab 256 0 (slotAt d)) h in
-          let z = in-tab 256 0 (slotAt d) (y .0) (y .1) in
+          let z = tab-in 256 0 (slotAt d) (y .0) (y .1) in
           let u : z .0 < 0 + 256 = z .2 in
           let w = place-some d o p m up whole t refl (z .0) (omega arith) (ap t (z .3) ∙ y .2) in
           let l : w .0 < m = w .1 in
-          in-any t (tab m 0 f) (f (w .0)) (tab-in m 0 f (w .0) (omega arith) (omega arith)) (w .2)
+          in-any t (tab m 0 f) (f (w .0)) (in-tab m 0 f (w .0) (omega arith) (omega arith)) (w .2)
 
   -- yes is right
   module _ (j : ℕ) (r : past f m es 0 ≡ To j) (e : eqb (stretch f m endMark j) m ≡ true) where

@@ -13,8 +13,8 @@ use borrow.Author.Tests.{eqb-true, eq-eqb}
 use lib.Dec.{eqb}
 use Rattle.lists.specs.Lists.{tab, any, pairs, place, In}
 use Rattle.lists.proofs.Tests.{both, either, or-left, or-right, never}
-use Rattle.lists.proofs.Elements.{any-in, in-any}
-use Rattle.lists.proofs.Pairs.{pairs-split}
+use Rattle.lists.proofs.Elements.{all-in, any-in, in-any, tab-in, in-tab}
+use Rattle.lists.proofs.Pairs.{pairs-head, pairs-tail}
 use Rattle.rules.specs.Kinds.{Lock}
 use Rattle.rules.specs.Locks.{sameName}
 use Rattle.rules.specs.Document.{document, endless, endMark}
@@ -26,7 +26,6 @@ use Rattle.tables.specs.Moves.{isSlotOf}
 use Rattle.tables.proofs.Values.{name-back}
 use Rattle.index.specs.Pictures.{Item}
 use Rattle.whole_pages.proofs.Leaves.{is-under}
-use Rattle.whole_pages.proofs.Tabs.{in-tab, tab-in}
 use Rattle.whole.specs.declared.Passage.{Passage}
 use Rattle.whole.specs.declared.Passage.the-variants.{To, Stuck}
 use Rattle.whole.specs.Checks.{slotHasX, slotHolds}
@@ -128,9 +127,9 @@ module _ (f : ℕ → Option (Lock ℕ)) (m : ℕ) where
   among : (p : Option (Lock ℕ) → Bool) (k j : ℕ) → j ≤ m → any p (tab (j - k) k f) ≡ true → any p (tab m 0 f) ≡ true
   among p k j h e =
       let y = any-in p (tab (j - k) k f) e in
-      let z = in-tab (j - k) k f (y .0) (y .1) in
+      let z = tab-in (j - k) k f (y .0) (y .1) in
       let u : z .0 < k + (j - k) = z .2 in
-      in-any p (tab m 0 f) (y .0) (subst (λ v. In v (tab m 0 f)) (z .3) (tab-in m 0 f (z .0) (omega arith) (omega arith))) (y .2)
+      in-any p (tab m 0 f) (y .0) (subst (λ v. In v (tab m 0 f)) (z .3) (in-tab m 0 f (z .0) (omega arith) (omega arith))) (y .2)
 
   pub past-passed : (es : List Item) (k j : ℕ) → k ≤ m → past f m es k ≡ To j → Passed es k j
   unfolding past any
@@ -186,7 +185,9 @@ module _ (f : ℕ → Option (Lock ℕ)) (m : ℕ) where
 
     module _ (e : Item) (es : List Item) (k j : ℕ) (g : Ready (e ∷ es) k) (s : Stretch f m (e .key) k j) where
       higher : (c : Item) → In c es → e .key < c .key
-      higher c i = is-under (e .key) (c .key) (pairs-split (λ (a b : Item). under compare (a .key) (b .key)) e es (g .order) .0 c i)
+      higher c i =
+          let r : Item → Item → Bool = λ a b. under compare (a .key) (b .key) in
+          is-under (e .key) (c .key) (all-in (r e) es c (pairs-head r e es (g .order)) i)
 
       -- the locks behind the stretch are on higher names
       beyond : (a : ℕ) → j ≤ a → a < m → e .key < nameOf (f a)
@@ -218,12 +219,12 @@ module _ (f : ℕ → Option (Lock ℕ)) (m : ℕ) where
           ⊎-elim (λ z. or-left (eqb (e .owner) 0) (any (slotHolds (e .owner) (e .key)) (tab (j - k) k f)) z)
           (λ z.
           let y = any-in (slotHolds (e .owner) (e .key)) (tab m 0 f) z in
-          let v = in-tab m 0 f (y .0) (y .1) in
+          let v = tab-in m 0 f (y .0) (y .1) in
           let u : v .0 < 0 + m = v .2 in
           let w = within (v .0) (omega arith) (holds-on (e .owner) (e .key) (f (v .0)) (ap (slotHolds (e .owner) (e .key)) (v .3) ∙ y .2)) in
           let b : k ≤ v .0 = w .0 in
           let c : v .0 < j = w .1 in
-          let i : In (y .0) (tab (j - k) k f) = subst (λ x. In x (tab (j - k) k f)) (v .3) (tab-in (j - k) k f (v .0) b (omega arith)) in
+          let i : In (y .0) (tab (j - k) k f) = subst (λ x. In x (tab (j - k) k f)) (v .3) (in-tab (j - k) k f (v .0) b (omega arith)) in
           or-right (eqb (e .owner) 0) (any (slotHolds (e .owner) (e .key)) (tab (j - k) k f))
           (in-any (slotHolds (e .owner) (e .key)) (tab (j - k) k f) (y .0) i (y .2)))
           (either (eqb (e .owner) 0) (any (slotHolds (e .owner) (e .key)) (tab m 0 f)) (g .held e (inl refl)))
@@ -238,7 +239,7 @@ module _ (f : ℕ → Option (Lock ℕ)) (m : ℕ) where
                 ];
             there = λ a l u. go a l u (g .there a (let p = s .up in omega arith) u);
             held = λ c i. g .held c (inr i);
-            order = pairs-split (λ (a b : Item). under compare (a .key) (b .key)) e es (g .order) .1;
+            order = pairs-tail (λ (a b : Item). under compare (a .key) (b .key)) e es (g .order);
             small = λ c i. g .small c (inr i);
           }
         where

@@ -12,8 +12,8 @@ use lib.Dec.{eqb, leb, lit≤}
 use lib.ListN.{length, getD}
 use Rattle.lists.specs.Lists.{tab, all, pairs, times, In}
 use Rattle.lists.proofs.Tests.{both, and-both}
-use Rattle.lists.proofs.Elements.{all-in, in-all}
-use Rattle.lists.proofs.Tables.{all-tab}
+use Rattle.lists.proofs.Elements.{all-in, in-all, tab-in, in-tab}
+use Rattle.lists.proofs.Tables.{all-tab, all-of-tab}
 use Rattle.numbers.specs.Numbers.{numberAt, widthOf, fieldsAt, zeroAt, Bytes}
 use Rattle.numbers.proofs.Agree.{Agree, agree-within}
 use Rattle.numbers.proofs.Numbers.{numberAt-ext, number-none}
@@ -30,7 +30,6 @@ use Rattle.tables.proofs.Queues.{length-queue}
 use Rattle.whole_pages.specs.declared.Trail.{Trail}
 use Rattle.whole_pages.specs.declared.Trail.the-variants.{Went, Bad}
 use Rattle.whole_pages.specs.Walks.{marks}
-use Rattle.whole_pages.proofs.Tabs.{in-tab, tab-in, all-of-tab}
 use Rattle.whole_pages.proofs.Bits.{bit, bit-is}
 use Rattle.whole_pages.proofs.Marks.{marks-went, marks-used, marks-go}
 use Rattle.whole_pages.proofs.Pages.{one-at, one-past}
@@ -177,7 +176,7 @@ module _ (d : List ℕ) (g : Bytes d) (size : length d ≡ 4672) where
             });
         queue = in-all (stands d) (tab (queued d) 0 (queuedAt d))
             (λ q n.
-            let x = in-tab (queued d) 0 (queuedAt d) q n in
+            let x = tab-in (queued d) 0 (queuedAt d) q n in
             subst (λ v. stands d v ≡ true) (x .3) (one (x .0) (x .1) (x .2) (w .0) (w .1) each));
         askers = once-apart d (queued d) 0 (λ q. once (w .0) (w .1) q (ℕ-discrete q 0));
         holders = λ l n.
@@ -234,7 +233,7 @@ module _ (d : List ℕ) (g : Bytes d) (size : length d ≡ 4672) where
       (all-of-tab (slotOk d) 256 0 (λ i. i)
       (λ i a b. slot-there-at d i (f .rows i (omega arith))
       (λ l e.
-      let r = k .holders l (use-in (slotsOf d) l (subst (λ x. In x (slotsOf d)) e (tab-in 256 0 (slotAt d) i a b))) in
+      let r = k .holders l (use-in (slotsOf d) l (subst (λ x. In x (slotsOf d)) e (in-tab 256 0 (slotAt d) i a b))) in
       let m = mark-only d (l .holder) r in
       (m .1, sym (running-is d (l .holder) (m .0) (m .1)) ∙ r))))
     where

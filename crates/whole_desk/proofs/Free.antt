@@ -8,12 +8,12 @@ use mathlib.Core.Option.{none}
 use native.Mathlib.Omega.{arith}
 use lib.ListN.{length, getD, replicate}
 use Rattle.lists.specs.Lists.{all, tab}
+use Rattle.lists.proofs.Tables.{all-of-tab}
 use Rattle.numbers.specs.Numbers.{widthOf, fieldsAt, zeroAt}
 use Rattle.numbers.proofs.Agree.{agree-within}
 use Rattle.numbers.proofs.Fields.{fields-zero}
 use Rattle.numbers.proofs.Moves.{zeroAt-true}
 use Rattle.tables.specs.Layout.{lockWidths, lockPlace, slotIn, slotAt}
-use Rattle.whole_pages.proofs.Tabs.{all-of-tab}
 use Rattle.whole_desk.specs.Checks.{fieldsOk, slotOk}
 
 module _ (d : List ℕ) (size : length d ≡ 4672) (zero : zeroAt 4096 576 d ≡ true) where

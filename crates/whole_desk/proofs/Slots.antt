@@ -13,12 +13,12 @@ use lib.ListN.{getD}
 use Rattle.lists.specs.Lists.{tab, all, In}
 use Rattle.lists.proofs.Tests.{both, and-both, or-left, or-right}
 use Rattle.lists.proofs.Tables.{all-tab}
+use Rattle.lists.proofs.Elements.{tab-in}
 use Rattle.numbers.specs.Numbers.{numberAt, fieldsAt}
 use Rattle.rules.specs.Kinds.{Lock, S, X}
 use Rattle.rules.specs.Locks.{inUse}
 use Rattle.tables.specs.Layout.{lockWidths, lockPlace, nameIn, modeIn, modeNumber, slotIn, slotFields, slotAt, slotsOf, isRunning}
 use Rattle.tables.proofs.Back.{isMode, isRow, slot-back}
-use Rattle.whole_pages.proofs.Tabs.{in-tab}
 use Rattle.whole_desk.specs.Checks.{fieldsOk, slotOk}
 
 -- the locks in use stand in slots
@@ -125,5 +125,5 @@ module _ (d : List ℕ) where
   pub slots-run : all (slotOk d) (tab 256 0 (λ i. i)) ≡ true → (l : Lock ℕ) → In l (inUse (slotsOf d)) → (1 ≤ l .holder) × (l .holder ≤ 16) × (isRunning d (l .holder) ≡ true)
   unfolding slotsOf
   slots-run h l m =
-      let x = in-tab 256 0 (slotAt d) (some l) (in-use (slotsOf d) l m) in
+      let x = tab-in 256 0 (slotAt d) (some l) (in-use (slotsOf d) l m) in
       slot-runs (x .0) l (all-tab (slotOk d) 256 0 (λ i. i) (x .0) h (x .1) (x .2)) (x .3)

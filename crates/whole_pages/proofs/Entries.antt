@@ -1,20 +1,20 @@
 -- An entry and a child by their fields: the tests say exactly that writing undoes reading, and that what has no owner is settled.
 -- By the cases of the presence, of which there are four. Assumes nothing.
 use mathlib.Core.Path.{_≡_, refl, sym, ap, ap₂}
-use mathlib.Core.Bool.{Bool, true, false, not, cond, _&&_, _||_, false≢true}
+use mathlib.Core.Bool.{Bool, true, false, not, _&&_, _||_, false≢true}
 use mathlib.Core.List.{List, [], _∷_}
-use mathlib.Core.Option.{Option, none, some}
-use Prim.Native.Nat.{ℕ, zero, suc, _+_, _*_, _/_, _%_, _≤_, _<_, _^_}
+use mathlib.Core.Option.{none, some}
+use Prim.Native.Nat.{ℕ, zero, suc, _+_, _*_, _/_, _%_, _<_, _^_}
 use native.Mathlib.Omega.{arith}
 use borrow.Author.Tests.{eqb-true, eq-eqb, ltb-true}
-use lib.Dec.{eqb, ltb, lit<, lit≤}
+use lib.Dec.{eqb, ltb, lit<}
 use lib.ListN.{getD}
 use Rattle.lists.proofs.Tests.{both, and-both}
 use Rattle.numbers.specs.Numbers.{Fits}
 use Rattle.rules.specs.Kinds.{Entry}
 use Rattle.rules.specs.Entries.{isThere, present}
-use Rattle.entries.specs.Records.{orZero}
 use Rattle.pages.specs.Layout.{entryWidths, ifBit, bit, entryIn, entryFields, childWidths, childIn, childFields}
+use Rattle.pages.proofs.Entries.{bit-small, or-small}
 use Rattle.whole_pages.specs.Checks.{entryOk, fillersOk}
 
 abbrev pub plainOk : List ℕ → Bool
@@ -36,14 +36,6 @@ both-entry vs h g = and-both (plainOk vs) (settledOk vs) h g
 pub record Rests (e : Entry ℕ ℕ) : Type 0 where
   pub isThere : present e ≡ true
   pub equal : e .now ≡ e .before
-
-bit-small : (x : Option ℕ) → bit x ≤ 1
-bit-small none = lit≤ tt
-bit-small (some r) = lit≤ tt
-
-or-small : (c : Bool) (r m : ℕ) → r < m → orZero (cond c (some r) none) < m
-or-small true r m h = h
-or-small false r m h = omega arith
 
 module _ (k n b o : ℕ) where
   abbrev fives : ℕ → List ℕ

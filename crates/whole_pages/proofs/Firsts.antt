@@ -11,6 +11,7 @@ use lib.Dec.{eqb, lit<, lit≤}
 use lib.ListN.{length, getD, replicate, length-replicate}
 use lib.Seq.{ext-getD}
 use Rattle.lists.proofs.Tests.{both, and-both}
+use Rattle.lists.proofs.Places.{getD-alike}
 use Rattle.numbers.specs.Numbers.{numberAt, widthOf, fieldsAt, part, zeroAt, Bytes}
 use Rattle.numbers.proofs.Agree.{Agree}
 use Rattle.numbers.proofs.Numbers.{number-below, numbers-inj, numberAt-ext}
@@ -20,8 +21,9 @@ use Rattle.numbers.proofs.Moves.{zeroAt-true, zeroAt-is}
 use Rattle.numbers.proofs.Kept.{bytes-putFields}
 use Rattle.pages.specs.Layout.{rootWidths, countOf, rootOf, usedOf, heightOf, putRoot}
 use Rattle.index.specs.Pictures.{pageAt, blankPage, headPage}
+use Rattle.index.proofs.Written.{length-blank, bytes-blank, blank-zero, count-blank}
 use Rattle.whole_pages.specs.Checks.{headOk, firstPageOk}
-use Rattle.whole_pages.proofs.Layouts.{zero-at, blank-length, blank-bytes, blank-rest, blank-count, head-bytes, fields-head}
+use Rattle.whole_pages.proofs.Layouts.{head-bytes, fields-head}
 
 module _ (p : List ℕ) (g : Bytes p) where
   abbrev written : List ℕ
@@ -29,7 +31,7 @@ module _ (p : List ℕ) (g : Bytes p) where
 
   written-length : length written ≡ 512
   unfolding headPage putRoot
-  written-length = length-putFields rootWidths (blankPage 1 0) 16 (rootOf p ∷ usedOf p ∷ heightOf p ∷ []) ∙ blank-length 1 0
+  written-length = length-putFields rootWidths (blankPage 1 0) 16 (rootOf p ∷ usedOf p ∷ heightOf p ∷ []) ∙ length-blank 1 0
 
   written-head : (k : ℕ) → k < 16 → getD written k 0 ≡ getD (blankPage 1 0) k 0
   unfolding headPage putRoot widthOf
@@ -37,15 +39,15 @@ module _ (p : List ℕ) (g : Bytes p) where
 
   written-rest : (k : ℕ) → 22 ≤ k → getD written k 0 ≡ 0
   unfolding headPage putRoot widthOf
-  written-rest k h = touches-putFields rootWidths (blankPage 1 0) 16 (rootOf p ∷ usedOf p ∷ heightOf p ∷ []) .rest k (omega arith) ∙ blank-rest 1 0 k (omega arith)
+  written-rest k h = touches-putFields rootWidths (blankPage 1 0) 16 (rootOf p ∷ usedOf p ∷ heightOf p ∷ []) .rest k (omega arith) ∙ blank-zero 1 0 k (omega arith)
 
   written-root : Agree 6 p 16 written 16
   unfolding headPage putRoot widthOf fieldsAt
   written-root =
-      let b = blank-length 1 0 in
+      let b = length-blank 1 0 in
       let f : fieldsAt rootWidths written 16 ≡ rootOf p ∷ usedOf p ∷ heightOf p ∷ [] =
       fields-same rootWidths (blankPage 1 0) 16 (rootOf p ∷ usedOf p ∷ heightOf p ∷ []) (number-below 2 p 16 g, (number-below 2 p 18 g, (number-below 2 p 20 g, tt))) (omega arith) in
-      fields-inj rootWidths g (bytes-putFields rootWidths (blankPage 1 0) 16 (rootOf p ∷ usedOf p ∷ heightOf p ∷ []) (blank-bytes 1 0)) (sym f)
+      fields-inj rootWidths g (bytes-putFields rootWidths (blankPage 1 0) 16 (rootOf p ∷ usedOf p ∷ heightOf p ∷ []) (bytes-blank 1 0)) (sym f)
 
   pub first-laid : length p ≡ 512 → firstPageOk p ≡ true → p ≡ headPage (rootOf p) (usedOf p) (heightOf p)
   unfolding firstPageOk
@@ -58,7 +60,7 @@ module _ (p : List ℕ) (g : Bytes p) where
       ext-getD 0 p written (size ∙ sym written-length) (λ k l. at k (omega arith) (b .0) c z (decLt k 16) (decLt k 22) (decLt k 4) (decLt k 6))
     where
       same-count : countOf p ≡ 0 → Agree 2 p 4 (blankPage 1 0) 4
-      same-count n = numbers-inj 2 g (blank-bytes 1 0) (n ∙ sym (blank-count 1 0 (lit< tt) (lit< tt)))
+      same-count n = numbers-inj 2 g (bytes-blank 1 0) (n ∙ sym (count-blank 1 0))
 
       at : (k : ℕ) → k < 512 → headOk 1 0 p ≡ true → Agree 2 p 4 (blankPage 1 0) 4 → Agree 490 p 22 [] 0 → Dec (k < 16) → Dec (k < 22) → Dec (k < 4) → Dec (k < 6) → getD p k 0 ≡ getD written k 0
       at k l h c z (yes i) j (yes m) o = head-bytes 1 0 (lit< tt) (lit< tt) p g h k i (omega arith) ∙ sym (written-head k i)
@@ -82,7 +84,7 @@ module _ (p : List ℕ) (g : Bytes p) where
         and-both (headOk 1 0 p && eqb (countOf p) 0) (zeroAt 490 22 p)
             (and-both (headOk 1 0 p) (eqb (countOf p) 0)
             (fields-head 1 0 (lit< tt) (lit< tt) p (same 2 0 (lit≤ tt)) (same 2 2 (lit≤ tt)) (same 2 6 (lit≤ tt)) (same 8 8 (lit≤ tt)))
-            (eq-eqb (countOf p) 0 (same 2 4 (lit≤ tt) ∙ blank-count 1 0 (lit< tt) (lit< tt))))
+            (eq-eqb (countOf p) 0 (same 2 4 (lit≤ tt) ∙ count-blank 1 0)))
             (zeroAt-is 490 22 p (omega arith) (record { byte = λ k h. ap (λ s. getD s (22 + k) 0) e ∙ written-rest (22 + k) (omega arith) })),
         size,
       )
@@ -100,7 +102,7 @@ module _ (s : List ℕ) (size : length s ≡ 32768) (used : ℕ) (few : used ≤
       (λ k l.
       let m : k < 512 = omega (arith, length-part (512 * q) 512 s (omega arith)) in
       let e : 512 * q + k ≡ 512 * used + (512 * q + k - 512 * used) = omega arith in
-      getD-part (512 * q) 512 s k m ∙ ap (λ x. getD s x 0) e ∙ z .byte (512 * q + k - 512 * used) (omega arith) ∙ sym (zero-at 512 k))
+      getD-part (512 * q) 512 s k m ∙ ap (λ x. getD s x 0) e ∙ z .byte (512 * q + k - 512 * used) (omega arith) ∙ sym (getD-alike 512 k 0))
 
   pub zero-spare : ((q : ℕ) → used ≤ q → q < 64 → pageAt s q ≡ replicate 512 0) → zeroAt (32768 - 512 * used) (512 * used) s ≡ true
   unfolding pageAt
@@ -113,5 +115,5 @@ module _ (s : List ℕ) (size : length s ≡ 32768) (used : ℕ) (few : used ≤
             ap (λ x. getD s x 0) e
             ∙ sym (getD-part (512 * ((512 * used + k) / 512)) 512 s ((512 * used + k) % 512) m)
             ∙ ap (λ p. getD p ((512 * used + k) % 512) 0) (h ((512 * used + k) / 512) (omega arith) (omega arith))
-            ∙ zero-at 512 ((512 * used + k) % 512);
+            ∙ getD-alike 512 ((512 * used + k) % 512) 0;
       })

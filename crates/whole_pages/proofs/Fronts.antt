@@ -15,16 +15,13 @@ use Rattle.numbers.proofs.Parts.{lent, length-part}
 use Rattle.pages.specs.Layout.{countOf, usedOf, heightOf, childAt}
 use Rattle.pages.specs.declared.Child.{Child}
 use Rattle.index.specs.Pictures.{pageAt}
+use Rattle.index.proofs.Buffers.{page-lent}
 use Rattle.whole_pages.specs.declared.Span.{Span}
 use Rattle.whole_pages.specs.Checks.{firstPageOk, leafOk, innerOk}
 use Rattle.whole_pages.specs.Walks.{highAt, pageOk, seenOk, frontOk}
 use Rattle.whole_pages.proofs.WalkTurns.{inner-page, high-next}
 
 -- ---- a part that is lent
-pub lent-page : (s : List ℕ) (q : ℕ) → take (512 * q + 512 - 512 * q) (drop (512 * q) s) ≡ pageAt s q
-unfolding pageAt
-lent-page s q = lent (512 * q) 512 s
-
 pub lent-size : (s : List ℕ) (q : ℕ) → length s ≡ 32768 → q < 64 → length (take (512 * q + 512 - 512 * q) (drop (512 * q) s)) ≡ 512
 lent-size s q h l = ap length (lent (512 * q) 512 s) ∙ length-part (512 * q) 512 s (omega arith)
 
@@ -32,21 +29,18 @@ pub first-size : (s : List ℕ) → length s ≡ 32768 → length (take (512 - 0
 first-size s h = lent-size s 0 h (omega arith)
 
 pub count-lent : (s : List ℕ) (q n : ℕ) → n ≡ countOf (take (512 * q + 512 - 512 * q) (drop (512 * q) s)) → n ≡ countOf (pageAt s q)
-count-lent s q n e = e ∙ ap countOf (lent-page s q)
-
-pub child-lent : (s : List ℕ) (q i : ℕ) (c : Child) → c ≡ childAt (take (512 * q + 512 - 512 * q) (drop (512 * q) s)) i → c .page ≡ childAt (pageAt s q) i .page
-child-lent s q i c e = ap (λ x. x .page) (e ∙ ap (λ p. childAt p i) (lent-page s q))
+count-lent s q n e = e ∙ ap countOf (page-lent s q)
 
 pub high-lent : (s : List ℕ) (q n i hi : ℕ) (c : Child) → c ≡ childAt (take (512 * q + 512 - 512 * q) (drop (512 * q) s)) (i + 1) → i + 1 < n → c .low .0 ≡ highAt (pageAt s q) n i hi
-high-lent s q n i hi c e h = high-next (pageAt s q) n i hi c (e ∙ ap (λ p. childAt p (i + 1)) (lent-page s q)) h
+high-lent s q n i hi c e h = high-next (pageAt s q) n i hi c (e ∙ ap (λ p. childAt p (i + 1)) (page-lent s q)) h
 
 module _ (level least : ℕ) (s : List ℕ) (t : Span) (b : Bool) where
   pub leaf-lent : b ≡ leafOk (t .low .0) (t .high .0) (take (512 * t .page + 512 - 512 * t .page) (drop (512 * t .page) s)) → level ≡ 0 → b ≡ pageOk level least s t
   unfolding pageOk
-  leaf-lent e z = e ∙ ap (leafOk (t .low .0) (t .high .0)) (lent-page s (t .page)) ∙ ap (λ x. pageOk x least s t) (sym z)
+  leaf-lent e z = e ∙ ap (leafOk (t .low .0) (t .high .0)) (page-lent s (t .page)) ∙ ap (λ x. pageOk x least s t) (sym z)
 
   pub inner-lent : b ≡ innerOk level least (t .low .0) (t .high .0) (take (512 * t .page + 512 - 512 * t .page) (drop (512 * t .page) s)) → (level ≡ 0 → ⊥) → b ≡ pageOk level least s t
-  inner-lent e z = e ∙ ap (innerOk level least (t .low .0) (t .high .0)) (lent-page s (t .page)) ∙ inner-page level least s t z
+  inner-lent e z = e ∙ ap (innerOk level least (t .low .0) (t .high .0)) (page-lent s (t .page)) ∙ inner-page level least s t z
 
 -- ---- the pages seen
 module _ (used seen : ℕ) where
@@ -74,5 +68,5 @@ pub front-lent : (s : List ℕ) (a : Bool) (u h : ℕ) → a ≡ firstPageOk (ta
     → (a && (leb u 64 && ltb 0 h)) ≡ frontOk s
 unfolding frontOk
 front-lent s a u h e f g =
-    let l : take (512 - 0) (drop 0 s) ≡ pageAt s 0 = lent-page s 0 in
+    let l : take (512 - 0) (drop 0 s) ≡ pageAt s 0 = page-lent s 0 in
     rw (e, f, g, l) refl

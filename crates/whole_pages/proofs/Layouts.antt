@@ -9,59 +9,33 @@ use native.Mathlib.Decide.{decLt}
 use native.Mathlib.Omega.{arith}
 use borrow.Author.Tests.{eqb-true, eq-eqb}
 use lib.Dec.{eqb, lit<, lit≤}
-use lib.ListN.{length, getD, replicate, length-map, length-replicate, getD-replicate, List·getD-eq-default, List·getD-map}
+use lib.ListN.{length, getD, replicate, length-map, length-replicate, List·getD-eq-default, List·getD-map}
 use lib.Seq.{take-all}
 use Rattle.lists.specs.Lists.{tab}
 use Rattle.lists.proofs.Tests.{and-left, and-right, and-both, all-map, all-each}
 use Rattle.lists.proofs.Tables.{length-tab, getD-tab, tab-ext, map-tab}
 use Rattle.numbers.specs.Numbers.{numberAt, widthOf, fieldsAt, putFields, part, zeroAt, Apart, Bytes, Fits}
 use Rattle.numbers.proofs.Agree.{Agree}
-use Rattle.numbers.proofs.Fields.{fields-same, fields-inj, fields-fit, touches-putFields, length-putFields}
+use Rattle.numbers.proofs.Fields.{fields-same, fields-inj, fields-fit, length-putFields}
 use Rattle.numbers.proofs.Parts.{part-ext, fieldsAt-part}
-use Rattle.numbers.proofs.Moves.{zeroAt-true, zeroAt-is}
-use Rattle.numbers.proofs.Kept.{bytes-putFields}
+use Rattle.numbers.proofs.Moves.{zeroAt-true}
+use Rattle.numbers.proofs.Kept.{bytes-putFields, bytes-zeros}
 use Rattle.pages.specs.Layout.{headWidths, kindOf, countOf, levelOf, putHead}
 use Rattle.pages.specs.Rows.{rowAt, rowsOf, withRows}
 use Rattle.pages.proofs.Rows.{Wide, isWide, length-rowsOf, wide-rowsOf}
-use Rattle.pages.proofs.WithRows.{Fit, Holds, holds-same, holds-with, length-with, head-with, rows-with, zero-with, with-own}
+use Rattle.pages.proofs.WithRows.{Fit, Holds, holds-same, holds-with, head-with, rows-with, zero-with, with-own}
 use Rattle.index.specs.Pictures.{blankPage}
+use Rattle.index.proofs.Written.{length-blank, bytes-blank, blank-zero, count-blank, blank-page}
 use Rattle.whole_pages.specs.Checks.{headOk}
-
--- ---- zero bytes
-pub zero-at : (n k : ℕ) → getD {A = ℕ} (replicate n 0) k 0 ≡ 0
-zero-at n k =
-    elim (decLt k n) [
-      | yes h ↦ getD-replicate n k 0 0 h
-      | no h ↦ List·getD-eq-default (replicate n 0) 0 {n = k} (omega (arith, length-replicate {A = ℕ} n 0))
-    ]
-
-pub bytes-zero : (n : ℕ) → Bytes (replicate n 0)
-bytes-zero n = record { below = λ i. rw (zero-at n i) (lit< tt) }
 
 -- ---- a blank page
 module _ (kind level : ℕ) where
-  pub blank-length : length (blankPage kind level) ≡ 512
-  unfolding blankPage putHead
-  blank-length = length-putFields headWidths (replicate 512 0) 0 (512 ∷ kind ∷ 0 ∷ level ∷ 0 ∷ [])
-
-  pub blank-bytes : Bytes (blankPage kind level)
-  unfolding blankPage putHead
-  blank-bytes = bytes-putFields headWidths (replicate 512 0) 0 (512 ∷ kind ∷ 0 ∷ level ∷ 0 ∷ []) (bytes-zero 512)
-
-  pub blank-rest : (k : ℕ) → 16 ≤ k → getD (blankPage kind level) k 0 ≡ 0
-  unfolding blankPage putHead widthOf
-  blank-rest k h = touches-putFields headWidths (replicate 512 0) 0 (512 ∷ kind ∷ 0 ∷ level ∷ 0 ∷ []) .rest k (omega arith) ∙ zero-at 512 k
-
   module _ (k : kind < 65536) (l : level < 65536) where
     pub blank-head : fieldsAt headWidths (blankPage kind level) 0 ≡ 512 ∷ kind ∷ 0 ∷ level ∷ 0 ∷ []
     unfolding blankPage putHead widthOf
     blank-head =
         fields-same headWidths (replicate 512 0) 0 (512 ∷ kind ∷ 0 ∷ level ∷ 0 ∷ [])
         (lit< tt, (k, (lit< tt, (l, (lit< tt, tt))))) (lit≤ tt)
-
-    pub blank-count : countOf (blankPage kind level) ≡ 0
-    unfolding fieldsAt
-    blank-count = ap (λ vs. getD vs 2 0) blank-head
 
     -- a head that is right is the blank page's
     module _ (p : List ℕ) where
@@ -97,10 +71,10 @@ module _ (kind level : ℕ) where
       head-bytes g h i s a =
           let es = head-fields h in
           elim (decLt i 4) [
-            | yes m ↦ simp zero-add at (fields-inj (2 ∷ 2 ∷ []) g blank-bytes (es .0) .byte i m)
+            | yes m ↦ simp zero-add at (fields-inj (2 ∷ 2 ∷ []) g (bytes-blank kind level) (es .0) .byte i m)
             | no m ↦
                 let q : i ≡ 6 + (i - 6) = omega arith in
-                rw q (fields-inj (2 ∷ 8 ∷ []) g blank-bytes (es .1) .byte (i - 6) (omega arith))
+                rw q (fields-inj (2 ∷ 8 ∷ []) g (bytes-blank kind level) (es .1) .byte (i - 6) (omega arith))
           ]
 
 -- ---- a page of rows
@@ -129,11 +103,11 @@ module _ (kind level z most : ℕ) (ws : List ℕ) (k : kind < 65536) (l : level
 
   fits-blank : (rs : List (List ℕ)) → Wide z rs → length rs ≤ most → Fit z (blankPage kind level) rs
   fits-blank rs w h =
-      let b = blank-length kind level in
+      let b = length-blank kind level in
       let r = within (length rs) h in
       record {
         wide = w;
-        own = rw (blank-count kind level k l, mul-zero) (omega arith);
+        own = rw (count-blank kind level, mul-zero) (omega arith);
         room = omega arith;
         few = omega arith;
       }
@@ -149,7 +123,7 @@ module _ (kind level z most : ℕ) (ws : List ℕ) (k : kind < 65536) (l : level
           let e : fieldsAt ws p (16 + z * i) ≡ fieldsAt ws (row x) 0 =
           sym (row-fields x (subst (Fits ws) (sym (each i h)) (fields-fit ws p (16 + z * i) g)) ∙ each i h) in
           let a : Agree z p (16 + z * i) (row x) 0 =
-          subst (λ m. Agree m p (16 + z * i) (row x) 0) width (fields-inj ws g (bytes-putFields ws (replicate z 0) 0 (writes x) (bytes-zero z)) e) in
+          subst (λ m. Agree m p (16 + z * i) (row x) 0) width (fields-inj ws g (bytes-putFields ws (replicate z 0) 0 (writes x) (bytes-zeros z)) e) in
           let o = within (i + 1) (omega arith) in
           part-ext z (omega arith) (omega (arith, row-length x)) a ∙ take-all z (row x) (omega (arith, row-length x))
 
@@ -171,18 +145,18 @@ module _ (kind level z most : ℕ) (ws : List ℕ) (k : kind < 65536) (l : level
       pub laid : p ≡ page p
       laid =
           let e = length-rowsOf z p in
-          let c = blank-count kind level k l in
+          let c = count-blank kind level in
           let f = fits-blank (rowsOf z p) (wide-rowsOf z p own) (omega arith) in
           let zeros = zeroAt-true (496 - z * countOf p) (16 + z * countOf p) p rest (let h = within (countOf p) n in omega arith) in
           holds-same z (blankPage kind level) (rowsOf z p) p (withRows z (blankPage kind level) (rowsOf z p))
           (record {
-            len = size ∙ sym (blank-length kind level);
+            len = size ∙ sym (length-blank kind level);
             low = own-holds .low;
             high = own-holds .high;
             head = λ i a b. head-bytes kind level k l p g head i a b;
             rows = own-holds .rows;
             freed = λ i a b. let m : i < 16 + z * 0 = rw c at b in absurd (omega (arith, mul-zero z));
-            behind = λ i a b. past i (rw e at a) (decLt i 512) zeros ∙ sym (blank-rest kind level i (omega arith));
+            behind = λ i a b. past i (rw e at a) (decLt i 512) zeros ∙ sym (blank-zero kind level i (omega arith));
           })
           (holds-with z (blankPage kind level) (rowsOf z p) f)
           ∙ ap (withRows z (blankPage kind level)) rows-are
@@ -204,9 +178,6 @@ module _ (kind level z most : ℕ) (ws : List ℕ) (k : kind < 65536) (l : level
       fitting : Fit z (blankPage kind level) (map row (items p))
       fitting = fits-blank (map row (items p)) wide (omega (arith, many))
 
-      pub told-size : length p ≡ 512
-      told-size = ap length e ∙ length-with z (blankPage kind level) (map row (items p)) fitting ∙ blank-length kind level
-
       pub told-head : headOk kind level p ≡ true
       told-head =
           fields-head kind level k l p (same 2 0 (lit≤ tt) (lit< tt)) (same 2 2 (lit≤ tt) (lit< tt)) (same 2 6 (lit≤ tt) (lit< tt)) (same 8 8 (lit≤ tt) (lit< tt))
@@ -216,12 +187,12 @@ module _ (kind level z most : ℕ) (ws : List ℕ) (k : kind < 65536) (l : level
 
       pub told-rest : zeroAt (496 - z * countOf p) (16 + z * countOf p) p ≡ true
       told-rest =
-          let c = blank-count kind level k l in
-          let b = blank-length kind level in
+          let c = count-blank kind level in
+          let b = length-blank kind level in
           let q : 512 - (16 + z * countOf p) ≡ 496 - z * countOf p = omega arith in
           let r : zeroAt (512 - (16 + z * length (map row (items p)))) (16 + z * length (map row (items p))) (page p) ≡ true =
           zero-with z (blankPage kind level) (map row (items p)) fitting 512 (omega arith)
-          (rw (c, mul-zero) (zeroAt-is 496 16 (blankPage kind level) (omega arith) (record { byte = λ i h. blank-rest kind level (16 + i) (omega arith) }))) in
+          (rw (c, mul-zero) (blank-page kind level .zero)) in
           subst (λ s. zeroAt (496 - z * countOf p) (16 + z * countOf p) s ≡ true) (sym e)
           (subst (λ m. zeroAt m (16 + z * countOf p) (page p) ≡ true) q (subst (λ m. zeroAt (512 - (16 + z * m)) (16 + z * m) (page p) ≡ true) many r))
 

@@ -10,10 +10,9 @@ use borrow.Author.Tests.{leb-true, le-leb, ltb-true, lt-ltb, lt-leb, leb-false, 
 use lib.Dec.{leb, ltb, lit<, lit≤}
 use lib.ListN.{length, getD}
 use Rattle.lists.specs.Lists.{tab, all, pairs, In}
-use Rattle.lists.proofs.Tests.{both, and-both}
-use Rattle.lists.proofs.Tables.{length-tab, map-tab, all-tab}
-use Rattle.lists.proofs.Rows.{all-weaker}
-use Rattle.whole_pages.proofs.Tabs.{in-tab, tab-in, all-of-tab}
+use Rattle.lists.proofs.Tests.{both, and-both, all-weaker}
+use Rattle.lists.proofs.Tables.{map-tab, all-tab, all-of-tab}
+use Rattle.lists.proofs.Elements.{tab-in, in-tab}
 use Rattle.numbers.specs.Numbers.{numberAt, fieldsAt, widthOf, zeroAt, Bytes, Fits}
 use Rattle.numbers.proofs.Numbers.{number-below}
 use Rattle.trees.specs.Trees.{atMost, under, inside}
@@ -84,10 +83,6 @@ pub record LeafFacts (lo hi : ℕ) (p : List ℕ) : Type 0 where
   pub order : Ordered lo hi (entriesOf p)
   pub rests : (e : Item) → In e (entriesOf p) → e .owner ≡ 0 → Rests e
 
-pub length-entries : (p : List ℕ) → length (entriesOf p) ≡ countOf p
-unfolding entriesOf
-length-entries p = length-tab (countOf p) 0 (entryAt p)
-
 entries-map : (p : List ℕ) → map entryIn (tab (countOf p) 0 (entryFieldsAt p)) ≡ entriesOf p
 unfolding entriesOf entryAt entryFieldsAt
 entries-map p = map-tab entryIn (countOf p) 0 (entryFieldsAt p)
@@ -137,7 +132,7 @@ module _ (p : List ℕ) (g : Bytes p) where
         few = few;
         order = subst (Ordered lo hi) (entries-map p) (o .0);
         rests = λ e m z.
-            let x = in-tab (countOf p) 0 (entryAt p) e m in
+            let x = tab-in (countOf p) 0 (entryAt p) e m in
             let q : entryIn (entryFieldsAt p (x .0)) ≡ e = x .3 in
             subst Rests q (rests-at (x .0) (each (x .0) (omega (arith, x .2))) (ap (λ y. y .owner) q ∙ z));
       }
@@ -147,7 +142,7 @@ module _ (p : List ℕ) (g : Bytes p) where
   facts-leaf lo hi f =
       let plain = told-each 2 0 20 24 entryWidths (lit< tt) (lit< tt) refl (lit≤ tt) (lit< tt) entryIn entryFields p g (f .few) fits-at (f .laid) in
       let each : (i : ℕ) → i < countOf p → entryOk (entryFieldsAt p i) ≡ true =
-      (λ i l. at-entry i (plain i l) (f .rests (entryAt p i) (tab-in (countOf p) 0 (entryAt p) i (omega arith) (omega arith)))) in
+      (λ i l. at-entry i (plain i l) (f .rests (entryAt p i) (in-tab (countOf p) 0 (entryAt p) i (omega arith) (omega arith)))) in
       and-both ((headOk 2 0 p && leb (countOf p) 24) && entriesOk lo hi (tab (countOf p) 0 (entryFieldsAt p))) (zeroAt (496 - 20 * countOf p) (16 + 20 * countOf p) p)
       (and-both (headOk 2 0 p && leb (countOf p) 24) (entriesOk lo hi (tab (countOf p) 0 (entryFieldsAt p)))
       (and-both (headOk 2 0 p) (leb (countOf p) 24)

@@ -1,6 +1,5 @@
 pub mod PageTurns
 pub mod Layouts
-pub mod Tabs
 pub mod Entries
 pub mod Leaves
 pub mod Inners

@@ -6,19 +6,20 @@ use mathlib.Core.List.{List}
 use Prim.Native.Nat.{ℕ, zero, suc, _+_, _*_, _-_, _/_, _%_, _^_, _≤_, _<_}
 use native.Mathlib.Decide.{decLt, ℕ-discrete}
 use native.Mathlib.Omega.{arith}
-use borrow.Author.Tests.{eqb-true, eq-eqb, le-leb, lt-leb, lt-ltb}
+use borrow.Author.Tests.{eqb-true, eq-eqb, le-leb, lt-ltb}
 use lib.Dec.{eqb, leb, ltb, lit≤}
 use lib.ListN.{length}
 use Rattle.lists.specs.Lists.{In}
 use Rattle.lists.specs.Lists as L
 use Rattle.lists.proofs.Tests.{both, and-both}
-use Rattle.lists.proofs.Tables.{all-tab}
+use Rattle.lists.proofs.Tables.{all-tab, all-of-tab}
 use Rattle.numbers.specs.Numbers.{zeroAt, Bytes}
 use Rattle.numbers.proofs.Numbers.{number-below}
 use Rattle.numbers.proofs.Parts.{length-part}
 use Rattle.numbers.proofs.Kept.{bytes-part}
 use Rattle.rules.specs.Document.{endMark}
 use Rattle.trees.specs.Trees.{times, above}
+use Rattle.trees.proofs.Pages.{above-yes, above-no}
 use Rattle.pages.specs.Layout.{rootOf, usedOf, heightOf}
 use Rattle.index.specs.Pictures.{Item, pageAt, indexOf, entriesIn, WholePages}
 use Rattle.whole_pages.specs.declared.Span.{Span}
@@ -26,7 +27,6 @@ use Rattle.whole_pages.specs.declared.Trail.{Trail}
 use Rattle.whole_pages.specs.declared.Trail.the-variants.{Went, Bad}
 use Rattle.whole_pages.specs.Checks.{firstPageOk}
 use Rattle.whole_pages.specs.Walks.{spanOf, guard, marks, treeOk, seenOk, wentOk, frontOk, treeIn, pagesOk}
-use Rattle.whole_pages.proofs.Tabs.{all-of-tab}
 use Rattle.whole_pages.proofs.Entries.{Rests}
 use Rattle.whole_pages.proofs.Bits.{bit, bit-is, zero-bit}
 use Rattle.whole_pages.proofs.Marks.{reached, walk-is, marks-went, marks-used, marks-go}
@@ -79,12 +79,6 @@ module _ (used n : ℕ) (s : List ℕ) (root : ℕ) where
   at-seen : (m : ℕ) → ((q : ℕ) → q < used → bit m q ≡ 1) → seenOk used m ≡ true
   unfolding seenOk
   at-seen m h = all-of-tab (λ k. eqb (m / 2 ^ k % 2) 1) used 0 (λ k. k) (λ q a b. eq-eqb (m / 2 ^ q % 2) 1 (sym (bit-is m q) ∙ h q (omega arith)))
-
-  above-yes : (u q : ℕ) → u ≤ q → above u q ≡ 1
-  above-yes u q h = ap (λ b. cond {A = ℕ} b 1 0) (le-leb u q h)
-
-  above-no : (u q : ℕ) → q < u → above u q ≡ 0
-  above-no u q h = ap (λ b. cond {A = ℕ} b 1 0) (lt-leb u q h)
 
   pub once-each : (m : ℕ) → marks used (reached n s root) 1 ≡ Went m → seenOk used m ≡ true → (q : ℕ) → L.times q (reached n s root) + above used q ≡ above 1 q
   once-each m w h q =

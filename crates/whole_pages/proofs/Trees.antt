@@ -1,22 +1,23 @@
 -- A tree of pages that are all in order is laid out as its entries and children write it, counted, ranged, with every entry settled or owned;
 -- and the other way. By induction on the level, and within a page on its children. Assumes nothing.
 use mathlib.Core.Path.{_≡_, refl, sym, ap, ap₂, subst, _∙_}
-use mathlib.Core.Logic.{_⊎_, inl, inr, ⊎-elim}
+use mathlib.Core.Logic.{inl, inr, ⊎-elim}
 use mathlib.Core.Bool.{Bool, true, cond, _&&_}
-use mathlib.Core.List.{List, [], _∷_, _++_, map}
+use mathlib.Core.List.{List, [], _∷_, map}
 use mathlib.Core.Option.{Option, some}
 use Prim.Native.Nat.{ℕ, zero, suc, _+_, _*_, _-_, _≤_, _<_, compare}
 use native.Mathlib.Nat.{sub-zero, add-zero}
-use native.Mathlib.Decide.{decLt, ℕ-discrete}
+use native.Mathlib.Decide.{decLt}
 use native.Mathlib.Omega.{arith}
-use borrow.Author.Tests.{eqb-true, eq-eqb, ne-eqb, leb-true, le-leb, ltb-true, lt-ltb}
+use borrow.Author.Tests.{eqb-true, eq-eqb, leb-true, le-leb, ltb-true, lt-ltb}
 use lib.Dec.{eqb, leb, ltb, lit≤}
 use lib.ListN.{length, length-map, drop-of-length-le}
 use Rattle.lists.specs.Lists.{tab, all, join, In}
 use Rattle.lists.specs.Lists as L
-use Rattle.lists.proofs.Tests.{both, and-both}
-use Rattle.lists.proofs.Tables.{length-tab, tab-next}
-use Rattle.lists.proofs.Counts.{times-append}
+use Rattle.lists.proofs.Tests.{both, and-both, eqb-turn}
+use Rattle.lists.proofs.Tables.{tab-next}
+use Rattle.lists.proofs.Joins.{times-append}
+use Rattle.lists.proofs.Elements.{append-in, in-left, in-right}
 use Rattle.numbers.specs.Numbers.{numberAt, part, Bytes}
 use Rattle.numbers.proofs.Numbers.{number-none}
 use Rattle.numbers.proofs.Parts.{length-part}
@@ -25,26 +26,19 @@ use Rattle.trees.specs.Trees.{Child, Tree, documentSizes, flat, times, summed, 
 use Rattle.trees.proofs.Sorted.{sorted-test, test-sorted}
 use Rattle.pages.specs.Layout.{countOf, childAt, childrenOf, entriesOf}
 use Rattle.pages.specs.declared.Child as P
+use Rattle.pages.proofs.Entries.{length-entries}
+use Rattle.pages.proofs.Children.{length-children}
 use Rattle.index.specs.Pictures.{Item, keyOf, pageAt, treeOf, Laid}
+use Rattle.index.proofs.Frame.{kid}
 use Rattle.whole_pages.specs.declared.Span.{Span}
 use Rattle.whole_pages.specs.Checks.{headOk, between, firstOk, childFieldsAt, childrenOk, entriesOk, entryFieldsAt, leafOk, innerOk, aboves}
 use Rattle.whole_pages.specs.Walks.{spanOf, spans, pageOk, treeOk}
 use Rattle.whole_pages.proofs.Entries.{Rests}
-use Rattle.whole_pages.proofs.Leaves.{under-is, is-under, leaf-facts, facts-leaf, length-entries}
+use Rattle.whole_pages.proofs.Leaves.{under-is, is-under, leaf-facts, facts-leaf}
 use Rattle.whole_pages.proofs.Inners.{inner-facts, facts-inner, head-length}
 use Rattle.whole_pages.proofs.Marks.{reached}
 
 -- ---- the pages of the tree, counted
-eqb-turned : (a b : ℕ) → eqb a b ≡ eqb b a
-eqb-turned a b =
-    elim (ℕ-discrete a b) [
-      | yes e ↦ eq-eqb a b e ∙ sym (eq-eqb b a (sym e))
-      | no e ↦ ne-eqb a b e ∙ sym (ne-eqb b a (λ f. e (sym f)))
-    ]
-
-abbrev pub kid : (n : ℕ) → List ℕ → P.Child → Child ℕ (Tree ℕ Item n)
-kid n s c = record { low = c .low .0; tree = treeOf n s (c .page) }
-
 times-over : (n : ℕ) (s : List ℕ) (q : ℕ) → ((r : ℕ) → times ℕ Item n q (treeOf n s r) ≡ L.times q (reached n s r)) → (cs : List P.Child)
     → summed (λ c. times ℕ Item n q (c .tree)) (map (kid n s) cs) ≡ L.times q (join (λ c. reached n s (c .page)) cs)
 unfolding summed join L.times
@@ -54,8 +48,8 @@ times-over n s q h (c ∷ cs) =
 
 pub times-reached : (n : ℕ) (s : List ℕ) (p q : ℕ) → times ℕ Item n q (treeOf n s p) ≡ L.times q (reached n s p)
 unfolding times treeOf reached L.times
-times-reached zero s p q = ap (λ b. cond {A = ℕ} b 1 0) (eqb-turned q p) ∙ sym (add-zero (cond (eqb p q) 1 0))
-times-reached (suc n) s p q = ap₂ (λ b x. cond b 1 0 + x) (eqb-turned q p) (times-over n s q (λ r. times-reached n s r q) (childrenOf (pageAt s p)))
+times-reached zero s p q = ap (λ b. cond {A = ℕ} b 1 0) (eqb-turn q p) ∙ sym (add-zero (cond (eqb p q) 1 0))
+times-reached (suc n) s p q = ap₂ (λ b x. cond b 1 0 + x) (eqb-turn q p) (times-over n s q (λ r. times-reached n s r q) (childrenOf (pageAt s p)))
 
 -- ---- what the tree is
 pub record TreeFacts (n least : ℕ) (s : List ℕ) (t : Span) : Type 0 where
@@ -76,19 +70,6 @@ abbrev pub abovesOf : ℕ → ℕ → List P.Child → Bool
 abovesOf lo hi [] = true
 abovesOf lo hi (c ∷ cs) = aboves lo hi cs
 
-in-parts : {A : Type 0} (xs ys : List A) (x : A) → In x (xs ++ ys) → In x xs ⊎ In x ys
-in-parts [] ys x m = inr m
-in-parts (y ∷ xs) ys x (inl e) = inl (inl e)
-in-parts (y ∷ xs) ys x (inr m) = ⊎-elim (λ a. inl (inr a)) (λ b. inr b) (in-parts xs ys x m)
-
-part-left : {A : Type 0} (xs ys : List A) (x : A) → In x xs → In x (xs ++ ys)
-part-left (y ∷ xs) ys x (inl e) = inl e
-part-left (y ∷ xs) ys x (inr m) = inr (part-left xs ys x m)
-
-part-right : {A : Type 0} (xs ys : List A) (x : A) → In x ys → In x (xs ++ ys)
-part-right [] ys x m = m
-part-right (y ∷ xs) ys x m = inr (part-right xs ys x m)
-
 module _ (n : ℕ) (s : List ℕ) (hi : ℕ) where
   abbrev R : ℕ → Option ℕ → Tree ℕ Item n → Bool
   R lo h t = ranged compare keyOf 0 n lo h t
@@ -103,7 +84,7 @@ module _ (n : ℕ) (s : List ℕ) (hi : ℕ) where
           laid = λ x m. ⊎-elim (λ e. subst (λ y. Laid n s (y .page)) e (f .laid)) (λ z. absurd z) m;
           counts = and-both (counted ℕ Item documentSizes 15 n (treeOf n s (c .page))) true (f .counts) refl;
           keys = f .keys;
-          rests = λ e m. ⊎-elim (λ l. f .rests e l) (λ z. absurd z) (in-parts (flat ℕ Item n (treeOf n s (c .page))) [] e m);
+          rests = λ e m. ⊎-elim (λ l. f .rests e l) (λ z. absurd z) (append-in (flat ℕ Item n (treeOf n s (c .page))) [] e m);
         }
     kids-facts lo (c ∷ d ∷ cs) a b =
         let x = both (treeOk n 15 s (spanOf (c .page) lo (d .low .0))) (all (treeOk n 15 s) (spans (d .low .0) hi (d ∷ cs))) a in
@@ -119,7 +100,7 @@ module _ (n : ℕ) (s : List ℕ) (hi : ℕ) where
               (and-both (R lo (some (d .low .0)) (treeOf n s (c .page))) (under compare lo (d .low .0) && inside compare (d .low .0) (some hi)) (f .keys)
               (and-both (under compare lo (d .low .0)) (under compare (d .low .0) hi) (under-is lo (d .low .0) (ltb-true lo (d .low .0) (z .0))) (under-is (d .low .0) hi (ltb-true (d .low .0) hi (z .1)))))
               (g .keys);
-          rests = λ e m. ⊎-elim (λ l. f .rests e l) (λ r. g .rests e r) (in-parts (flat ℕ Item n (treeOf n s (c .page))) (join (λ c. flat ℕ Item n (c .tree)) (map (kid n s) (d ∷ cs))) e m);
+          rests = λ e m. ⊎-elim (λ l. f .rests e l) (λ r. g .rests e r) (append-in (flat ℕ Item n (treeOf n s (c .page))) (join (λ c. flat ℕ Item n (c .tree)) (map (kid n s) (d ∷ cs))) e m);
         }
 
   module _ (h : (t : Span) → TreeFacts n 15 s t → treeOk n 15 s t ≡ true) where
@@ -133,7 +114,7 @@ module _ (n : ℕ) (s : List ℕ) (hi : ℕ) where
             laid = f .laid c (inl refl);
             counts = both (counted ℕ Item documentSizes 15 n (treeOf n s (c .page))) true (f .counts) .0;
             keys = f .keys;
-            rests = λ e m. f .rests e (part-left (flat ℕ Item n (treeOf n s (c .page))) [] e m);
+            rests = λ e m. f .rests e (in-left (flat ℕ Item n (treeOf n s (c .page))) [] e m);
           })) refl,
       refl,
     )
@@ -148,7 +129,7 @@ module _ (n : ℕ) (s : List ℕ) (hi : ℕ) where
           laid = λ x m. f .laid x (inr m);
           counts = w .1;
           keys = k .1;
-          rests = λ e m. f .rests e (part-right (flat ℕ Item n (treeOf n s (c .page))) (join (λ c. flat ℕ Item n (c .tree)) (map (kid n s) (d ∷ cs))) e m);
+          rests = λ e m. f .rests e (in-right (flat ℕ Item n (treeOf n s (c .page))) (join (λ c. flat ℕ Item n (c .tree)) (map (kid n s) (d ∷ cs))) e m);
         }) in (
           and-both (treeOk n 15 s (spanOf (c .page) lo (d .low .0))) (all (treeOk n 15 s) (spans (d .low .0) hi (d ∷ cs)))
               (h (spanOf (c .page) lo (d .low .0))
@@ -156,7 +137,7 @@ module _ (n : ℕ) (s : List ℕ) (hi : ℕ) where
                 laid = f .laid c (inl refl);
                 counts = w .0;
                 keys = i .0;
-                rests = λ e m. f .rests e (part-left (flat ℕ Item n (treeOf n s (c .page))) (join (λ c. flat ℕ Item n (c .tree)) (map (kid n s) (d ∷ cs))) e m);
+                rests = λ e m. f .rests e (in-left (flat ℕ Item n (treeOf n s (c .page))) (join (λ c. flat ℕ Item n (c .tree)) (map (kid n s) (d ∷ cs))) e m);
               })) (g .0),
           and-both (between lo hi (d .low .0)) (aboves (d .low .0) hi cs)
               (and-both (ltb lo (d .low .0)) (ltb (d .low .0) hi) (lt-ltb lo (d .low .0) (is-under lo (d .low .0) (u .0))) (lt-ltb (d .low .0) hi (is-under (d .low .0) hi (u .1))))
@@ -194,10 +175,6 @@ inner-length level least lo hi p h =
 children-cons : (p : List ℕ) → 1 ≤ countOf p → childrenOf p ≡ childAt p 0 ∷ tab (countOf p - 1) 1 (childAt p)
 unfolding childrenOf
 children-cons p h = ap (λ n. tab n 0 (childAt p)) (sym (sub-zero (countOf p))) ∙ tab-next (countOf p) 0 (childAt p) (omega arith)
-
-length-children : (p : List ℕ) → length (childrenOf p) ≡ countOf p
-unfolding childrenOf
-length-children p = length-tab (countOf p) 0 (childAt p)
 
 -- ---- the tree
 module _ (s : List ℕ) (g : Bytes s) (size : length s ≡ 32768) where

@@ -2,13 +2,12 @@
 -- Assumes nothing.
 use borrow.Author.Needs.{needs}
 use mathlib.Core.Path.{_≡_}
-use Prim.Native.Nat.{_-_, _≤_}
+use Prim.Native.Nat.{_-_, _≤_, ℕ, _<_}
 use Rattle.lists.specs.Lists.{tab}
 use Rattle.pages.specs.Layout.{childAt}
 use Rattle.index.specs.Pictures.{pageAt}
 use Rattle.whole_pages.specs.Walks.{spanOf, spans, walkOver, walkAt}
 use Rattle.whole_pages.proofs.WalkTurns.{walk-unmarked, marked-page, walk-page-bad, walk-leaf, walk-few, walk-start, walk-next, walk-stop, walk-end}
-use Prim.Native.Nat.{ℕ, _<_}
 use borrow.Fn.Kinds.{In}
 use borrow.Fn.PlainCycle.{Measures, is, falls, and}
 use Rattle.whole_pages.proofs.walk.Reads as walk

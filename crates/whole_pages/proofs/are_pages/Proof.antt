@@ -2,7 +2,6 @@
 -- Assumes nothing.
 use borrow.Author.Needs.{needs}
 use Rattle.whole_pages.proofs.Tops.{frontless, front-few, front-tall, lost, used-within, spare-within, spare-end, pages-done}
-use borrow.Author.Needs.{needs}
 use Rattle.whole_pages.proofs.are_pages.Statement.{statement}
 use Rattle.whole_pages.proofs.are_pages.Tie as tie
 

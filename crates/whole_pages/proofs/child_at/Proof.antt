@@ -1,8 +1,8 @@
 -- `whole_pages::child_at` meets its contract: the part that is lent is the page.
 -- Assumes nothing.
 use borrow.Author.Needs.{needs}
-use Rattle.whole_pages.proofs.Fronts.{lent-size, child-lent}
-use borrow.Author.Needs.{needs}
+use Rattle.index.proofs.Turns.{child-lent}
+use Rattle.whole_pages.proofs.Fronts.{lent-size}
 use Rattle.whole_pages.proofs.child_at.Statement.{statement}
 use Rattle.whole_pages.proofs.child_at.Tie as tie
 

@@ -2,7 +2,6 @@
 -- Assumes nothing.
 use borrow.Author.Needs.{needs}
 use Rattle.whole_pages.proofs.Fronts.{lent-size, count-lent}
-use borrow.Author.Needs.{needs}
 use Rattle.whole_pages.proofs.count_at.Statement.{statement}
 use Rattle.whole_pages.proofs.count_at.Tie as tie
 

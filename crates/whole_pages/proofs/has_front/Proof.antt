@@ -2,7 +2,6 @@
 -- Assumes nothing.
 use borrow.Author.Needs.{needs}
 use Rattle.whole_pages.proofs.Fronts.{first-size, front-lent}
-use borrow.Author.Needs.{needs}
 use Rattle.whole_pages.proofs.has_front.Statement.{statement}
 use Rattle.whole_pages.proofs.has_front.Tie as tie
 

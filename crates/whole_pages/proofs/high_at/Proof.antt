@@ -3,7 +3,6 @@
 use borrow.Author.Needs.{needs}
 use Rattle.whole_pages.proofs.Fronts.{lent-size, high-lent}
 use Rattle.whole_pages.proofs.WalkTurns.{high-last}
-use borrow.Author.Needs.{needs}
 use Rattle.whole_pages.proofs.high_at.Statement.{statement}
 use Rattle.whole_pages.proofs.high_at.Tie as tie
 

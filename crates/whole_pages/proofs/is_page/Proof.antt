@@ -2,7 +2,6 @@
 -- Assumes nothing.
 use borrow.Author.Needs.{needs}
 use Rattle.whole_pages.proofs.Fronts.{lent-size, leaf-lent, inner-lent}
-use borrow.Author.Needs.{needs}
 use Rattle.whole_pages.proofs.is_page.Statement.{statement}
 use Rattle.whole_pages.proofs.is_page.Tie as tie
 

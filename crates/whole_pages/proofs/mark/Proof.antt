@@ -2,7 +2,6 @@
 -- Assumes nothing.
 use borrow.Author.Needs.{needs}
 use Rattle.whole_pages.proofs.Bits.{mark-unused, mark-again, mark-fits, mark-done}
-use borrow.Author.Needs.{needs}
 use Rattle.whole_pages.proofs.mark.Statement.{statement}
 use Rattle.whole_pages.proofs.mark.Tie as tie
 

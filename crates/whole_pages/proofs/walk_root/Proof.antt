@@ -2,7 +2,6 @@
 -- Assumes nothing.
 use borrow.Author.Needs.{needs}
 use Rattle.whole_pages.proofs.Tops.{used-few, height-some, walk-top}
-use borrow.Author.Needs.{needs}
 use Rattle.whole_pages.proofs.walk_root.Statement.{statement}
 use Rattle.whole_pages.proofs.walk_root.Tie as tie
 

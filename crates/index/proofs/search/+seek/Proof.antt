@@ -2,7 +2,7 @@
 -- The level falls with each call, what is left of the children with each turn. Assumes nothing.
 use borrow.Author.Needs.{needs}
 use native.Mathlib.Omega.{arith}
-use Prim.Native.Nat.{_≤_, _-_}
+use Prim.Native.Nat.{_≤_, _-_, ℕ, _<_}
 use mathlib.Core.Path.{_≡_}
 use Rattle.lists.specs.Lists.{first}
 use Rattle.trees.specs.Trees.{flat}
@@ -10,7 +10,6 @@ use Rattle.index.specs.Pictures.{Item, treeOf}
 use Rattle.index.specs.Searches.{seeks}
 use Rattle.index.proofs.Subtrees.{inner-in, child-in}
 use Rattle.index.proofs.Turns.{at-leaf, found-leaf, foundFrom, seek-start, seek-here, seek-on, seek-none}
-use Prim.Native.Nat.{ℕ, _<_}
 use borrow.Fn.Kinds.{In}
 use borrow.Fn.PlainCycle.{Measures, is, falls, and}
 use Rattle.index.proofs.search.seek.Reads as seek

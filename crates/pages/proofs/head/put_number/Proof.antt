@@ -1,7 +1,7 @@
 -- `pages::head::put_number` meets its contract: only the low two bytes of a number count.
 -- Assumes nothing.
 use borrow.Author.Needs.{needs}
-use Rattle.pages.proofs.Splices.{put-cut}
+use Rattle.numbers.proofs.Splices.{put-cut}
 use Rattle.pages.proofs.head.put_number.Statement.{statement}
 use Rattle.pages.proofs.head.put_number.Tie as tie
 

@@ -4,9 +4,9 @@ use borrow.Author.Needs.{needs}
 use mathlib.Core.Path.{_≡_}
 use Prim.Native.Nat.{_+_, _-_, _≤_}
 use Rattle.lists.specs.Lists.{tab, place}
+use Rattle.lists.proofs.Scans.{scan-start, scan-next, scan-found, scan-done}
 use Rattle.tables.specs.Layout.{nameIn, slotAt, slotsOf}
 use Rattle.tables.specs.Moves.{isSlotOf, heldIn}
-use Rattle.tables.proofs.Scans.{scan-start, scan-next, scan-found, scan-done}
 use Rattle.tables.proofs.locks.find_lock.Statement.{statement}
 use Rattle.tables.proofs.locks.find_lock.Tie as tie
 

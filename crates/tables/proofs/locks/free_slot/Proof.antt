@@ -6,9 +6,9 @@ use mathlib.Core.Bool.{not}
 use Prim.Native.Nat.{_+_, _-_, _≤_}
 use Rattle.rules.specs.Entries.{isThere}
 use Rattle.lists.specs.Lists.{tab, place}
+use Rattle.lists.proofs.Scans.{scan-start, scan-next, scan-found, scan-done}
 use Rattle.tables.specs.Layout.{slotAt, slotsOf}
 use Rattle.tables.specs.Moves.{freeIn}
-use Rattle.tables.proofs.Scans.{scan-start, scan-next, scan-found, scan-done}
 use Rattle.tables.proofs.locks.free_slot.Statement.{statement}
 use Rattle.tables.proofs.locks.free_slot.Tie as tie
 

@@ -5,9 +5,9 @@ use mathlib.Core.Path.{_≡_}
 use Prim.Native.Nat.{_+_, _-_, _≤_}
 use lib.Dec.{eqb}
 use Rattle.lists.specs.Lists.{tab, place}
+use Rattle.lists.proofs.Scans.{scan-start-of, scan-next, scan-found, scan-done}
 use Rattle.tables.specs.Layout.{queuedAt, queueOf}
 use Rattle.tables.specs.Moves.{waitsIn}
-use Rattle.tables.proofs.Scans.{scan-start-of, scan-next, scan-found, scan-done}
 use Rattle.tables.proofs.queue.place_in_queue.Statement.{statement}
 use Rattle.tables.proofs.queue.place_in_queue.Tie as tie
 

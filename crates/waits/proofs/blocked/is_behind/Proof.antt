@@ -4,10 +4,11 @@ use borrow.Author.Needs.{needs}
 use Prim.Native.Nat.{_≤_, _-_}
 use mathlib.Core.Path.{_≡_}
 use Rattle.lists.specs.Lists.{any, tab}
+use Rattle.lists.proofs.Scans.{any-step, any-hit, any-end}
 use Rattle.tables.specs.Layout.{queuedAt}
 use Rattle.waits.specs.Choices.{bookWant}
 use Rattle.waits.specs.Blocks.{isRival, isBehind}
-use Rattle.waits.proofs.Blocks.{scan-next, scan-found, scan-none, behind-held, behind-start}
+use Rattle.waits.proofs.Blocks.{behind-held, behind-start}
 use Rattle.waits.proofs.blocked.is_behind.Statement.{statement}
 use Rattle.waits.proofs.blocked.is_behind.Tie as tie
 
@@ -30,7 +31,7 @@ is-rival-requires : tie.Need-is-rival-requires Inv-loop μ-loop
 is-rival-requires c κs = search needs
 
 returns-2 : tie.Need-returns-2 Inv-loop μ-loop
-returns-2 c = search (needs, scan-found)
+returns-2 c = search (needs, any-hit)
 
 add-i : tie.Need-add-i Inv-loop μ-loop
 add-i c = search needs
@@ -39,10 +40,10 @@ loop-less : tie.Need-loop-less Inv-loop μ-loop
 loop-less c = search needs
 
 loop-again : tie.Need-loop-again Inv-loop μ-loop
-loop-again c = (search needs, search (needs, scan-next))
+loop-again c = (search needs, search (needs, any-step))
 
 returns-3 : tie.Need-returns-3 Inv-loop μ-loop
-returns-3 c = search (needs, scan-none)
+returns-3 c = search (needs, any-end)
 
 pub is-behind-spec : {M : Type 1} → statement M
 is-behind-spec =

@@ -4,6 +4,7 @@ use borrow.Author.Needs.{needs}
 use Prim.Native.Nat.{_≤_, _-_}
 use mathlib.Core.Path.{_≡_}
 use Rattle.lists.specs.Lists.{any, tab}
+use Rattle.lists.proofs.Scans.{any-step}
 use Rattle.rules.specs.Queue.{oldest}
 use Rattle.tables.specs.Layout.{slotAt, slotsOf}
 use Rattle.tables.specs.Moves.{isSlotAgainst}
@@ -11,7 +12,7 @@ use Rattle.desks.specs.States.{book, stateOf}
 use Rattle.waits.specs.declared.Place.the-variants.{Nowhere}
 use Rattle.waits.specs.Choices.{bookWant}
 use Rattle.waits.proofs.Known.{place-under}
-use Rattle.waits.proofs.Blocks.{slots-start, scan-next}
+use Rattle.waits.proofs.Blocks.{slots-start}
 use Rattle.waits.proofs.Queue.{oldestFrom, oldest-start, turn-left, turn-held, turn-behind, turn-free}
 use Rattle.waits.proofs.blocked.oldest.Statement.{statement}
 use Rattle.waits.proofs.blocked.oldest.Tie as tie
@@ -64,7 +65,7 @@ loop-less : tie.Need-loop-less Inv-loop μ-loop Inv-queue μ-queue
 loop-less c = search needs
 
 loop-again : tie.Need-loop-again Inv-loop μ-loop Inv-queue μ-queue
-loop-again c = (search needs, (search needs, search (needs, scan-next)))
+loop-again c = (search needs, (search needs, search (needs, any-step)))
 
 is-behind-requires : tie.Need-is-behind-requires Inv-loop μ-loop Inv-queue μ-queue
 is-behind-requires c κs = search needs

@@ -3,11 +3,12 @@
 use borrow.Author.Needs.{needs}
 use mathlib.Core.Path.{_≡_}
 use Prim.Native.Nat.{_-_, _≤_}
+use Rattle.lists.proofs.Scans.{all-bad, all-step, all-end}
 use Rattle.pages.specs.Layout.{entryAt, entriesOf}
 use Rattle.index.specs.Pictures.{pageAt}
 use Rattle.lists.specs.Lists.{tab, all}
 use Rattle.whole.specs.Checks.{entryHeld}
-use Rattle.whole.proofs.LockTurns.{count-few, held-start, all-bad, all-step, all-end}
+use Rattle.whole.proofs.LockTurns.{count-few, held-start}
 use Rattle.whole.proofs.locks.are_held.Statement.{statement}
 use Rattle.whole.proofs.locks.are_held.Tie as tie
 

@@ -3,10 +3,10 @@
 use borrow.Author.Needs.{needs}
 use mathlib.Core.Path.{_≡_}
 use Prim.Native.Nat.{_-_, _≤_}
+use Rattle.lists.proofs.Scans.{all-bad, all-step, all-end}
 use Rattle.lists.specs.Lists.{tab, all}
 use Rattle.tables.specs.Layout.{slotAt, slotsOf}
 use Rattle.whole.specs.Checks.{slotNamed}
-use Rattle.whole.proofs.LockTurns.{all-bad, all-step, all-end}
 use Rattle.whole.proofs.locks.are_named.Statement.{statement}
 use Rattle.whole.proofs.locks.are_named.Tie as tie
 

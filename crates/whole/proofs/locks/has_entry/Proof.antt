@@ -3,11 +3,12 @@
 use borrow.Author.Needs.{needs}
 use mathlib.Core.Path.{_≡_}
 use Prim.Native.Nat.{_-_, _≤_}
+use Rattle.lists.proofs.Scans.{any-hit, any-step, any-end}
 use Rattle.pages.specs.Layout.{entryAt, entriesOf}
 use Rattle.index.specs.Pictures.{pageAt}
 use Rattle.lists.specs.Lists.{tab, any}
 use Rattle.whole.specs.Checks.{hasKey}
-use Rattle.whole.proofs.LockTurns.{count-few, key-start, any-hit, any-step, any-end}
+use Rattle.whole.proofs.LockTurns.{count-few, key-start}
 use Rattle.whole.proofs.locks.has_entry.Statement.{statement}
 use Rattle.whole.proofs.locks.has_entry.Tie as tie
 

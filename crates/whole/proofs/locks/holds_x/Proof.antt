@@ -3,10 +3,10 @@
 use borrow.Author.Needs.{needs}
 use mathlib.Core.Path.{_≡_}
 use Prim.Native.Nat.{_-_, _≤_}
+use Rattle.lists.proofs.Scans.{any-hit, any-step, any-end}
 use Rattle.lists.specs.Lists.{tab, any}
 use Rattle.tables.specs.Layout.{slotAt, slotsOf}
 use Rattle.whole.specs.Checks.{slotHolds}
-use Rattle.whole.proofs.LockTurns.{any-hit, any-step, any-end}
 use Rattle.whole.proofs.locks.holds_x.Statement.{statement}
 use Rattle.whole.proofs.locks.holds_x.Tie as tie
 

@@ -3,10 +3,11 @@
 use borrow.Author.Needs.{needs}
 use mathlib.Core.Path.{_≡_}
 use Prim.Native.Nat.{_+_, _-_, _≤_}
+use Rattle.lists.proofs.Scans.{all-bad, all-step, all-end}
 use Rattle.lists.specs.Lists.{tab, all}
 use Rattle.tables.specs.Layout.{slotAt}
 use Rattle.whole.specs.Checks.{slotTogether}
-use Rattle.whole.proofs.LockTurns.{later-free, all-bad, all-step, all-end}
+use Rattle.whole.proofs.LockTurns.{later-free}
 use Rattle.whole.proofs.locks.stands_with_later.Statement.{statement}
 use Rattle.whole.proofs.locks.stands_with_later.Tie as tie
 

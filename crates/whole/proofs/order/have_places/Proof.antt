@@ -4,9 +4,9 @@
 use borrow.Author.Needs.{needs}
 use mathlib.Core.Path.{_≡_}
 use Prim.Native.Nat.{_-_, _≤_}
+use Rattle.lists.proofs.Scans.{all-bad, all-step, all-end}
 use Rattle.lists.specs.Lists.{tab, all}
 use Rattle.whole.specs.Orders.{hasPlace}
-use Rattle.whole.proofs.LockTurns.{all-bad, all-step, all-end}
 use Rattle.whole.proofs.order.have_places.Statement.{statement}
 use Rattle.whole.proofs.order.have_places.Tie as tie
 

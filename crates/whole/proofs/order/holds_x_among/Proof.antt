@@ -4,10 +4,10 @@
 use borrow.Author.Needs.{needs}
 use mathlib.Core.Path.{_≡_}
 use Prim.Native.Nat.{_-_}
+use Rattle.lists.proofs.Scans.{any-hit, any-step, any-end}
 use Rattle.lists.specs.Lists.{tab, any}
 use Rattle.whole.specs.Checks.{slotHolds}
 use Rattle.whole.specs.Orders.{placed}
-use Rattle.whole.proofs.LockTurns.{any-hit, any-step, any-end}
 use Rattle.whole.proofs.order.holds_x_among.Statement.{statement}
 use Rattle.whole.proofs.order.holds_x_among.Tie as tie
 

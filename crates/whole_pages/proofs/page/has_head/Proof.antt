@@ -2,7 +2,6 @@
 -- Assumes nothing.
 use borrow.Author.Needs.{needs}
 use Rattle.whole_pages.specs.Checks.{headOk}
-use borrow.Author.Needs.{needs}
 use Rattle.whole_pages.proofs.page.has_head.Statement.{statement}
 use Rattle.whole_pages.proofs.page.has_head.Tie as tie
 

@@ -3,7 +3,6 @@
 use borrow.Author.Needs.{needs}
 use Rattle.whole_pages.specs.Checks.{fillersOk, childFieldsAt}
 use Rattle.numbers.specs.Numbers.{fieldsAt}
-use borrow.Author.Needs.{needs}
 use Rattle.whole_pages.proofs.page.is_child.Statement.{statement}
 use Rattle.whole_pages.proofs.page.is_child.Tie as tie
 

@@ -3,7 +3,6 @@
 use borrow.Author.Needs.{needs}
 use Rattle.whole_pages.specs.Checks.{entryOk, entryFieldsAt}
 use Rattle.numbers.specs.Numbers.{fieldsAt}
-use borrow.Author.Needs.{needs}
 use Rattle.whole_pages.proofs.page.is_entry.Statement.{statement}
 use Rattle.whole_pages.proofs.page.is_entry.Tie as tie
 

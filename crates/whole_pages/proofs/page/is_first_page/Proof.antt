@@ -2,7 +2,6 @@
 -- Assumes nothing.
 use borrow.Author.Needs.{needs}
 use Rattle.whole_pages.specs.Checks.{firstPageOk}
-use borrow.Author.Needs.{needs}
 use Rattle.whole_pages.proofs.page.is_first_page.Statement.{statement}
 use Rattle.whole_pages.proofs.page.is_first_page.Tie as tie
 

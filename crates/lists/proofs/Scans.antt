@@ -1,16 +1,16 @@
--- The place of the first element that passes a test: what one turn of a scan over a table comes to, and what stands at that place.
--- A scan that has passed i places without success has i and the place in the rest. Assumes nothing.
+-- Scans over a table, place by place: for the first that passes a test, for one that does, and for one that does not; and what stands at
+-- the place of the first. A scan that has passed i places has what is sought in the rest from i on. Assumes nothing.
 use Prim.Native.Nat.{ℕ, suc, _+_, _-_, _≤_, _<_}
 use mathlib.Core.Path.{_≡_, refl, sym, ap, _∙_}
-use mathlib.Core.Bool.{Bool, true, false, cond, _||_, false≢true}
+use mathlib.Core.Bool.{Bool, true, false, cond, _||_, false≢true, _&&_, not}
 use mathlib.Core.List.{List, [], _∷_}
 use native.Mathlib.Nat.{sub-zero}
 use native.Mathlib.Omega.{arith}
-use borrow.Author.Tests.{lt-ltb}
+use borrow.Author.Tests.{lt-ltb, not-false, not-true}
 use lib.Dec.{ltb, leb·suc-suc}
 use lib.ListN.{length, getD}
-use Rattle.lists.specs.Lists.{any, tab, place}
-use Rattle.lists.proofs.Tables.{tab-next, tab-done}
+use Rattle.lists.specs.Lists.{any, tab, place, all}
+use Rattle.lists.proofs.Tables.{tab-next, tab-done, all-done, all-next, any-done, any-next}
 
 module _ {A : Type 0} (p : A → Bool) where
   place-hit : (x : A) (xs : List A) → p x ≡ true → place p (x ∷ xs) ≡ 0
@@ -67,3 +67,23 @@ module _ {A : Type 0} (p : A → Bool) where
           → p (getD (x ∷ xs) (cond b 0 (suc (place p xs))) d) ≡ true
       go true q e r = q
       go false q e r = r e
+
+-- ---- whether all pass, and whether one does
+module _ {A : Type 0} (p : A → Bool) (f : ℕ → A) (whole : Bool) (n i : ℕ) where
+  pub all-bad : (b : Bool) → whole ≡ all p (tab (n - i) i f) → i < n → b ≡ p (f i) → not b ≡ true → false ≡ whole
+  all-bad b inv l e t = sym (inv ∙ all-next p n i f l ∙ ap (λ x. x && all p (tab (n - (i + 1)) (i + 1) f)) (sym e ∙ not-true b t))
+
+  pub all-step : (b : Bool) → whole ≡ all p (tab (n - i) i f) → i < n → b ≡ p (f i) → not b ≡ false → whole ≡ all p (tab (n - (i + 1)) (i + 1) f)
+  all-step b inv l e t = inv ∙ all-next p n i f l ∙ ap (λ x. x && all p (tab (n - (i + 1)) (i + 1) f)) (sym e ∙ not-false b t)
+
+  pub all-end : whole ≡ all p (tab (n - i) i f) → n ≤ i → true ≡ whole
+  all-end inv l = sym (inv ∙ all-done p n i f l)
+
+  pub any-hit : (b : Bool) → whole ≡ any p (tab (n - i) i f) → i < n → b ≡ p (f i) → b ≡ true → true ≡ whole
+  any-hit b inv l e t = sym (inv ∙ any-next p n i f l ∙ ap (λ x. x || any p (tab (n - (i + 1)) (i + 1) f)) (sym e ∙ t))
+
+  pub any-step : (b : Bool) → whole ≡ any p (tab (n - i) i f) → i < n → b ≡ p (f i) → b ≡ false → whole ≡ any p (tab (n - (i + 1)) (i + 1) f)
+  any-step b inv l e t = inv ∙ any-next p n i f l ∙ ap (λ x. x || any p (tab (n - (i + 1)) (i + 1) f)) (sym e ∙ t)
+
+  pub any-end : whole ≡ any p (tab (n - i) i f) → n ≤ i → false ≡ whole
+  any-end inv l = sym (inv ∙ any-done p n i f l)

@@ -1,17 +1,44 @@
--- Parts of a buffer that lie side by side: two parts put one behind the other are one part, and a record that is written is a part put.
--- Parts by the laws of take and drop, records by what stands at each byte. Assumes nothing.
+-- Bytes that lie side by side: what stands where in one list behind another and in joined rows of one width, two parts put one behind the
+-- other are one part, and a record that is written is a part put. By the laws of take and drop, or by what stands at each byte. Assumes nothing.
 use mathlib.Core.Path.{_≡_, sym, ap, ap₂, _∙_}
 use mathlib.Core.List.{List, [], _∷_, _++_, append-assoc}
-use Prim.Native.Nat.{ℕ, _+_, _-_, _%_, _≤_}
+use Prim.Native.Nat.{ℕ, _+_, _-_, _%_, _≤_, _*_, _<_, suc, zero}
 use native.Mathlib.Omega.{arith}
-use lib.ListN.{length, take, drop, replicate, length-append, length-replicate}
-use lib.Seq.{length-take-le, take-add, drop-drop, take-take, take-at, drop-at, take-append-le, drop-append-add}
+use lib.ListN.{length, take, drop, replicate, length-append, length-replicate, List·getD-append, getD}
+use lib.Seq.{length-take-le, take-add, drop-drop, take-take, take-at, drop-at, take-append-le, drop-append-add, getD-append-add}
+use native.Mathlib.Nat.{le-of-suc-le-suc, not-suc-le-zero}
+use Rattle.lists.specs.Lists.{join}
 use Rattle.numbers.specs.Numbers.{putNumber, widthOf, putFields, part, putPart}
-use Rattle.numbers.proofs.Agree.{Agree, agree-back, agree-then, agree-within, agree-front, agree-join, agree-all, untouched, touches-wider}
+use Rattle.numbers.proofs.Agree.{Agree, agree-back, agree-then, agree-within, agree-front, agree-join, agree-all, untouched, touches-wider, agree-itself}
 use Rattle.numbers.proofs.Numbers.{length-putNumber, getD-putNumber-in, put-low}
 use Rattle.numbers.proofs.Fields.{touches-putFields, length-putFields}
 use Rattle.numbers.proofs.Parts.{length-part, agree-part, putPart-ext}
 
+-- ---- one list behind another, and rows of one width
+module _ (a b : List ℕ) where
+  pub agree-ahead : {n k : ℕ} {c : List ℕ} {m : ℕ} → k + n ≤ length a → Agree n a k c m → Agree n (a ++ b) k c m
+  agree-ahead {k = k} h g = record { byte = λ i l. List·getD-append a b 0 (k + i) (omega arith) ∙ g .byte i l }
+
+  pub agree-behind : (p : ℕ) {n k : ℕ} {c : List ℕ} {m : ℕ} → p ≡ length a + k → Agree n b k c m → Agree n (a ++ b) p c m
+  agree-behind p {k = k} e g =
+      record {
+        byte = λ i l.
+            let q : p + i ≡ length a + (k + i) = omega arith in
+            ap (λ x. getD (a ++ b) x 0) q ∙ getD-append-add a b (k + i) 0 ∙ g .byte i l;
+      }
+
+module _ {A : Type 0} (f : A → List ℕ) where
+  pub agree-row : (z : ℕ) → ((x : A) → length (f x) ≡ z) → (xs : List A) (i : ℕ) (x : A) → i < length xs
+      → Agree z (join f xs) (z * i) (f (getD xs i x)) 0
+  unfolding join
+  agree-row z e [] i x h = absurd (not-suc-le-zero h)
+  agree-row z e (y ∷ ys) zero x h =
+      let q : z * 0 ≡ 0 = omega arith in
+      rw q (agree-ahead (f y) (join f ys) (omega (arith, e y)) agree-itself)
+  agree-row z e (y ∷ ys) (suc i) x h =
+      agree-behind (f y) (join f ys) (z * suc i) (omega (arith, e y)) (agree-row z e ys i x (le-of-suc-le-suc h))
+
+-- ---- parts
 pub part-append : (at n m : ℕ) (s : List ℕ) → part at (n + m) s ≡ part at n s ++ part (at + n) m s
 unfolding part
 part-append at n m s = take-add n m (drop at s) ∙ ap (λ l. take n (drop at s) ++ take m l) (drop-drop n at s)
