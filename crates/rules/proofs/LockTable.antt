@@ -19,7 +19,7 @@ use Rattle.rules.specs.Good.{Lk, isX, together, holdsX}
 use Rattle.rules.proofs.Keys.{name-equal, name-itself}
 
 -- modes
-conflict-turn : (a b : Mode) → conflict a b ≡ conflict b a
+pub conflict-turn : (a b : Mode) → conflict a b ≡ conflict b a
 conflict-turn S S = refl
 conflict-turn S X = refl
 conflict-turn X S = refl

@@ -24,7 +24,6 @@ use Rattle.entries.specs.declared.Ask.the-variants as AV
 use Rattle.entries.specs.Meaning.{bookAsk}
 use Rattle.tables.specs.declared.Mode as M
 use Rattle.tables.specs.Layout.{nameIn, nameNumber, bookMode, askAt, inPlace, queuedAt}
-use Rattle.tables.proofs.Back.{name-there}
 use Rattle.index.specs.declared.Found.{Found}
 use Rattle.index.specs.declared.Found.the-variants.{Here}
 use Rattle.index.specs.Searches.{seeks, bookFound}

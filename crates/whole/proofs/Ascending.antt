@@ -23,6 +23,7 @@ use Rattle.rules.specs.Locks.{conflict, sameName}
 use Rattle.rules.specs.Good.{together}
 use Rattle.rules.proofs.Orders.{numbers-ordered}
 use Rattle.rules.proofs.Keys.{name-equal}
+use Rattle.rules.proofs.LockTable.{conflict-turn}
 use Rattle.tables.specs.Layout.{lockPlace, nameNumber, slotIn, slotAt, slotsOf}
 use Rattle.desks.specs.States.{book}
 use Rattle.whole.specs.Checks.{slotTogether}
@@ -78,12 +79,6 @@ modes-then S X c e f = absurd (false≢true (sym e))
 modes-then X S c e f = absurd (false≢true (sym e))
 modes-then X X c e f = absurd (false≢true (sym e))
 
-modes-turn : (a b : Mode) → conflict a b ≡ conflict b a
-modes-turn S S = refl
-modes-turn S X = refl
-modes-turn X S = refl
-modes-turn X X = refl
-
 lower-then : (k l p : Lock ℕ) → Lower k l → Lower l p → Lower k p
 lower-then k l p f g =
     let a = f .names in
@@ -128,7 +123,7 @@ first-together (some k) (some l) e =
     let f = lower k l e in (
       goes-together k l (λ n. let s = f .same n in let h : k .holder < l .holder = s .0 in ((λ z. omega arith), s .1)),
       goes-together l k
-          (λ n. let s = f .same (sym n) in let h : k .holder < l .holder = s .0 in ((λ z. omega arith), modes-turn (l .mode) (k .mode) ∙ s .1)),
+          (λ n. let s = f .same (sym n) in let h : k .holder < l .holder = s .0 in ((λ z. omega arith), conflict-turn (l .mode) (k .mode) ∙ s .1)),
     )
 
 -- ---- every two
@@ -284,7 +279,7 @@ together-turn : (x y : Option (Lock ℕ)) → slotTogether x y ≡ slotTogether 
 unfolding together
 together-turn none y = sym (free-second y)
 together-turn (some k) none = refl
-together-turn (some k) (some l) = rw (names-turn (k .name) (l .name), eqb-turn (k .holder) (l .holder), modes-turn (k .mode) (l .mode))
+together-turn (some k) (some l) = rw (names-turn (k .name) (l .name), eqb-turn (k .holder) (l .holder), conflict-turn (k .mode) (l .mode))
 
 pub clash-apart : (d o : List ℕ) (a : ℕ) → length d ≡ 4672 → clashes d o a ≡ true → pairs slotTogether (slotsOf d) ≡ false
 unfolding clashes slotsOf

@@ -25,7 +25,6 @@ use Rattle.trees.proofs.Sorted.{Sorted}
 use Rattle.trees.proofs.Order.{flat-sorted}
 use Rattle.pages.specs.Layout.{rootOf, heightOf}
 use Rattle.index.specs.Pictures.{Item, keyOf, pageAt, treeOf, indexOf, entriesIn}
-use Rattle.index.proofs.Frame.{kid}
 use Rattle.tables.specs.Layout.{nameIn, slotsOf, queueOf, marksOf}
 use Rattle.tables.proofs.Slots.{length-slots}
 use Rattle.tables.proofs.Marks.{length-marks}

@@ -13,7 +13,7 @@ use borrow.Author.Tests.{eqb-true, eq-eqb, le-leb, not-false}
 use lib.Dec.{eqb, leb}
 use lib.ListN.{length, getD}
 use Rattle.lists.specs.Lists.{tab, all, any, pairs, In}
-use Rattle.lists.proofs.Tests.{both, and-both}
+use Rattle.lists.proofs.Tests.{both, and-both, alike}
 use Rattle.lists.proofs.Elements.{all-in, in-all, any-in, in-any, tab-in, in-tab}
 use Rattle.lists.proofs.Tables.{all-of-tab}
 use Rattle.numbers.specs.Numbers.{fieldsAt, zeroAt}
@@ -32,11 +32,6 @@ use Rattle.whole.specs.Orders.{placed, goesUp, clashes, begins, hasPlace
 use Rattle.whole.proofs.Flats.{find-is, owners-is, fine-sorted, fine-small}
 use Rattle.whole.proofs.Ascending.{nameOf, slot-some, order-pairs, order-all, place-some, names-up, each-there, clash-apart}
 use Rattle.whole.proofs.Walks.{heldIn, stretch-is, Passed, past-passed, Ready, walk-arrives}
-
-alike : (a b : Bool) → (a ≡ true → b ≡ true) → (b ≡ true → a ≡ true) → a ≡ b
-alike true b f g = sym (f refl)
-alike false true f g = g refl
-alike false false f g = refl
 
 -- ---- a lock at a place
 on-name : (y : Option (Lock ℕ)) → isThere y ≡ true → (x : ℕ) → slotOn x y ≡ eqb (nameOf y) x

@@ -11,7 +11,7 @@ use lib.Dec.{eqb, leb}
 use lib.ListN.{length}
 use Rattle.lists.specs.Lists.{tab, all}
 use Rattle.lists.proofs.Tests.{and-left, and-right}
-use Rattle.lists.proofs.Tables.{tab-next, tab-done, all-next, all-done}
+use Rattle.lists.proofs.Tables.{tab-next, tab-done}
 use Rattle.numbers.specs.Numbers.{numberAt, fieldsAt, zeroAt}
 use Rattle.tables.specs.Layout.{queued, inPlace, isRunning}
 use Rattle.whole_pages.specs.declared.Trail.{Trail}
@@ -80,17 +80,6 @@ module _ (d : List ℕ) (n : ℕ) (c : n ≡ numberAt 2 d 4) where
   pub askers-end : (m i : ℕ) → askersIn d ≡ marks 17 (tab (n - i) i (inPlace d)) m → n ≤ i → Went m ≡ askersIn d
   unfolding marks
   askers-end m i inv l = sym (inv ∙ ap (λ ts. marks 17 ts m) (tab-done n i (inPlace d) l))
-
--- ---- a test of each place, from one on
-module _ (p : ℕ → Bool) (whole : Bool) (n i : ℕ) (inv : whole ≡ all p (tab (n - i) i (λ k. k))) where
-  pub each-bad : (b : Bool) → i < n → b ≡ p i → not b ≡ true → false ≡ whole
-  each-bad b l e t = sym (inv ∙ all-next p n i (λ k. k) l ∙ ap (λ x. x && all p (tab (n - (i + 1)) (i + 1) (λ k. k))) (sym e ∙ not-true b t))
-
-  pub each-next : (b : Bool) → i < n → b ≡ p i → not b ≡ false → whole ≡ all p (tab (n - (i + 1)) (i + 1) (λ k. k))
-  each-next b l e t = inv ∙ all-next p n i (λ k. k) l ∙ ap (λ x. x && all p (tab (n - (i + 1)) (i + 1) (λ k. k))) (sym e ∙ not-false b t)
-
-  pub each-end : n ≤ i → true ≡ whole
-  each-end l = sym (inv ∙ all-done p n i (λ k. k) l)
 
 -- ---- a slot
 module _ (d : List ℕ) (i name holder mode rest : ℕ) (a : name ≡ numberAt 8 d (576 + 16 * i)) (b : holder ≡ numberAt 2 d (576 + 16 * i + 8))

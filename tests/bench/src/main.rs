@@ -10,7 +10,7 @@ use desk::pictures::{FAR, all_locks_s, all_locks_x, settled};
 use model::desk::Picture;
 use model::picture::Tables;
 use timing::{Times, single_calls};
-use work::{Session, in_any_slots, read_on, reader};
+use work::{Session, in_any_slots, read_on, reader, with_lock_astray};
 
 fn main() {
     println!("{}", machine::description());
@@ -50,6 +50,11 @@ fn judging() {
     for (name, tables) in pictures {
         row(name, &single_calls(&in_any_slots(tables), [(&[], 12)])[0]);
     }
+    let astray = in_any_slots(with_lock_astray(all_locks_s(778, 1)));
+    row(
+        "778 entries, 256 S locks, one on no entry: not whole",
+        &single_calls(&astray, [(&[], 11)])[0],
+    );
 }
 
 fn one_call() {

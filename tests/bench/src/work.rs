@@ -21,6 +21,13 @@ pub fn in_any_slots(mut tables: Tables) -> Picture {
     tables.encode()
 }
 
+/// The picture with its first lock moved to a name that no entry has: so it isn't whole.
+pub fn with_lock_astray(mut tables: Tables) -> Tables {
+    let astray = Lock { name: Key::HIGHEST, holder: 1, mode: Mode::S };
+    tables.desk.slots[0] = Slot::Taken(astray);
+    tables
+}
+
 /// A picture with so many entries and S locks of sixteen holders. Transaction 1 holds S on the key
 /// in the middle, or on the end of an empty index.
 pub fn reader(keys: u64, locks: usize) -> Picture {

@@ -4,8 +4,8 @@ use borrow.Author.Needs.{needs}
 use mathlib.Core.Path.{_≡_}
 use Prim.Native.Nat.{_-_, _≤_}
 use Rattle.lists.specs.Lists.{tab, all}
+use Rattle.lists.proofs.Scans.{all-bad, all-step, all-end}
 use Rattle.whole_desk.specs.Checks.{recordOk}
-use Rattle.whole_desk.proofs.DeskTurns.{each-bad, each-next, each-end}
 use Rattle.whole_desk.proofs.are_records.Statement.{statement}
 use Rattle.whole_desk.proofs.are_records.Tie as tie
 
@@ -22,7 +22,7 @@ is-record-requires : tie.Need-is-record-requires Inv-loop μ-loop
 is-record-requires c κs = search needs
 
 returns : tie.Need-returns Inv-loop μ-loop
-returns c = search (needs, each-bad)
+returns c = search (needs, all-bad)
 
 add-t : tie.Need-add-t Inv-loop μ-loop
 add-t c = search needs
@@ -31,10 +31,10 @@ loop-less : tie.Need-loop-less Inv-loop μ-loop
 loop-less c = search needs
 
 loop-again : tie.Need-loop-again Inv-loop μ-loop
-loop-again c = (search needs, (search needs, search (needs, each-next)))
+loop-again c = (search needs, (search needs, search (needs, all-step)))
 
 returns-2 : tie.Need-returns-2 Inv-loop μ-loop
-returns-2 c = search (needs, each-end)
+returns-2 c = search (needs, all-end)
 
 pub are-records-spec : {M : Type 1} → statement M
 are-records-spec =

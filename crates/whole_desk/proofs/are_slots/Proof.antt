@@ -4,8 +4,8 @@ use borrow.Author.Needs.{needs}
 use mathlib.Core.Path.{_≡_}
 use Prim.Native.Nat.{_-_, _≤_}
 use Rattle.lists.specs.Lists.{tab, all}
+use Rattle.lists.proofs.Scans.{all-bad, all-step, all-end}
 use Rattle.whole_desk.specs.Checks.{slotOk}
-use Rattle.whole_desk.proofs.DeskTurns.{each-bad, each-next, each-end}
 use Rattle.whole_desk.proofs.Free.{zero-slots}
 use Rattle.whole_desk.proofs.are_slots.Statement.{statement}
 use Rattle.whole_desk.proofs.are_slots.Tie as tie
@@ -29,7 +29,7 @@ is-slot-requires : tie.Need-is-slot-requires Inv-loop μ-loop
 is-slot-requires c κs = search needs
 
 returns-2 : tie.Need-returns-2 Inv-loop μ-loop
-returns-2 c = search (needs, each-bad)
+returns-2 c = search (needs, all-bad)
 
 add-i : tie.Need-add-i Inv-loop μ-loop
 add-i c = search needs
@@ -38,10 +38,10 @@ loop-less : tie.Need-loop-less Inv-loop μ-loop
 loop-less c = search needs
 
 loop-again : tie.Need-loop-again Inv-loop μ-loop
-loop-again c = (search needs, search (needs, each-next))
+loop-again c = (search needs, search (needs, all-step))
 
 returns-3 : tie.Need-returns-3 Inv-loop μ-loop
-returns-3 c = search (needs, each-end)
+returns-3 c = search (needs, all-end)
 
 pub are-slots-spec : {M : Type 1} → statement M
 are-slots-spec =
