@@ -8,9 +8,10 @@ mod work;
 
 use desk::pictures::{FAR, all_locks_s, all_locks_x, settled};
 use model::desk::Picture;
+use model::key::Key;
 use model::picture::Tables;
 use timing::{Times, single_calls};
-use work::{Session, in_any_slots, read_on, reader, with_lock_astray};
+use work::{Session, in_any_slots, read_on, reader, with_lock_on};
 
 fn main() {
     println!("{}", machine::description());
@@ -43,6 +44,7 @@ fn judging() {
         ("fresh", Tables::fresh()),
         ("778 entries, no locks", settled(778)),
         ("778 entries, 256 S locks of 16 holders", all_locks_s(778, 1)),
+        ("the same, one lock on the end", with_lock_on(Key::END, all_locks_s(778, 1))),
         ("the same, keys that differ in every byte", all_locks_s(778, FAR)),
         ("256 entries, each owned, 256 X locks of 16 holders", all_locks_x(256)),
         ("778 entries, 256 of them owned, 256 X locks of 16 holders", all_locks_x(778)),
@@ -50,7 +52,7 @@ fn judging() {
     for (name, tables) in pictures {
         row(name, &single_calls(&in_any_slots(tables), [(&[], 12)])[0]);
     }
-    let astray = in_any_slots(with_lock_astray(all_locks_s(778, 1)));
+    let astray = in_any_slots(with_lock_on(Key(1_000), all_locks_s(778, 1)));
     row(
         "778 entries, 256 S locks, one on no entry: not whole",
         &single_calls(&astray, [(&[], 11)])[0],

@@ -21,10 +21,9 @@ pub fn in_any_slots(mut tables: Tables) -> Picture {
     tables.encode()
 }
 
-/// The picture with its first lock moved to a name that no entry has: so it isn't whole.
-pub fn with_lock_astray(mut tables: Tables) -> Tables {
-    let astray = Lock { name: Key::HIGHEST, holder: 1, mode: Mode::S };
-    tables.desk.slots[0] = Slot::Taken(astray);
+/// The picture with its first lock moved to another name.
+pub fn with_lock_on(name: Key, mut tables: Tables) -> Tables {
+    tables.desk.slots[0] = Slot::Taken(Lock { name, holder: 1, mode: Mode::S });
     tables
 }
 
