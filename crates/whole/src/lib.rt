@@ -1,9 +1,6 @@
 // Judging a picture: pages and desk. (Document 01, **Whole**.)
 pub mod locks;
-pub mod merging;
 pub mod order;
-pub mod radix;
-pub mod sorting;
 
 ghost use mathlib.Core.Path.{_≡_};
 ghost use Prim.Native.Nat.{_<_};

@@ -15,9 +15,8 @@ ghost use Rattle.whole.specs.Checks.{slotHolds, locksOk, Fine};
 ghost use Rattle.whole.specs.Orders.{placed, comesFirst, goesUp, clashes, begins, hasPlace, slotOn, stretch, pastEntry, past, walked};
 use super::Passage;
 use super::locks;
-use super::sorting;
-use super::sorting::number_in;
 use entries::Key;
+use sorting::number_in;
 use tables::Slot;
 use tables::locks::slot_at;
 
