@@ -36,7 +36,7 @@ fn damages() {
     let mut judge = Judge::new(PLAIN, 6);
     judge.damage_each(&not_at_rest(6, 100), 3);
     judge.damage_each(&at_rest(), 2);
-    judge.damage_each(&[settled(778), all_locks_s(256), all_locks_x(778)], 10);
+    judge.damage_each(&[settled(778), all_locks_s(256, 1), all_locks_x(778)], 10);
     judge.damage_on_damage(&not_at_rest(7, 50), 20);
     let verdicts = judge.verdicts();
     assert!(verdicts.whole >= 500 && verdicts.not_whole >= 5000, "{verdicts:?}");
