@@ -1,11 +1,11 @@
--- `keydesk::answer_piece` meets its contract: every record before `at` is answered, and at least two bytes are passed at each turn.
+-- `streams::answer_piece` meets its contract: every record before `at` is answered, and at least two bytes are passed at each turn.
 -- Assumes nothing.
 use Prim.Native.Nat.{_≤_, _-_}
 use mathlib.Core.Path.{_≡_}
 use lib.ListN.{length}
 use borrow.Author.Needs.{needs}
-use Rattle.keydesk.proofs.answer_piece.Statement.{statement}
-use Rattle.keydesk.proofs.answer_piece.Tie as tie
+use Rattle.streams.proofs.answer_piece.Statement.{statement}
+use Rattle.streams.proofs.answer_piece.Tie as tie
 
 abbrev Inv-loop : tie.InvT-loop
 Inv-loop pages₀ desk₀ answers₀ input end at₀ pages desk answers at = (at ≤ end) × ((length pages ≡ length pages₀) × ((length desk ≡ length desk₀) × (length answers ≡ length answers₀)))

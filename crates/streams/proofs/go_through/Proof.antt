@@ -1,11 +1,11 @@
--- `keydesk::go_through` meets its contract: less than a record is left after each turn. The measure is the turns left.
+-- `streams::go_through` meets its contract: less than a record is left after each turn. The measure is the turns left.
 -- Assumes nothing.
 use Prim.Native.Nat.{_<_}
 use mathlib.Core.Path.{_≡_}
 use lib.ListN.{length}
 use borrow.Author.Needs.{needs}
-use Rattle.keydesk.proofs.go_through.Statement.{statement}
-use Rattle.keydesk.proofs.go_through.Tie as tie
+use Rattle.streams.proofs.go_through.Statement.{statement}
+use Rattle.streams.proofs.go_through.Tie as tie
 
 abbrev Inv-loop : tie.InvT-loop
 Inv-loop pages₀ desk₀ answers₀ input₀ left₀ turns₀ pages desk answers input left turns = (left < 25) × ((length input ≡ 65536) × ((length pages ≡ length pages₀) × ((length desk ≡ length desk₀) × (length answers ≡ length answers₀))))
