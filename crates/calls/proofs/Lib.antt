@@ -1,3 +1,4 @@
 pub mod Determined
 pub mod Runs
 pub mod Bytes
+pub mod Outcomes

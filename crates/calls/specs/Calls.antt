@@ -7,6 +7,8 @@ use mathlib.Core.List.{List, [], _∷_}
 use mathlib.Core.Option.{Option, none, some}
 use lib.Dec.{ltb}
 use lib.ListN.{length, take, replicate}
+use Rattle.lists.specs.Lists.{In}
+use Rattle.numbers.specs.Numbers.{Bytes}
 use Rattle.rules.specs.Kinds.{Call}
 use Rattle.rules.specs.Queue.{St}
 use Rattle.rules.specs.Runs.{Answer}
@@ -40,6 +42,18 @@ pub record FromFresh (as′ : List Sent) (bs : List Back) (p′ d′ : List ℕ)
   pub whole : Whole pages desk
   pub state : stateOf pages desk ≡ fresh book
   pub runs : Runs pages desk as′ bs p′ d′
+
+-- what is sent is bytes
+pub record BytesSent (as′ : List Sent) : Type 0 where
+  pub requests : (a : Sent) → In a as′ → Bytes (a .request)
+  pub spaces : (a : Sent) → In a as′ → Bytes (a .space)
+
+-- where a run from fresh leads
+pub record Led (as′ : List Sent) : Type 0 where
+  pub backs : List Back
+  pub pages : List ℕ
+  pub desk : List ℕ
+  pub run : FromFresh as′ backs pages desk
 
 -- the rule book's call in what was sent; none where the space is short (10) or the record bad (12)
 unfoldable pub callIn : Sent → Option (Call ℕ ℕ)

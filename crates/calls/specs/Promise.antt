@@ -8,6 +8,7 @@ use mathlib.Core.List.{List}
 use mathlib.Core.Option.{none, some}
 use lib.Dec.{eqb, ltb}
 use lib.ListN.{length}
+use Rattle.numbers.specs.Numbers.{Bytes}
 use Rattle.rules.specs.Kinds.{Call}
 use Rattle.rules.specs.Runs.{Worked}
 use Rattle.rules.specs.Desk.{step, fresh}
@@ -23,6 +24,12 @@ pub record Lent : Type 0 where
 
 abbrev pub lent : List ℕ → List ℕ → List ℕ → Lent
 lent p d o = record { pages = p; desk = d; answers = o }
+
+-- what is lent is bytes
+pub record BytesIn (x : Lent) : Type 0 where
+  pub pages : Bytes (x .pages)
+  pub desk : Bytes (x .desk)
+  pub answers : Bytes (x .answers)
 
 -- "10: pages not 32,768 bytes, desk not 4,672, or answers under 320"
 abbrev pub wrongPicture : List ℕ → List ℕ → Bool
@@ -61,3 +68,11 @@ pub data Served (q : List ℕ) (x y : Lent) (r : ℕ) : Type 0 where
 pub data Freshened (p d p′ d′ : List ℕ) (r : ℕ) : Type 0 where
   sizes : wrongPicture p d ≡ true → p′ ≡ p → d′ ≡ d → r ≡ returned 10 0 → Freshened p d p′ d′ r
   made : wrongPicture p d ≡ false → Whole p′ d′ → stateOf p′ d′ ≡ fresh book → r ≡ 0 → Freshened p d p′ d′ r
+
+-- an outcome that keeps the promise. That there is one, for any bytes in all four slices, is proved in proofs/Outcomes.antt; that there is no
+-- second, in proofs/Determined.antt: the promise is a function of bytes.
+pub record Outcome (q : List ℕ) (x : Lent) : Type 0 where
+  pub lent : Lent
+  pub result : ℕ
+  pub served : Served q x lent result
+  pub bytes : BytesIn lent

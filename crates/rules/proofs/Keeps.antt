@@ -1,5 +1,6 @@
 -- One principle for every invariant: what the moves of the desk keep, a turn, a worked queue, a call and a run of calls keep.
--- A move is a begin, a request that joins, a commit, a rollback, a run that nothing blocks, or a refusal on a circle. Assumes nothing.
+-- A move is a begin, a request that joins, a commit, a rollback, a run that nothing blocks, or a refusal on a circle; the last two are
+-- those of a turn, and enough for a worked queue. Assumes nothing.
 use Prim.Native.Nat.{ℕ, zero, suc}
 use mathlib.Core.Path.{_≡_, refl, subst}
 use mathlib.Core.Logic.{inl, inr}
@@ -17,6 +18,11 @@ use Rattle.rules.specs.Runs.{runsAlready, waitsAlready, circle, run, unm
 use Rattle.rules.specs.Desk.{runs, waitsNow, refusal, unlessRuns, ifSo, begun, ended, joined, acts, unless, step, isTransaction, legalAsk, legalRequest, Cl, legalCall, call, stateAfter, after}
 
 module _ (B : Book) where
+  -- P is kept by the two moves of a turn
+  pub record TurnsKept (P : St B → Type 0) : Type 0 where
+    pub goes : (s : St B) (w : Wait B) → In w (waits B s) → w .behind ≡ [] → P s → P (left B s (w .request) (run B s (w .request)) .state)
+    pub givesWay : (s : St B) (w : Wait B) → In w (waits B s) → P s → P (left B s (w .request) (unmoved B s circle) .state)
+
   -- P is kept by every move; of the ends, by those of the transactions that Ends names
   pub record Kept (Ends : ℕ → Type 0) (P : St B → Type 0) : Type 0 where
     pub begins : (s : St B) (t : ℕ) → isTransaction B t ≡ true → runs B s t ≡ false → P s → P (begun B s t)
@@ -26,6 +32,9 @@ module _ (B : Book) where
     pub rollsBack : (s : St B) (t : ℕ) → Ends t → isTransaction B t ≡ true → runs B s t ≡ true → P s → P (ended B rolledBack s t)
     pub goes : (s : St B) (w : Wait B) → In w (waits B s) → w .behind ≡ [] → P s → P (left B s (w .request) (run B s (w .request)) .state)
     pub givesWay : (s : St B) (w : Wait B) → In w (waits B s) → P s → P (left B s (w .request) (unmoved B s circle) .state)
+
+  pub kept-turns : (Ends : ℕ → Type 0) (P : St B → Type 0) → Kept Ends P → TurnsKept P
+  kept-turns Ends P K = record { goes = K .goes; givesWay = K .givesWay }
 
   -- a request that is no end, or the end of one that Ends names
   abbrev pub MayEnd : (ℕ → Type 0) → ℕ → Request (B .Key) (B .Rec) → Type 0
@@ -44,7 +53,7 @@ module _ (B : Book) where
   anyone-may t rollback = tt
   anyone-may t (ask a) = tt
 
-  module _ (Ends : ℕ → Type 0) (P : St B → Type 0) (K : Kept Ends P) where
+  module _ (P : St B → Type 0) (K : TurnsKept P) where
     pub turn-keeps : (s : St B) (o : Turn B) → turn B s ≡ some o → P s → P (o .state)
     unfolding turn oldest newest
     turn-keeps s o e p = by-oldest (oldest B s) refl e
@@ -75,6 +84,10 @@ module _ (B : Book) where
     unfolding worked
     worked-keeps s p = turns-keep (length (s .queue)) s p
 
+  module _ (Ends : ℕ → Type 0) (P : St B → Type 0) (K : Kept Ends P) where
+    rests : (s : St B) → P s → P (worked B s .state)
+    rests = worked-keeps P (kept-turns Ends P K)
+
     pub step-keeps : (s : St B) (t : ℕ) (r : Request (B .Key) (B .Rec)) → isTransaction B t ≡ true → legalRequest B r ≡ true → MayEnd Ends t r
         → P s → P (step B s t r .state)
     unfolding step refusal acts legalRequest
@@ -82,23 +95,23 @@ module _ (B : Book) where
       where
         go : (b : Bool) → runs B s t ≡ b → P (unless B s t (acts B s t begin) (ifSo B b runsAlready) .state)
         go true e = p
-        go false e = worked-keeps (begun B s t) (K .begins s t h e p)
+        go false e = rests (begun B s t) (K .begins s t h e p)
     step-keeps s t commit h l m p = go (runs B s t) (waitsNow B s t) refl refl
       where
         go : (b c : Bool) → runs B s t ≡ b → waitsNow B s t ≡ c → P (unless B s t (acts B s t commit) (unlessRuns B b (ifSo B c waitsAlready)) .state)
         go true true e q = p
-        go true false e q = worked-keeps (ended B committed s t) (K .commits s t m h e q p)
+        go true false e q = rests (ended B committed s t) (K .commits s t m h e q p)
         go false c e q = p
     step-keeps s t rollback h l m p = go (runs B s t) refl
       where
         go : (b : Bool) → runs B s t ≡ b → P (unless B s t (acts B s t rollback) (unlessRuns B b none) .state)
-        go true e = worked-keeps (ended B rolledBack s t) (K .rollsBack s t m h e p)
+        go true e = rests (ended B rolledBack s t) (K .rollsBack s t m h e p)
         go false e = p
     step-keeps s t (ask a) h l m p = go (runs B s t) (waitsNow B s t) refl refl
       where
         go : (b c : Bool) → runs B s t ≡ b → waitsNow B s t ≡ c → P (unless B s t (acts B s t (ask a)) (unlessRuns B b (ifSo B c waitsAlready)) .state)
         go true true e q = p
-        go true false e q = worked-keeps (joined B s t a) (K .joins s t a e q l p)
+        go true false e q = rests (joined B s t a) (K .joins s t a e q l p)
         go false c e q = p
 
     pub call-keeps : (s : St B) (c : Cl B) → MayEnd Ends (c .asker) (c .request) → P s → P (stateAfter B s (call B s c))

@@ -1,0 +1,140 @@
+-- For any bytes there is an outcome that keeps the promise of a call, and so a run of any calls from fresh. A picture that is whole says a
+-- drawable state; the rule book's step leaves one; and that one is written as a whole picture. Assumes nothing.
+use Prim.Native.Nat.{ℕ, _+_, _*_}
+use mathlib.Core.Path.{_≡_, refl, sym, subst}
+use mathlib.Core.Logic.{inl, inr}
+use mathlib.Core.Bool.{Bool, true, false, not, true≢false}
+use mathlib.Core.List.{List, [], _∷_}
+use mathlib.Core.Option.{Option, none, some}
+use borrow.Author.Tests.{eqb-true, not-false}
+use lib.Dec.{eqb}
+use lib.ListN.{length}
+use Rattle.lists.proofs.Tests.{and-left, and-right, neither}
+use Rattle.numbers.specs.Numbers.{Bytes}
+use Rattle.numbers.proofs.Kept.{bytes-putFields}
+use Rattle.rules.specs.Kinds.{Ask, read, insert, delete, Request, ask, Call}
+use Rattle.rules.specs.Queue.{St}
+use Rattle.rules.specs.Runs.{Answer}
+use Rattle.rules.specs.Desk.{isTransaction, legalRequest}
+use Rattle.entries.specs.Records.{heard, answerWidths, answerFields, putAnswer, written}
+use Rattle.entries.proofs.Number12.{RequestFits, heard-legal, heard-fits}
+use Rattle.desks.specs.States.{book, stateOf}
+use Rattle.desks.specs.Fitting.{AskFits}
+use Rattle.desks.proofs.Desks.{bytes-desk}
+use Rattle.whole.specs.Whole.{Whole, Judged}
+use Rattle.whole.specs.Checks.{wholeOk}
+use Rattle.whole.specs.Fresh.{freshPages, freshDesk}
+use Rattle.whole.proofs.Judging.{judged}
+use Rattle.whole.proofs.Fresh.{fresh-picture}
+use Rattle.pictures.specs.Drawing.{pagesFor, deskFor, Drawable}
+use Rattle.pictures.proofs.Bytes.{whole-pages-bytes}
+use Rattle.pictures.proofs.Pictures.{pictured}
+use Rattle.pictures.proofs.Drawable.{whole-drawable, step-drawable}
+use Rattle.calls.specs.Promise.{Lent, lent, BytesIn, wrongPicture, shortSpace, wrongSizes, returned, stepOf, Served, Outcome}
+use Rattle.calls.specs.Calls.{Sent, Back, Runs, BytesSent, Led}
+
+-- ---- bytes
+pub whole-bytes : (p d : List ℕ) → Whole p d → Bytes p × Bytes d
+whole-bytes p d w = (whole-pages-bytes p (w .pages), subst Bytes (sym (w .desk)) (bytes-desk _ _ _))
+
+answers-bytes : (s : List ℕ) (at : ℕ) (xs : List (Answer ℕ ℕ)) → Bytes s → Bytes (written s at xs)
+unfolding written putAnswer
+answers-bytes s at [] f = f
+answers-bytes s at (x ∷ xs) f = answers-bytes (putAnswer s at x) (at + 20) xs (bytes-putFields answerWidths s at (answerFields x) f)
+
+-- ---- what is heard fits
+asked-fits : (r : Request ℕ ℕ) → RequestFits r → (a : Ask ℕ ℕ) → r ≡ ask a → AskFits a
+asked-fits r f a e = go a (subst RequestFits e f)
+  where
+    go : (a : Ask ℕ ℕ) → RequestFits (ask a) → AskFits a
+    go (read lo hi) g = (g .0, g .1 .0)
+    go (insert k r) g = g
+    go (delete k) g = g
+
+-- ---- one call
+module _ (q : List ℕ) (x : Lent) (heard-bytes : Bytes q) (b : BytesIn x) where
+  as-it-was : (r : ℕ) → Served q x x r → Outcome q x
+  as-it-was r h = record { lent = x; result = r; served = h; bytes = b }
+
+  answered : wrongSizes x ≡ false → Whole (x .pages) (x .desk) → (c : Call ℕ ℕ) → heard q ≡ some c → Outcome q x
+  answered e w c k =
+      record {
+        lent = y;
+        result = returned 0 (20 * length (stepOf c x .answers));
+        served =
+            Served.good c (20 * length (stepOf c x .answers)) e w k
+            (record { whole = drawn .0; state = drawn .1; answers = refl; bytes = refl }) refl;
+        bytes =
+            let f = whole-bytes (y .pages) (y .desk) (drawn .0) in
+            record { pages = f .0; desk = f .1; answers = answers-bytes (x .answers) 0 (stepOf c x .answers) (b .answers) };
+      }
+    where
+      s : St book
+      s = stepOf c x .state
+
+      y : Lent
+      y = lent (pagesFor s) (deskFor s) (written (x .answers) 0 (stepOf c x .answers))
+
+      drawable : Drawable s
+      drawable =
+          let l = heard-legal (book .paging) q c k in
+          step-drawable (stateOf (x .pages) (x .desk)) (c .asker) (c .request) (and-left (isTransaction book (c .asker)) (legalRequest book (c .request)) l)
+          (and-right (isTransaction book (c .asker)) (legalRequest book (c .request)) l)
+          (asked-fits (c .request) (heard-fits q c heard-bytes k .request)) (whole-drawable (x .pages) (x .desk) w)
+
+      drawn : Whole (pagesFor s) (deskFor s) × (stateOf (pagesFor s) (deskFor s) ≡ s)
+      drawn = pictured s drawable
+
+  by-heard : wrongSizes x ≡ false → Whole (x .pages) (x .desk) → (o : Option (Call ℕ ℕ)) → heard q ≡ o → Outcome q x
+  by-heard e w none k = as-it-was (returned 12 0) (Served.bad e w k refl refl)
+  by-heard e w (some c) k = answered e w c k
+
+  by-whole : wrongSizes x ≡ false → (v : Bool) → Judged (x .pages) (x .desk) v → Outcome q x
+  by-whole e true j = by-heard e (j .sound refl) (heard q) refl
+  by-whole e false j = as-it-was (returned 11 0) (Served.broken e (λ w. true≢false (sym (j .complete w))) refl refl)
+
+  by-sizes : (v : Bool) → wrongSizes x ≡ v → Outcome q x
+  by-sizes true e = as-it-was (returned 10 0) (Served.sizes e refl refl)
+  by-sizes false e =
+      let wrong = neither (wrongPicture (x .pages) (x .desk)) (shortSpace (x .answers)) e .0 in
+      let sizes = neither (not (eqb (length (x .pages)) 32768)) (not (eqb (length (x .desk)) 4672)) wrong in
+      by-whole e (wholeOk (x .pages) (x .desk))
+      (judged (x .pages) (x .desk) (eqb-true (length (x .pages)) 32768 (not-false _ (sizes .0)))
+      (eqb-true (length (x .desk)) 4672 (not-false _ (sizes .1))) (b .pages) (b .desk) (wholeOk (x .pages) (x .desk)) refl)
+
+-- "for any bytes of any length"
+pub some-outcome : (q : List ℕ) (x : Lent) → Bytes q → BytesIn x → Outcome q x
+some-outcome q x f b = by-sizes q x f b (wrongSizes x) refl
+
+-- ---- a run of calls
+record Onward (p d : List ℕ) (as′ : List Sent) : Type 0 where
+  backs : List Back
+  pages : List ℕ
+  desk : List ℕ
+  runs : Runs p d as′ backs pages desk
+
+some-runs : (as′ : List Sent) → BytesSent as′ → (p d : List ℕ) → Bytes p → Bytes d → Onward p d as′
+some-runs [] f p d g h = record { backs = []; pages = p; desk = d; runs = Runs.rest }
+some-runs (a ∷ as′) f p d g h =
+    let o = some-outcome (a .request) (lent p d (a .space)) (f .requests a (inl refl))
+    (record { pages = g; desk = h; answers = f .spaces a (inl refl) }) in
+    let n = some-runs as′ (record { requests = λ c i. f .requests c (inr i); spaces = λ c i. f .spaces c (inr i) }) (o .lent .pages) (o .lent .desk)
+    (o .bytes .pages) (o .bytes .desk) in
+    record {
+      backs = record { result = o .result; space = o .lent .answers } ∷ n .backs;
+      pages = n .pages;
+      desk = n .desk;
+      runs = Runs.next (o .served) (n .runs);
+    }
+
+pub some-run : (as′ : List Sent) → BytesSent as′ → Led as′
+some-run as′ f =
+    let w = fresh-picture in
+    let g = whole-bytes freshPages freshDesk (w .0) in
+    let n = some-runs as′ f freshPages freshDesk (g .0) (g .1) in
+    record {
+      backs = n .backs;
+      pages = n .pages;
+      desk = n .desk;
+      run = record { pages = freshPages; desk = freshDesk; whole = w .0; state = w .1; runs = n .runs };
+    }

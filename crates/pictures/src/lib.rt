@@ -1,0 +1,1 @@
+// The picture of a state: definitions and theorems; no code of its own.
