@@ -1,6 +1,6 @@
 -- The table of cases on bytes: each call sent as its record to a picture that was fresh gives back what the case states, and leaves the
 -- picture that says its scene. The records are heard as their calls, by computation; what a run gives back is the rule book's, by the laws
--- of runs; and the rule book gives what is stated, by the table over the tree of pages. Assumes nothing.
+-- of runs; the rule book gives what is stated, by the table over the tree of pages; and the literal bytes are computed. Assumes nothing.
 use Prim.Native.Nat.{ℕ, _≤_, compare}
 use mathlib.Core.Path.{_≡_, refl, sym, ap, ap₂, _∙_}
 use mathlib.Core.Bool.{Bool, true, false, cond, not, false≢true}
@@ -14,7 +14,6 @@ use lib.ListN.{length, getD, drop}
 use Rattle.lists.specs.Lists.{In, all, join, isNil}
 use Rattle.lists.proofs.Tests.{and-left, and-right}
 use Rattle.lists.proofs.Elements.{all-in}
-use Rattle.numbers.specs.Numbers as N
 use Rattle.rules.specs.Kinds.{Call}
 use Rattle.rules.specs.Queue.{St}
 use Rattle.rules.specs.Runs.{Answer, Worked}
@@ -27,7 +26,7 @@ use Rattle.desks.specs.States.{book}
 use Rattle.calls.specs.Promise.{shortSpace}
 use Rattle.calls.specs.Calls.{Sent, Back, callIn, with, callsIn, refuses, backIf, backOf, onward, backsFrom, wrote, bytesOf}
 use Rattle.cases.specs.Overs as O
-use Rattle.cases.proofs.Computing.{the-records, the-cases}
+use Rattle.cases.proofs.Computing.{the-records, the-answers, the-cases}
 use Rattle.cases.proofs.Table.{cases-hold-in-pages}
 use Rattle.calls.proofs.Runs.{run-from-fresh}
 use Rattle.calls.proofs.Bytes.{refusal-wrote, answers-wrote}
@@ -39,7 +38,7 @@ heardAs o = W.heard (O.requestRecord (o .bowled))
 abbrev pub legally : C.Over → Option (Call ℕ ℕ)
 legally o = cond (D.legalCall book (o .bowled)) (some (o .bowled)) none
 
-records-heard : map (λ (c : C.Case). map heardAs (c .overs)) C.cases ≡ map (λ (c : C.Case). map legally (c .overs)) C.cases
+records-heard : map (λ (c : O.Scored). map heardAs (c .case .overs)) O.scorecard ≡ map (λ (c : O.Scored). map legally (c .case .overs)) O.scorecard
 unfolding D.legalAsk D.legalRequest the-records the-cases
 records-heard = refl
 
@@ -144,46 +143,77 @@ back-bytes o (some xs) r f =
     let few : length xs ≤ 16 = leb-true (length xs) 16 f in answers-wrote o xs room (omega arith)
 
 backs-bytes : (os : List C.Over) (as′ : List Sent) → Sends os as′ → Roomy as′ → all fewIn os ≡ true
-    → join wrote (O.statedBacks os as′) ≡ O.statedBytes os
-unfolding O.statedBacks all join
+    → map wrote (O.statedBacks os as′) ≡ map O.statedBytes os
+unfolding O.statedBacks all
 backs-bytes [] [] h r f = refl
 backs-bytes [] (a ∷ as′) h r f = refl
 backs-bytes (o ∷ os) [] h r f = absurd (false≢true (sym (ap isNil h)))
 backs-bytes (o ∷ os) (a ∷ as′) h r f =
-    ap₂ _++_
+    ap₂ _∷_
     (back-bytes (a .space) (o .answered) (not-true _ (and-left (not (shortSpace (a .space))) _ r)) (and-left (fewIn o) _ f))
     (backs-bytes os as′ (ap (drop 1) h) (and-right (not (shortSpace (a .space))) _ r) (and-right (fewIn o) _ f))
 
-cases-few : all (λ (c : C.Case). all fewIn (c .overs)) C.cases ≡ true
+cases-few : all (λ (c : O.Scored). all fewIn (c .case .overs)) O.scorecard ≡ true
 unfolding all the-cases
 cases-few = refl
 
-pub first-bytes : O.FirstBytes
-unfolding join W.putAnswer W.answerFields N.putFields N.putNumber C.readerWaits
-first-bytes = refl
+-- ---- the literal bytes: what the scorecard says is what the stated answers are in bytes
+abbrev pub scoredBytes : O.Scored → List (List ℕ)
+scoredBytes c = map (λ (w : O.Wrote). w .bytes) (c .wrote)
 
--- ---- a case holds on bytes, if the rule book plays it as stated, its records are heard as its calls, and its answers are few
-pub record Plays (c : C.Case) : Type 0 where
-  pub holds : C.played (treePaging compare 0 documentSizes) c ≡ C.stated c
-  pub heard : map heardAs (c .overs) ≡ map legally (c .overs)
-  pub few : all fewIn (c .overs) ≡ true
+abbrev pub bytesThere : O.Scored → List (List ℕ)
+bytesThere c = map (λ (w : O.Wrote). getD (map O.statedBytes (c .case .overs)) (w .call) []) (c .wrote)
 
-pub plays-on-bytes : (c : C.Case) → Plays c → (as′ : List Sent) (bs : List Back) (p d : List ℕ) → O.Bowled c as′ bs p d → O.Holds c as′ bs p d
-unfolding C.played C.stated
+cases-scored : map bytesThere O.scorecard ≡ map scoredBytes O.scorecard
+unfolding the-answers the-cases
+cases-scored = refl
+
+-- ---- a case holds on bytes, if the rule book plays it as stated, its records are heard as its calls, its answers are few, and the literal
+-- bytes are theirs
+pub record Plays (c : O.Scored) : Type 0 where
+  pub holds : C.played (treePaging compare 0 documentSizes) (c .case) ≡ C.stated (c .case)
+  pub heard : map heardAs (c .case .overs) ≡ map legally (c .case .overs)
+  pub few : all fewIn (c .case .overs) ≡ true
+  pub literally : bytesThere c ≡ scoredBytes c
+
+pub plays-on-bytes : (c : O.Scored) → Plays c → (as′ : List Sent) (bs : List Back) (p d : List ℕ) → O.Bowled (c .case) as′ bs p d → O.Holds c as′ bs p d
+unfolding C.playedWith C.stated
 plays-on-bytes c y as′ bs p d b =
+    let os = c .case .overs in
     let r = run-from-fresh (b .run) in
-    let e = r .0 ∙ backs-stated (c .overs) as′ (D.fresh book) (b .records) (b .room) (y .heard) (ap (λ (x : C.Outcome). x .answers) (y .holds)) in
+    let e = r .0 ∙ backs-stated os as′ (D.fresh book) (b .records) (b .room) (y .heard) (ap (λ (x : C.Outcome). x .answers) (y .holds)) in
+    let written : map wrote bs ≡ map O.statedBytes os = ap (map wrote) e ∙ backs-bytes os as′ (b .records) (b .room) (y .few) in
     record {
       backs = e;
-      bytes = ap (join wrote) e ∙ backs-bytes (c .overs) as′ (b .records) (b .room) (y .few);
-      scene = ap (C.sceneOf (treePaging compare 0 documentSizes)) (r .2 ∙ calls-sent (c .overs) as′ (D.fresh book) (b .records) (b .room) (y .heard))
+      bytes = written;
+      literally = ap (λ l. map (λ (w : O.Wrote). getD l (w .call) []) (c .wrote)) written ∙ y .literally;
+      scene = ap (C.sceneOf (treePaging compare 0 documentSizes)) (r .2 ∙ calls-sent os as′ (D.fresh book) (b .records) (b .room) (y .heard))
           ∙ ap (λ (x : C.Outcome). x .scene) (y .holds);
     }
 
 -- ---- the claim
+abbrev playedOn : O.Scored → C.Outcome
+playedOn c = C.played (treePaging compare 0 documentSizes) (c .case)
+
+abbrev statedOn : O.Scored → C.Outcome
+statedOn c = C.stated (c .case)
+
+scorecard-holds : map playedOn O.scorecard ≡ map statedOn O.scorecard
+unfolding C.cases O.scorecard
+scorecard-holds = cases-hold-in-pages .hold
+
 pub all-hold-on-bytes : O.AllHoldOnBytes
-all-hold-on-bytes c i = plays-on-bytes c (record {
-  holds = map-each (C.played (treePaging compare 0 documentSizes)) C.stated C.cases c i cases-hold-in-pages;
-  heard = map-each (λ (c : C.Case). map heardAs (c .overs)) (λ (c : C.Case). map legally (c .overs)) C.cases c i records-heard;
-  few = all-in _ C.cases c cases-few i;
-})
+unfolding C.cases O.scorecard the-answers
+all-hold-on-bytes =
+    record {
+      howMany = refl;
+      same = refl;
+      each = λ c i. plays-on-bytes c (record {
+        holds = map-each playedOn statedOn O.scorecard c i scorecard-holds;
+        heard = map-each (λ (x : O.Scored). map heardAs (x .case .overs)) (λ (x : O.Scored). map legally (x .case .overs)) O.scorecard c i records-heard;
+        few = all-in _ O.scorecard c cases-few i;
+        literally = map-each bytesThere scoredBytes O.scorecard c i cases-scored;
+      });
+      locks = refl;
+      pages = refl;
+    }

@@ -8,5 +8,5 @@ use Rattle.trees.specs.Shapes.{treePaging}
 use Rattle.cases.proofs.Computing.{the-book, the-pages, the-cases}
 
 pub cases-hold-in-pages : C.AllHold (treePaging compare 0 documentSizes)
-unfolding the-book the-pages the-cases C.played C.stated
-cases-hold-in-pages = refl
+unfolding the-book the-pages the-cases C.playedWith C.stated
+cases-hold-in-pages = record { howMany = refl; hold = refl; howManyTight = refl; holdTight = refl }

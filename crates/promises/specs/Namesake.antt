@@ -8,7 +8,7 @@ use Rattle.rules.specs.Kinds.{X, on, commit}
 use Rattle.rules.specs.Runs.{found, nothing, waiting, done}
 use Rattle.rules.specs.Document.{endless}
 use Rattle.calls.specs.Calls.{Sent, Back}
-use Rattle.cases.specs.Overs.{Bowled, Holds}
+use Rattle.cases.specs.Overs.{Bowled, Scored, Holds, scored, writes, zeros}
 use Rattle.rules.specs.Cases.{Over, Case, over, to, only, begins, reads, inserts, row, settling, lock, settledAs, entry, left, played, stated}
 
 -- "made of an upper half (pupil) and a lower half (delivery)"
@@ -51,6 +51,20 @@ namesake =
 abbrev pub NamesakeWaits : Type 0
 NamesakeWaits = played endless namesake ≡ stated namesake
 
--- and on bytes: whoever sends the story's calls as their records, to a picture that was fresh, gets back what it states
+-- and on bytes: whoever sends the story's calls as their records, to a picture that was fresh, gets back what it states. The first delivery,
+-- each time: pupil 7, number 10, record 501 (`F5 01`); the enrolment waits; the commit.
+abbrev pub firstBall : List ℕ
+firstBall = 20 ∷ 0 ∷ 7 ∷ 0 ∷ 1 ∷ 0 ∷ 1 ∷ 0 ∷ 10 ∷ 0 ∷ 0 ∷ 0 ∷ 7 ∷ 0 ∷ 0 ∷ 0 ∷ 245 ∷ 1 ∷ 0 ∷ 0 ∷ []
+
+abbrev pub namesakeScored : Scored
+namesakeScored =
+    scored
+    namesake
+    (writes 9 firstBall
+    ∷ writes 13 (20 ∷ 0 ∷ 7 ∷ 0 ∷ 2 ∷ 0 ∷ 3 ∷ 0 ∷ zeros)
+    ∷ writes 14 firstBall
+    ∷ writes 18 (20 ∷ 0 ∷ 7 ∷ 0 ∷ 1 ∷ 0 ∷ 0 ∷ 0 ∷ zeros ++ (20 ∷ 0 ∷ 7 ∷ 0 ∷ 2 ∷ 0 ∷ 0 ∷ 0 ∷ zeros))
+    ∷ [])
+
 abbrev pub NamesakeOnBytes : Type 0
-NamesakeOnBytes = (as′ : List Sent) (bs : List Back) (p d : List ℕ) → Bowled namesake as′ bs p d → Holds namesake as′ bs p d
+NamesakeOnBytes = (as′ : List Sent) (bs : List Back) (p d : List ℕ) → Bowled namesake as′ bs p d → Holds namesakeScored as′ bs p d

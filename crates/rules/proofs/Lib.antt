@@ -1,4 +1,6 @@
+pub mod Computing
 pub mod Table
+pub mod Pins
 pub mod Waits
 pub mod Rest
 pub mod Answers

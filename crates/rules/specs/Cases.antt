@@ -1,4 +1,5 @@
--- Document 01, "Overs to bowl at it": the starred cases, and what the four ways to lose a wicket would spoil, as one table.
+-- Document 01, "Overs to bowl at it": the starred cases, what the four ways to lose a wicket would spoil, and who is turned away, as one
+-- table; and a short one with few locks and pages.
 -- Each case is played from a fresh index, call by call. It says for each call exactly what is answered, in order, and then who is left
 -- waiting at what, which locks are held, and every entry with its owner, now and before. Transaction 16 settles the keys that a case
 -- starts with. The claim `AllHold` is proved in proofs/Table.antt. Assumes nothing.
@@ -6,11 +7,12 @@ use Prim.Native.Nat.{ℕ}
 use mathlib.Core.Path.{_≡_}
 use mathlib.Core.List.{List, [], _∷_, _++_, map}
 use mathlib.Core.Option.{Option, none, some}
+use lib.ListN.{length}
 use Rattle.rules.specs.Kinds.{Paging, Entry, Mode, S, X, Name, on, end, Lock, read, insert, delete, Request, begin, commit, rollback, ask, Call, Queued, State}
 use Rattle.rules.specs.Locks.{inUse, wanted}
-use Rattle.rules.specs.Runs.{Says, done, found, nothing, waiting, isPresent, circle, Answer}
+use Rattle.rules.specs.Runs.{Says, done, found, nothing, waiting, runsAlready, runsNot, waitsAlready, isPresent, locksShort, pagesShort, circle, Answer}
 use Rattle.rules.specs.Desk.{fresh, after, session}
-use Rattle.rules.specs.Document.{document}
+use Rattle.rules.specs.Document.{limited, document, roomFor}
 
 -- one call and what it is answered; none is number 12
 pub record Over : Type 0 where
@@ -269,6 +271,102 @@ presentStaysPresent =
       scene = left [] (lock X (on 20) 2 ∷ []) (entry 20 2 none (some 2) ∷ []);
     }
 
+-- "16: insert: key present; its key and record; S lock": another reads it at once.
+unfoldable pub presentTakesS : Case
+presentTakesS =
+    record {
+      overs =
+          settling (row 300 70000 ∷ [])
+          ++ (begins 1
+          ∷ begins 2
+          ∷ inserts 1 300 9 (only 1 (isPresent 300 (some 70000)))
+          ∷ reads 2 300 300 (only 2 (found 300 (some 70000)))
+          ∷ []);
+      scene = left [] (lock S (on 300) 1 ∷ lock S (on 300) 2 ∷ []) (settledAs 300 70000 ∷ []);
+    }
+
+-- "13: begin of a running transaction"; "14: any other request of one not running"; "15: anything but rollback while waiting"; each
+-- "answer only".
+unfoldable pub turnedAway : Case
+turnedAway =
+    record {
+      overs =
+          settling (row 20 2 ∷ [])
+          ++ (reads 1 20 20 (only 1 runsNot)
+          ∷ inserts 1 15 5 (only 1 runsNot)
+          ∷ deletes 1 20 (only 1 runsNot)
+          ∷ over 1 commit (only 1 runsNot)
+          ∷ over 1 rollback (only 1 runsNot)
+          ∷ begins 1
+          ∷ over 1 begin (only 1 runsAlready)
+          ∷ begins 2
+          ∷ reads 1 20 20 (only 1 (found 20 (some 2)))
+          ∷ deletes 2 20 (only 2 waiting)
+          ∷ reads 2 30 40 (only 2 waitsAlready)
+          ∷ inserts 2 30 3 (only 2 waitsAlready)
+          ∷ deletes 2 30 (only 2 waitsAlready)
+          ∷ over 2 commit (only 2 waitsAlready)
+          ∷ over 2 begin (only 2 runsAlready)
+          ∷ []);
+      scene = left (waits 2 (on 20) ∷ []) (lock S (on 20) 1 ∷ []) (settledAs 20 2 ∷ []);
+    }
+
+-- "Rollback of a waiting transaction drops its queued request without an answer": 3 has waited behind it, and the commit of 1, at whose
+-- lock it waited, answers nobody else.
+unfoldable pub rollbackDrops : Case
+rollbackDrops =
+    record {
+      overs =
+          settling (row 20 2 ∷ [])
+          ++ (begins 1
+          ∷ begins 2
+          ∷ begins 3
+          ∷ reads 1 20 20 (only 1 (found 20 (some 2)))
+          ∷ deletes 2 20 (only 2 waiting)
+          ∷ reads 3 20 20 (only 3 waiting)
+          ∷ over 2 rollback (to 2 done ∷ to 3 (found 20 (some 2)) ∷ [])
+          ∷ over 2 rollback (only 2 runsNot)
+          ∷ over 1 commit (only 1 done)
+          ∷ []);
+      scene = left [] (lock S (on 20) 3 ∷ []) (settledAs 20 2 ∷ []);
+    }
+
+-- "if some queued request isn't blocked, the oldest such runs and leaves the queue": two that one end frees, the older first, whoever
+-- asks.
+unfoldable pub freedTogether : Case
+freedTogether =
+    record {
+      overs =
+          settling (row 20 2 ∷ [])
+          ++ (begins 1
+          ∷ begins 2
+          ∷ begins 3
+          ∷ deletes 1 20 (only 1 done)
+          ∷ reads 3 20 20 (only 3 waiting)
+          ∷ reads 2 10 25 (only 2 waiting)
+          ∷ over 1 rollback (to 1 done ∷ to 3 (found 20 (some 2)) ∷ to 2 (found 20 (some 2)) ∷ [])
+          ∷ []);
+      scene = left [] (lock S (on 20) 3 ∷ lock S (on 20) 2 ∷ []) (settledAs 20 2 ∷ []);
+    }
+
+-- "or if T holds no lock on it and U has an earlier waiting request with the same target and a conflicting mode": of two that conflict the
+-- older runs, and the newer waits behind it.
+unfoldable pub olderFirst : Case
+olderFirst =
+    record {
+      overs =
+          settling (row 20 2 ∷ [])
+          ++ (begins 1
+          ∷ begins 2
+          ∷ begins 3
+          ∷ reads 1 20 20 (only 1 (found 20 (some 2)))
+          ∷ deletes 3 20 (only 3 waiting)
+          ∷ reads 2 20 20 (only 2 waiting)
+          ∷ over 1 commit (to 1 done ∷ to 3 done ∷ [])
+          ∷ []);
+      scene = left (waits 2 (on 20) ∷ []) (lock X (on 20) 3 ∷ []) (entry 20 3 none (some 2) ∷ []);
+    }
+
 unfoldable pub cases : List Case
 cases =
     readerWaits
@@ -282,7 +380,79 @@ cases =
     ∷ targetMoves
     ∷ joiningFrees
     ∷ presentStaysPresent
+    ∷ presentTakesS
+    ∷ turnedAway
+    ∷ rollbackDrops
+    ∷ freedTogether
+    ∷ olderFirst
     ∷ []
+
+-- ---- with two locks, and pages that take two keys: what is said when they run short
+-- "17: a new lock is needed and all 256 are in use: leaves the queue"; "In a run, 17 comes before every other number": 1, 2, 16, 0 or 18,
+-- and 2 again. "X replaces S in its slot", and a lock that is held already needs none.
+unfoldable pub locksInUse : Case
+locksInUse =
+    record {
+      overs =
+          settling (row 10 1 ∷ row 20 2 ∷ [])
+          ++ (begins 1
+          ∷ begins 2
+          ∷ reads 1 20 20 (only 1 (found 20 (some 2)))
+          ∷ reads 2 10 10 (only 2 (found 10 (some 1)))
+          ∷ reads 1 10 10 (only 1 locksShort)
+          ∷ reads 1 5 7 (only 1 locksShort)
+          ∷ inserts 1 10 9 (only 1 locksShort)
+          ∷ inserts 1 30 3 (only 1 locksShort)
+          ∷ deletes 1 30 (only 1 locksShort)
+          ∷ deletes 1 20 (only 1 done)
+          ∷ reads 2 10 10 (only 2 (found 10 (some 1)))
+          ∷ []);
+      scene =
+          left
+          []
+          (lock X (on 20) 1 ∷ lock S (on 10) 2 ∷ [])
+          (settledAs 10 1 ∷ entry 20 1 none (some 2) ∷ []);
+    }
+
+-- "18: insert of a missing key, pages short: leaves the queue"; "With 17, 18 or 19 no lock is taken; the transaction lives on and keeps
+-- what it has": both slots are there for its other keys. "An insert over one's own ghost needs no page".
+unfoldable pub pagesFull : Case
+pagesFull =
+    record {
+      overs =
+          settling (row 10 1 ∷ row 20 2 ∷ [])
+          ++ (begins 1
+          ∷ inserts 1 30 3 (only 1 pagesShort)
+          ∷ deletes 1 20 (only 1 done)
+          ∷ inserts 1 20 9 (only 1 done)
+          ∷ inserts 1 30 3 (only 1 pagesShort)
+          ∷ reads 1 10 10 (only 1 (found 10 (some 1)))
+          ∷ []);
+      scene =
+          left
+          []
+          (lock X (on 20) 1 ∷ lock S (on 10) 1 ∷ [])
+          (settledAs 10 1 ∷ entry 20 1 (some 9) (some 2) ∷ []);
+    }
+
+-- "Delete 778, commit; 779 then fits": a ghost has its room until its owner commits.
+unfoldable pub roomAgain : Case
+roomAgain =
+    record {
+      overs =
+          settling (row 10 1 ∷ row 20 2 ∷ [])
+          ++ (begins 1
+          ∷ deletes 1 20 (only 1 done)
+          ∷ inserts 1 30 3 (only 1 pagesShort)
+          ∷ over 1 commit (only 1 done)
+          ∷ begins 1
+          ∷ inserts 1 30 3 (only 1 done)
+          ∷ []);
+      scene = left [] (lock X (on 30) 1 ∷ []) (settledAs 10 1 ∷ entry 30 1 (some 3) none ∷ []);
+    }
+
+unfoldable pub tight : List Case
+tight = locksInUse ∷ pagesFull ∷ roomAgain ∷ []
 
 -- what the rule book says of a case: its answers, and where things stand afterwards
 pub record Outcome : Type 0 where
@@ -299,17 +469,23 @@ module _ (P : Paging ℕ) where
         entries = s .entries;
       }
 
-  unfoldable pub played : Case → Outcome
-  played c =
+  -- with so many locks, and with as many as document 01 has
+  unfoldable pub playedWith : ℕ → Case → Outcome
+  playedWith slots c =
       let calls = map (λ (o : Over). o .bowled) (c .overs) in
-      record {
-        answers = session (document P) (fresh (document P)) calls;
-        scene = sceneOf (after (document P) (fresh (document P)) calls);
-      }
+      let book = limited slots P in
+      record { answers = session book (fresh book) calls; scene = sceneOf (after book (fresh book) calls) }
+
+  abbrev pub played : Case → Outcome
+  played c = playedWith 256 c
 
 unfoldable pub stated : Case → Outcome
 stated c = record { answers = map (λ (o : Over). o .answered) (c .overs); scene = c .scene }
 
 -- the one claim
-abbrev pub AllHold : Paging ℕ → Type 0
-AllHold P = map (played P) cases ≡ map stated cases
+pub record AllHold (P : Paging ℕ) : Type 0 where
+  pub howMany : length cases ≡ 16
+  pub hold : map (played P) cases ≡ map stated cases
+  -- with two locks, and pages that take two keys
+  pub howManyTight : length tight ≡ 3
+  pub holdTight : map (playedWith (roomFor 2) 2) tight ≡ map stated tight

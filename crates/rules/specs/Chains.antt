@@ -1,6 +1,6 @@
 -- Demand 3, chains of waits: "nobody waits in a circle, and following whom one waits behind reaches, within fifteen links, a running
--- transaction that isn't waiting". Fifteen is one fewer than there are transactions. Assumes nothing.
-use Prim.Native.Nat.{ℕ, zero, suc, _-_, _≤_}
+-- transaction that isn't waiting". Fifteen is `linksMost`, one fewer than there are transactions. Assumes nothing.
+use Prim.Native.Nat.{ℕ, zero, suc, _≤_}
 use mathlib.Core.Path.{_≡_}
 use mathlib.Core.Logic.{_≢_, _⊎_}
 use mathlib.Core.Bool.{true, false, not}
@@ -9,7 +9,7 @@ use lib.Dec.{eqb}
 use lib.ListN.{length}
 use Rattle.lists.specs.Lists.{In, pairs}
 use Rattle.rules.specs.Kinds.{Book}
-use Rattle.rules.specs.Queue.{St, Wait, waits}
+use Rattle.rules.specs.Queue.{St, Wait, waits, linksMost}
 use Rattle.rules.specs.Desk.{runs, waitsNow}
 
 module _ (B : Book) where
@@ -57,6 +57,6 @@ module _ (B : Book) where
     pub noCircle : (t : ℕ) → Circle s t → ⊥
     -- so a chain has nobody twice, and at most so many links
     pub nobodyTwice : (t : ℕ) (us : List ℕ) → Chain s t us → pairs (λ u v. not (eqb u v)) (t ∷ us) ≡ true
-    pub links : (t : ℕ) (us : List ℕ) → Chain s t us → length us ≤ B .transactions - 1
+    pub links : (t : ℕ) (us : List ℕ) → Chain s t us → length us ≤ linksMost B
     -- "following whom one waits behind reaches, within fifteen links, a running transaction that isn't waiting"
-    pub free : (t : ℕ) → runs B s t ≡ true → ReachesFree s (B .transactions - 1) t
+    pub free : (t : ℕ) → runs B s t ≡ true → ReachesFree s (linksMost B) t

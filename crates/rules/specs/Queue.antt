@@ -48,9 +48,13 @@ module _ (B : Book) where
   reached zero ws us = us
   reached (suc links) ws us = reached links ws (further ws us)
 
-  -- a request lies on a circle if its chain comes back to it: its own link, and one fewer than there are transactions (from 15)
+  -- "from 15": one fewer than there are transactions
+  abbrev pub linksMost : ℕ
+  linksMost = B .transactions - 1
+
+  -- a request lies on a circle if its chain comes back to it: its own link, and at most so many more
   unfoldable pub onCircle : List Wait → Wait → Bool
-  onCircle ws w = member (w .request .asker) (reached (B .transactions - 1) ws (w .behind))
+  onCircle ws w = member (w .request .asker) (reached linksMost ws (w .behind))
 
   -- "the newest queued request that lies on a circle"
   unfoldable pub newest : St → Option Wait
