@@ -4,6 +4,7 @@ pub mod Told
 pub mod Ranges
 pub mod Again
 pub mod Demand3
+pub mod Causes
 pub mod Namesake
 pub mod Demand1
 pub mod OnBytes
