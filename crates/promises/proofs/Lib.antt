@@ -5,6 +5,7 @@ pub mod Ranges
 pub mod Again
 pub mod Demand3
 pub mod Causes
+pub mod Working
 pub mod Namesake
 pub mod Demand1
 pub mod OnBytes
