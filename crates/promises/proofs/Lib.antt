@@ -6,6 +6,7 @@ pub mod Again
 pub mod Demand3
 pub mod Causes
 pub mod Working
+pub mod Demand2
 pub mod Namesake
 pub mod Demand1
 pub mod OnBytes
