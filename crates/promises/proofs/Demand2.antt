@@ -214,7 +214,7 @@ module _ (B : Book) where
               let v : x ≡ m = ap (λ (a : An B). a .says) q in
               (ap (λ (a : An B). a .asker) (sym q), subst (Why s t r) v (why s t r x e))
 
-      pub demand2-of : Demand2 B s t r (step B s t r)
+      demand2-of : Demand2 B s t r (step B s t r)
       demand2-of = record {
         thirteen = λ e k. says-only s t r runsAlready (already s t r e k);
         fourteen = λ n k. says-only s t r runsNot (not-running s t r n k);
@@ -225,6 +225,7 @@ module _ (B : Book) where
         acts = λ b n w. rw (goes-on s t r (not-refused s t r b n w)) (acted r l b n w);
       }
 
-  pub demand2 : Ordered (B .Key) (B .compare) → (s : St B) → Good B s → (t : ℕ) (r : Request (B .Key) (B .Rec)) → isTransaction B t ≡ true → legalRequest B r ≡ true
+module _ (B : Book) (L : Ordered (B .Key) (B .compare)) where
+  pub demand2 : (s : St B) → Good B s → (t : ℕ) (r : Request (B .Key) (B .Rec)) → isTransaction B t ≡ true → legalRequest B r ≡ true
       → Demand2 B s t r (step B s t r)
-  demand2 L s g t r h l = demand2-of L s g t h r l
+  demand2 s g t r h l = demand2-of B L s g t h r l
