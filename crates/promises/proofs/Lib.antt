@@ -7,6 +7,7 @@ pub mod Demand3
 pub mod Causes
 pub mod Working
 pub mod Demand2
+pub mod Decides
 pub mod EveryNumber
 pub mod Namesake
 pub mod Demand1

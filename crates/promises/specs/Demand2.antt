@@ -9,10 +9,10 @@ use mathlib.Core.List.{List, [], _∷_, _++_}
 use mathlib.Core.Option.{Option, none, some}
 use Rattle.lists.specs.Lists.{all, In}
 use Rattle.rules.specs.Kinds.{Book, Name, on, Ask, read, insert, delete, Request, begin, commit, rollback, ask}
-use Rattle.rules.specs.Entries.{isThere, atMost, same, committed, rolledBack}
-use Rattle.rules.specs.Locks.{holds, target, named}
+use Rattle.rules.specs.Entries.{Entries, isThere, atMost, same, inserted, deleted, revived, put, changed, committed, rolledBack}
+use Rattle.rules.specs.Locks.{holds, taken, target, named, wanted}
 use Rattle.rules.specs.Queue.{St, Q, Wait, waits}
-use Rattle.rules.specs.Runs.{done, found, nothing, waiting, runsAlready, runsNot, waitsAlready, isPresent, locksShort, pagesShort, circle, Sy, Ran, unmoved, Turn, left, Worked}
+use Rattle.rules.specs.Runs.{done, found, nothing, waiting, runsAlready, runsNot, waitsAlready, isPresent, locksShort, pagesShort, circle, Sy, En, Ran, unmoved, Turn, left, Worked}
 use Rattle.rules.specs.Desk.{An, Cl, runs, waitsNow, says, begun, ended, joined}
 use Rattle.rules.specs.Chains.{Circle}
 use Rattle.promises.specs.Demand3.{nowAt}
@@ -56,6 +56,22 @@ module _ (B : Book) where
     pub inside : atMost B k hi ≡ true
     pub isNow : nowAt B (s .entries) k ≡ some was
 
+  -- "2: read: target above hi; delete: key absent"
+  pub data FindsNothing (s : St B) (q : Q B) : Type 0 where
+    above : (lo hi : B .Key) → q .asks ≡ read lo hi
+        → ((k : B .Key) → named B (target B (s .entries) (q .asker) (q .asks)) ≡ on k → atMost B k hi ≡ false) → FindsNothing s q
+    absent : (k : B .Key) → q .asks ≡ delete k → nowAt B (s .entries) k ≡ none → FindsNothing s q
+
+  -- "0: insert or delete done": a missing key that the pages take is put in, one's own ghost made present again, a present key made a ghost;
+  -- with the entries and pages afterwards
+  pub data Does (s : St B) (q : Q B) : Entries B → B .paging .Pages → Type 0 where
+    putsIn : (k : B .Key) (r : B .Rec) → q .asks ≡ insert k r → all (λ e. not (same B (e .key) k)) (s .entries) ≡ true
+        → B .paging .fits (s .pages) k ≡ true → Does s q (put B (inserted (q .asker) k r) (s .entries)) (B .paging .grown (s .pages) k)
+    bringsBack : (e : En B) (r : B .Rec) → q .asks ≡ insert (e .key) r → In e (s .entries) → e .owner ≡ q .asker → e .now ≡ none
+        → Does s q (changed B (e .key) (revived (q .asker) r) (s .entries)) (s .pages)
+    takesAway : (k : B .Key) (was : B .Rec) → q .asks ≡ delete k → nowAt B (s .entries) k ≡ some was
+        → Does s q (changed B k (deleted (q .asker)) (s .entries)) (s .pages)
+
   -- each number by its cause, and at no other time; what it changes
   pub record RunsRightly (s : St B) (q : Q B) (m : Ran B) : Type 0 where
     -- "In a run, 17 comes before every other number"
@@ -67,12 +83,18 @@ module _ (B : Book) where
     pub eighteenCause : m .says ≡ pagesShort → PagesShort s q
     pub one : (LocksShort s q → ⊥) → (k : B .Key) (was : B .Rec) → Finds s q k was → m .says ≡ found k (some was)
     pub oneCause : (k : B .Key) (o : Option (B .Rec)) → m .says ≡ found k o → (was : B .Rec) × (o ≡ some was) × Finds s q k was
+    pub two : (LocksShort s q → ⊥) → FindsNothing s q → m .says ≡ nothing
+    pub twoCause : m .says ≡ nothing → FindsNothing s q
+    pub zero : (LocksShort s q → ⊥) → (es : Entries B) (ps : B .paging .Pages) → Does s q es ps → m .says ≡ done
+    pub zeroCause : m .says ≡ done → Does s q (m .entries) (m .pages)
     -- none of these is said by a run
     pub never : (m .says ≢ waiting) × (m .says ≢ runsAlready) × (m .says ≢ runsNot) × (m .says ≢ waitsAlready) × (m .says ≢ circle)
-    -- "With 17, 18 or 19 no lock is taken": nothing but the queue; 16 and 2: nothing but the lock
+    -- "With 17, 18 or 19 no lock is taken": nothing but the queue
     pub queueAlone : (m .says ≡ locksShort) ⊎ (m .says ≡ pagesShort) → m ≡ unmoved B s (m .says)
-    pub lockAlone : (m .says ≡ nothing) ⊎ ((k : B .Key) × (o : Option (B .Rec)) × (m .says ≡ isPresent k o))
-        → (m .entries ≡ s .entries) × (m .pages ≡ s .pages)
+    -- "A run takes its lasting lock": with 0, 1, 2 and 16; and but with 0 it changes nothing else
+    pub takesLock : m .says ≢ locksShort → m .says ≢ pagesShort
+        → taken B (s .slots) (q .asker) (lockFor s q) (wanted B (s .entries) q .mode) ≡ some (m .slots)
+    pub lockAlone : m .says ≢ done → (m .entries ≡ s .entries) × (m .pages ≡ s .pages)
 
   -- ---- a turn of the queue
   -- nobody blocks w's request, and everyone before it in the queue is blocked: the oldest that isn't blocked

@@ -1,0 +1,121 @@
+-- Demand 2 decides: whatever it holds of is the rule book's step, state and answers (`demand2-decides`), so no idle desk satisfies it. A run is told
+-- by its causes, a turn by the oldest and the newest, and so on along the queue as it is worked. Assumes nothing.
+use Prim.Native.Nat.{ℕ}
+use mathlib.Core.Path.{_≡_, refl, sym, ap, ap₂, subst, _∙_}
+use mathlib.Core.Logic.{_≢_, _⊎_, inl, inr}
+use mathlib.Core.Bool.{Bool, true, false, cond, not, true≢false, false≢true}
+use mathlib.Core.List.{List, [], _∷_, _++_}
+use mathlib.Core.Option.{Option, none, some, Option·some-injective}
+use Rattle.lists.specs.Lists.{all, In, first, last, isNil}
+use Rattle.lists.proofs.Tests.{fails, never, first-past, first-hit}
+use Rattle.lists.proofs.Elements.{all-in, in-all, in-right}
+use Rattle.rules.specs.Kinds.{Book, Ordered, insert, delete, Request, begin, commit, rollback, ask}
+use Rattle.rules.specs.Entries.{Entries, same, inserted, deleted, revived, put, changed}
+use Rattle.rules.specs.Locks.{taken, wanted}
+use Rattle.rules.specs.Queue.{St, Q, Wait, waits, oldest, newest, onCircle}
+use Rattle.rules.specs.Runs.{done, found, nothing, waiting, runsAlready, runsNot, waitsAlready, isPresent, locksShort, pagesShort, circle, Sy, En, Ran, unmoved, run, left, turn, Worked, worked}
+use Rattle.rules.specs.Desk.{An}
+use Rattle.rules.specs.Good.{Good}
+use Rattle.rules.proofs.Keys.{same-itself}
+use Rattle.promises.specs.Demand2.{lockFor, LocksShort, Does, putsIn, bringsBack, takesAway, RunsRightly}
+use Rattle.promises.proofs.Causes.{runs-rightly}
+
+module _ (B : Book) (L : Ordered (B .Key) (B .compare)) where
+  -- ---- a run
+  -- a key that is missing has no entry
+  no-entry : {A : Type 0} (es : Entries B) (e : En B) → In e es → all (λ x. not (same B (x .key) (e .key))) es ≡ true → A
+  no-entry es e i h = absurd (false≢true (ap not (sym (same-itself B L (e .key))) ∙ all-in (λ x. not (same B (x .key) (e .key))) es e h i))
+
+  does-once : (s : St B) (q : Q B) (es es′ : Entries B) (ps ps′ : B .paging .Pages) → Does B s q es ps → Does B s q es′ ps′ → (es ≡ es′) × (ps ≡ ps′)
+  does-once s q es es′ ps ps′ (putsIn k r a m f) (putsIn k′ r′ a′ m′ f′) =
+      let z : insert k r ≡ insert k′ r′ = sym a ∙ a′ in
+      let x : k ≡ k′ = cc in
+      let y : r ≡ r′ = cc in
+      (ap₂ (λ v u. put B (inserted (q .asker) v u) (s .entries)) x y, ap (B .paging .grown (s .pages)) x)
+  does-once s q es es′ ps ps′ (putsIn k r a m f) (bringsBack e r′ a′ i o z) =
+      let y : insert k r ≡ insert (e .key) r′ = sym a ∙ a′ in
+      let x : k ≡ e .key = cc in
+      no-entry (s .entries) e i (rw x at m)
+  does-once s q es es′ ps ps′ (putsIn k r a m f) (takesAway k′ was a′ z) = let y : insert k r ≡ delete k′ = sym a ∙ a′ in never (cc)
+  does-once s q es es′ ps ps′ (bringsBack e r a i o z) (putsIn k′ r′ a′ m′ f′) =
+      let y : insert k′ r′ ≡ insert (e .key) r = sym a′ ∙ a in
+      let x : k′ ≡ e .key = cc in
+      no-entry (s .entries) e i (rw x at m′)
+  does-once s q es es′ ps ps′ (bringsBack e r a i o z) (bringsBack e′ r′ a′ i′ o′ z′) =
+      let y : insert (e .key) r ≡ insert (e′ .key) r′ = sym a ∙ a′ in
+      let x : e .key ≡ e′ .key = cc in
+      let v : r ≡ r′ = cc in
+      (ap₂ (λ k u. changed B k (revived (q .asker) u) (s .entries)) x v, refl)
+  does-once s q es es′ ps ps′ (bringsBack e r a i o z) (takesAway k was a′ z′) = let y : insert (e .key) r ≡ delete k = sym a ∙ a′ in never (cc)
+  does-once s q es es′ ps ps′ (takesAway k was a z) (putsIn k′ r′ a′ m′ f′) = let y : insert k′ r′ ≡ delete k = sym a′ ∙ a in never (cc)
+  does-once s q es es′ ps ps′ (takesAway k was a z) (bringsBack e r a′ i o z′) = let y : insert (e .key) r ≡ delete k = sym a′ ∙ a in never (cc)
+  does-once s q es es′ ps ps′ (takesAway k was a z) (takesAway k′ was′ a′ z′) =
+      let y : delete k ≡ delete k′ = sym a ∙ a′ in
+      let x : k ≡ k′ = cc in
+      (ap (λ v. changed B v (deleted (q .asker)) (s .entries)) x, refl)
+
+  -- two right runs of one request are the same
+  module _ (s : St B) (q : Q B) (m n : Ran B) (a : RunsRightly B s q m) (b : RunsRightly B s q n) where
+    same-number : n .says ≡ m .says
+    same-number = go (m .says) refl
+      where
+        free : (x : Sy B) → m .says ≡ x → x ≢ locksShort → LocksShort B s q → ⊥
+        free x e f c = f (sym e ∙ a .seventeen c)
+
+        go : (x : Sy B) → m .says ≡ x → n .says ≡ x
+        go done e = b .zero (free done e (λ z. never (cc))) (m .entries) (m .pages) (a .zeroCause e)
+        go (found k o) e =
+            let c = a .oneCause k o e in
+            b .one (free (found k o) e (λ z. never (cc))) k (c .0) (c .2) ∙ ap (found k) (sym (c .1))
+        go nothing e = b .two (free nothing e (λ z. never (cc))) (a .twoCause e)
+        go waiting e = absurd (a .never .0 e)
+        go runsAlready e = absurd (a .never .1 e)
+        go runsNot e = absurd (a .never .2 e)
+        go waitsAlready e = absurd (a .never .3 e)
+        go (isPresent k o) e =
+            let c = a .sixteenCause k o e in
+            b .sixteen (free (isPresent k o) e (λ z. never (cc))) k (c .0) (c .2) ∙ ap (isPresent k) (sym (c .1))
+        go locksShort e = b .seventeen (a .seventeenCause e)
+        go pagesShort e = b .eighteen (free pagesShort e (λ z. never (cc))) (a .eighteenCause e)
+        go circle e = absurd (a .never .4 e)
+
+    -- and so is all else, whether it is refused, or done, or neither
+    refused-same : (m .says ≡ locksShort) ⊎ (m .says ≡ pagesShort) → n ≡ m
+    refused-same r = b .queueAlone (also r) ∙ ap (unmoved B s) same-number ∙ sym (a .queueAlone r)
+      where
+        also : (m .says ≡ locksShort) ⊎ (m .says ≡ pagesShort) → (n .says ≡ locksShort) ⊎ (n .says ≡ pagesShort)
+        also (inl e) = inl (same-number ∙ e)
+        also (inr e) = inr (same-number ∙ e)
+
+    alike : n .entries ≡ m .entries → n .pages ≡ m .pages → n .slots ≡ m .slots → n ≡ m
+    alike e p l = λ i. record { says = same-number i; entries = e i; pages = p i; slots = l i }
+
+    locked-same : m .says ≢ locksShort → m .says ≢ pagesShort → (n .entries ≡ m .entries) × (n .pages ≡ m .pages) → n ≡ m
+    locked-same f h w =
+        alike (w .0) (w .1)
+        (Option·some-injective (n .slots) (m .slots) (sym (b .takesLock (λ z. f (sym same-number ∙ z)) (λ z. h (sym same-number ∙ z))) ∙ a .takesLock f h))
+
+    pub one-run : n ≡ m
+    one-run = go (m .says) refl
+      where
+        -- but with 0 nothing else is changed
+        looked : (x : Sy B) → m .says ≡ x → x ≢ done → x ≢ locksShort → x ≢ pagesShort → n ≡ m
+        looked x e d f h =
+            let u = a .lockAlone (λ z. d (sym e ∙ z)) in
+            let v = b .lockAlone (λ z. d (sym e ∙ sym same-number ∙ z)) in
+            locked-same (λ z. f (sym e ∙ z)) (λ z. h (sym e ∙ z)) (v .0 ∙ sym (u .0), v .1 ∙ sym (u .1))
+
+        go : (x : Sy B) → m .says ≡ x → n ≡ m
+        go done e =
+            locked-same (λ z. let y : done ≡ locksShort = sym e ∙ z in never (cc)) (λ z. let y : done ≡ pagesShort = sym e ∙ z in never (cc))
+            (does-once s q (n .entries) (m .entries) (n .pages) (m .pages) (b .zeroCause (same-number ∙ e)) (a .zeroCause e))
+        go (found k o) e = looked (found k o) e (λ z. never (cc)) (λ z. never (cc)) (λ z. never (cc))
+        go nothing e = looked nothing e (λ z. never (cc)) (λ z. never (cc)) (λ z. never (cc))
+        go waiting e = looked waiting e (λ z. never (cc)) (λ z. never (cc)) (λ z. never (cc))
+        go runsAlready e = looked runsAlready e (λ z. never (cc)) (λ z. never (cc)) (λ z. never (cc))
+        go runsNot e = looked runsNot e (λ z. never (cc)) (λ z. never (cc)) (λ z. never (cc))
+        go waitsAlready e = looked waitsAlready e (λ z. never (cc)) (λ z. never (cc)) (λ z. never (cc))
+        go (isPresent k o) e = looked (isPresent k o) e (λ z. never (cc)) (λ z. never (cc)) (λ z. never (cc))
+        go circle e = looked circle e (λ z. never (cc)) (λ z. never (cc)) (λ z. never (cc))
+        go locksShort e = refused-same (inl e)
+        go pagesShort e = refused-same (inr e)
