@@ -7,18 +7,23 @@ use mathlib.Core.Bool.{Bool, true, false, cond, not, true≢false, false≢true}
 use mathlib.Core.List.{List, [], _∷_, _++_}
 use mathlib.Core.Option.{Option, none, some, Option·some-injective}
 use Rattle.lists.specs.Lists.{all, In, first, last, isNil}
-use Rattle.lists.proofs.Tests.{fails, never, first-past, first-hit}
-use Rattle.lists.proofs.Elements.{all-in, in-all, in-right}
+use Rattle.lists.proofs.Tests.{fails, never, nil-is, first-past, first-hit}
+use Rattle.lists.proofs.Elements.{all-in, in-all, in-right, first-in, last-in}
 use Rattle.rules.specs.Kinds.{Book, Ordered, insert, delete, Request, begin, commit, rollback, ask}
 use Rattle.rules.specs.Entries.{Entries, same, inserted, deleted, revived, put, changed}
 use Rattle.rules.specs.Locks.{taken, wanted}
 use Rattle.rules.specs.Queue.{St, Q, Wait, waits, oldest, newest, onCircle}
-use Rattle.rules.specs.Runs.{done, found, nothing, waiting, runsAlready, runsNot, waitsAlready, isPresent, locksShort, pagesShort, circle, Sy, En, Ran, unmoved, run, left, turn, Worked, worked}
+use Rattle.rules.specs.Runs.{done, found, nothing, waiting, runsAlready, runsNot, waitsAlready, isPresent, locksShort, pagesShort, circle, Sy, En, Ran, unmoved, run, Turn, left, refused, served, turn, Worked, worked, AtRest}
 use Rattle.rules.specs.Desk.{An}
 use Rattle.rules.specs.Good.{Good}
 use Rattle.rules.proofs.Keys.{same-itself}
-use Rattle.promises.specs.Demand2.{lockFor, LocksShort, Does, putsIn, bringsBack, takesAway, RunsRightly}
+use Rattle.rules.proofs.Waits.{oldest-waits, newest-waits}
+use Rattle.rules.proofs.Rest.{worked-turn, worked-done}
+use Rattle.rules.proofs.Chains.{found-is-circle, circle-is-found}
+use Rattle.rules.proofs.GoodKept.{good-kept}
+use Rattle.promises.specs.Demand2.{lockFor, LocksShort, Does, putsIn, bringsBack, takesAway, RunsRightly, MayRun, MustGiveWay, Rests, Works, rests, ran, gaveWay}
 use Rattle.promises.proofs.Causes.{runs-rightly}
+use Rattle.promises.proofs.Working.{same-wait}
 
 module _ (B : Book) (L : Ordered (B .Key) (B .compare)) where
   -- ---- a run
@@ -119,3 +124,85 @@ module _ (B : Book) (L : Ordered (B .Key) (B .compare)) where
         go circle e = looked circle e (λ z. never (cc)) (λ z. never (cc)) (λ z. never (cc))
         go locksShort e = refused-same (inl e)
         go pagesShort e = refused-same (inr e)
+
+-- ---- the last that passes a test
+module _ {A : Type 0} where
+  none-passes : (p : A → Bool) (xs : List A) → ((x : A) → In x xs → p x ≡ false) → (first p xs ≡ none) × (last p xs ≡ none)
+  none-passes p xs f = (by-first (first p xs) refl, by-last (last p xs) refl)
+    where
+      by-first : (o : Option A) → first p xs ≡ o → o ≡ none
+      by-first none e = refl
+      by-first (some x) e = let w = first-in p xs x e in absurd (true≢false (sym (w .1) ∙ f x (w .0)))
+
+      by-last : (o : Option A) → last p xs ≡ o → o ≡ none
+      by-last none e = refl
+      by-last (some x) e = let w = last-in p xs x e in absurd (true≢false (sym (w .1) ∙ f x (w .0)))
+
+  last-here : (p : A → Bool) (ahead : List A) (x : A) (after : List A) → p x ≡ true → ((y : A) → In y after → p y ≡ false) → last p (ahead ++ (x ∷ after)) ≡ some x
+  unfolding last
+  last-here p [] x after h f = rw (none-passes p after f .1, h)
+  last-here p (y ∷ ahead) x after h f = rw (last-here p ahead x after h f)
+
+  not-nil : (xs : List A) → xs ≢ [] → isNil xs ≡ false
+  not-nil xs n = fails (isNil xs) (λ e. n (nil-is xs e))
+
+module _ (B : Book) where
+  -- ---- a turn
+  oldest-is : (s : St B) (w : Wait B) → MayRun B s w → oldest B s ≡ some w
+  unfolding oldest
+  oldest-is s w h =
+      ap (first (λ v. isNil (v .behind))) (h .place)
+      ∙ first-past (λ v. isNil (v .behind)) (h .ahead) (w ∷ h .after)
+      (in-all (λ v. not (isNil (v .behind))) (h .ahead) (λ v i. ap not (not-nil (v .behind) (h .oldest v i))))
+      ∙ first-hit (λ v. isNil (v .behind)) w (h .after) (ap isNil (h .free))
+
+  oldest-none-is : (s : St B) → ((v : Wait B) → In v (waits B s) → v .behind ≢ []) → oldest B s ≡ none
+  unfolding oldest
+  oldest-none-is s f = none-passes (λ v. isNil (v .behind)) (waits B s) (λ v i. not-nil (v .behind) (f v i)) .0
+
+  newest-is : (s : St B) → Good B s → (w : Wait B) → MustGiveWay B s w → newest B s ≡ some w
+  unfolding newest
+  newest-is s g w h =
+      ap (last (onCircle B (waits B s))) (h .place)
+      ∙ last-here (onCircle B (waits B s)) (h .ahead) w (h .after) found-here
+      (λ v i. fails (onCircle B (waits B s) v) (λ e. h .newest v i (found-is-circle B s v (stands v (inr i)) e)))
+    where
+      stands : (v : Wait B) → In v (w ∷ h .after) → In v (waits B s)
+      stands v i = rw (h .place) (in-right (h .ahead) (w ∷ h .after) v i)
+
+      found-here : onCircle B (waits B s) w ≡ true
+      found-here =
+          let b = h .onCircle .chain .0 in
+          let z = same-wait B s g (b .wait) w (b .queued) (stands w (inl refl)) (b .asker) in
+          rw z at (circle-is-found B s g (w .request .asker) (h .onCircle))
+
+  newest-none-is : (s : St B) → Rests B s → newest B s ≡ none
+  unfolding newest
+  newest-none-is s h =
+      none-passes (onCircle B (waits B s)) (waits B s)
+      (λ v i. fails (onCircle B (waits B s) v) (λ e. h .noCircle (v .request .asker) (found-is-circle B s v i e))) .1
+
+  rest-is : (s : St B) → Rests B s → AtRest B s
+  unfolding turn
+  rest-is s h = ap (served B s) (oldest-none-is s (h .nobody)) ∙ ap (refused B s) (newest-none-is s h)
+
+  module _ (L : Ordered (B .Key) (B .compare)) where
+    -- ---- the queue as it is worked
+    abbrev SoWorked : St B → List (An B) → St B → Type 0
+    SoWorked s as′ z = _≡_ {A = Worked B} (record { state = z; answers = as′ }) (worked B s)
+
+    onward-same : (s : St B) (o : Turn B) (as′ : List (An B)) (z : St B) → turn B s ≡ some o → SoWorked (o .state) as′ z → SoWorked s (o .answer ∷ as′) z
+    onward-same s o as′ z e k = ap (λ (w : Worked B). record { state = w .state; answers = o .answer ∷ w .answers }) k ∙ sym (worked-turn B s o e)
+
+    pub works-once : {s z : St B} {as′ : List (An B)} → Works B s as′ z → Good B s → SoWorked s as′ z
+    unfolding turn
+    works-once {s} (rests h) g = sym (worked-done B s (rest-is s h))
+    works-once {s} (ran {as′ = as′} {z = z} w m h r k) g =
+        let i : In w (waits B s) = oldest-waits B s w (oldest-is s w h) in
+        let e = one-run B L s (w .request) (run B s (w .request)) m (runs-rightly B L s w i (h .free) g) r in
+        let k′ : Good B (left B s (w .request) m .state) = rw e (good-kept B L .goes s w i (h .free) g) in
+        onward-same s (left B s (w .request) m) as′ z (ap (served B s) (oldest-is s w h) ∙ (rw e)) (works-once k k′)
+    works-once {s} (gaveWay {as′ = as′} {z = z} w h k) g =
+        let i : In w (waits B s) = newest-waits B s w (newest-is s g w h) in
+        onward-same s (left B s (w .request) (unmoved B s circle)) as′ z
+        (ap (served B s) (oldest-none-is s (h .nobody)) ∙ ap (refused B s) (newest-is s g w h)) (works-once k (good-kept B L .givesWay s w i g))

@@ -59,7 +59,7 @@ module _ {A : Type 0} where
 
 module _ (B : Book) where
   -- ---- each wait by its asker
-  same-wait : (s : St B) → Good B s → (v w : Wait B) → In v (waits B s) → In w (waits B s) → v .request .asker ≡ w .request .asker → v ≡ w
+  pub same-wait : (s : St B) → Good B s → (v w : Wait B) → In v (waits B s) → In w (waits B s) → v .request .asker ≡ w .request .asker → v ≡ w
   same-wait s g v w i j e = go (pairs-in r (waits B s) v w (waits-known B s g .once) i j)
     where
       r : Wait B → Wait B → Bool
