@@ -14,16 +14,17 @@ use Rattle.rules.specs.Entries.{Entries, same, inserted, deleted, revived, put,
 use Rattle.rules.specs.Locks.{taken, wanted}
 use Rattle.rules.specs.Queue.{St, Q, Wait, waits, oldest, newest, onCircle}
 use Rattle.rules.specs.Runs.{done, found, nothing, waiting, runsAlready, runsNot, waitsAlready, isPresent, locksShort, pagesShort, circle, Sy, En, Ran, unmoved, run, Turn, left, refused, served, turn, Worked, worked, AtRest}
-use Rattle.rules.specs.Desk.{An}
+use Rattle.rules.specs.Desk.{An, refusal, afterDone, waitingLast, acts, step, isTransaction, legalRequest}
 use Rattle.rules.specs.Good.{Good}
 use Rattle.rules.proofs.Keys.{same-itself}
 use Rattle.rules.proofs.Waits.{oldest-waits, newest-waits}
 use Rattle.rules.proofs.Rest.{worked-turn, worked-done}
 use Rattle.rules.proofs.Chains.{found-is-circle, circle-is-found}
 use Rattle.rules.proofs.GoodKept.{good-kept}
-use Rattle.promises.specs.Demand2.{lockFor, LocksShort, Does, putsIn, bringsBack, takesAway, RunsRightly, MayRun, MustGiveWay, Rests, Works, rests, ran, gaveWay}
+use Rattle.promises.specs.Demand2.{lockFor, LocksShort, Does, putsIn, bringsBack, takesAway, RunsRightly, MayRun, MustGiveWay, Rests, Works, rests, ran, gaveWay, onlySays, Acts, Demand2}
 use Rattle.promises.proofs.Causes.{runs-rightly}
 use Rattle.promises.proofs.Working.{same-wait}
+use Rattle.promises.proofs.Demand2.{Why, why, unrefused, says-only, goes-on, setOut, set-out-good}
 
 module _ (B : Book) (L : Ordered (B .Key) (B .compare)) where
   -- ---- a run
@@ -206,3 +207,38 @@ module _ (B : Book) where
         let i : In w (waits B s) = newest-waits B s w (newest-is s g w h) in
         onward-same s (left B s (w .request) (unmoved B s circle)) as′ z
         (ap (served B s) (oldest-none-is s (h .nobody)) ∙ ap (refused B s) (newest-is s g w h)) (works-once k (good-kept B L .givesWay s w i g))
+
+    -- ---- a call
+    acted-once : (s : St B) (t : ℕ) (r : Request (B .Key) (B .Rec)) (w : Worked B) → Good B (setOut B s t r) → Acts B s t r w → w ≡ acts B s t r
+    unfolding acts
+    acted-once s t begin w k h =
+        let x = h .begins refl in (λ i. record { state = w .state; answers = x .1 i }) ∙ ap (afterDone B t) (works-once (x .0) k)
+    acted-once s t commit w k h =
+        let x = h .commits refl in (λ i. record { state = w .state; answers = x .1 i }) ∙ ap (afterDone B t) (works-once (x .0) k)
+    acted-once s t rollback w k h =
+        let x = h .rollsBack refl in (λ i. record { state = w .state; answers = x .1 i }) ∙ ap (afterDone B t) (works-once (x .0) k)
+    acted-once s t (ask a) w k h =
+        let x = h .asks a refl in (λ i. record { state = w .state; answers = x .1 i }) ∙ ap (waitingLast B t) (works-once (x .0) k)
+
+    pub demand2-decides : (s : St B) → Good B s → (t : ℕ) (r : Request (B .Key) (B .Rec)) → isTransaction B t ≡ true → legalRequest B r ≡ true
+        → (w : Worked B) → Demand2 B s t r w → w ≡ step B s t r
+    demand2-decides s g t r h l w d = go (refusal B s t r) refl
+      where
+        by-why : (m : Sy B) → refusal B s t r ≡ some m → Why B s t r m → w ≡ onlySays B s t m
+        by-why runsAlready e y = d .thirteen (y .0) (y .1)
+        by-why runsNot e y = d .fourteen (y .0) (y .1)
+        by-why waitsAlready e y = d .fifteen (y .0) (y .1) (y .2) (y .3)
+        by-why done e y = absurd y
+        by-why (found k o) e y = absurd y
+        by-why nothing e y = absurd y
+        by-why waiting e y = absurd y
+        by-why (isPresent k o) e y = absurd y
+        by-why locksShort e y = absurd y
+        by-why pagesShort e y = absurd y
+        by-why circle e y = absurd y
+
+        go : (o : Option (Sy B)) → refusal B s t r ≡ o → w ≡ step B s t r
+        go (some m) e = by-why m e (why B s t r m e) ∙ sym (says-only B s t r m e)
+        go none e =
+            let f = unrefused B s t r e in
+            acted-once s t r w (set-out-good B L s g t h r l f) (d .acts (f .0) (f .1) (f .2)) ∙ sym (goes-on B s t r e)

@@ -22,7 +22,7 @@ use Rattle.promises.proofs.Working.{works}
 module _ (B : Book) where
   -- ---- 13 to 15: why a request is refused at once
   module _ (s : St B) (t : ℕ) where
-    abbrev Why : Request (B .Key) (B .Rec) → Sy B → Type 0
+    abbrev pub Why : Request (B .Key) (B .Rec) → Sy B → Type 0
     Why r runsAlready = (r ≡ begin) × (runs B s t ≡ true)
     Why r runsNot = (r ≢ begin) × (runs B s t ≡ false)
     Why r waitsAlready = (r ≢ begin) × (r ≢ rollback) × (runs B s t ≡ true) × (waitsNow B s t ≡ true)
@@ -38,7 +38,7 @@ module _ (B : Book) where
     is-why : (r : Request (B .Key) (B .Rec)) (x m : Sy B) → some x ≡ some m → Why r x → Why r m
     is-why r x m e w = let z : x ≡ m = cc in subst (Why r) z w
 
-    why : (r : Request (B .Key) (B .Rec)) (m : Sy B) → refusal B s t r ≡ some m → Why r m
+    pub why : (r : Request (B .Key) (B .Rec)) (m : Sy B) → refusal B s t r ≡ some m → Why r m
     unfolding refusal
     why begin m h = go (runs B s t) refl h
       where
@@ -82,25 +82,39 @@ module _ (B : Book) where
     while-waiting rollback n m h k = absurd (m refl)
     while-waiting (ask a) n m h k = rw (h, k)
 
-    not-refused : (r : Request (B .Key) (B .Rec)) → (r ≡ begin → runs B s t ≡ false) → (r ≢ begin → runs B s t ≡ true) → (r ≢ begin → r ≢ rollback → waitsNow B s t ≡ false)
-        → refusal B s t r ≡ none
-    unfolding refusal
-    not-refused begin b n w = rw (b refl)
-    not-refused commit b n w = rw (n (λ z. never (cc)), w (λ z. never (cc)) (λ z. never (cc)))
-    not-refused rollback b n w = rw (n (λ z. never (cc)))
-    not-refused (ask a) b n w = rw (n (λ z. never (cc)), w (λ z. never (cc)) (λ z. never (cc)))
+    -- what it means that there is none
+    abbrev pub Unrefused : Request (B .Key) (B .Rec) → Type 0
+    Unrefused r = (r ≡ begin → runs B s t ≡ false) × (r ≢ begin → runs B s t ≡ true) × (r ≢ begin → r ≢ rollback → waitsNow B s t ≡ false)
 
-    says-only : (r : Request (B .Key) (B .Rec)) (m : Sy B) → refusal B s t r ≡ some m → step B s t r ≡ onlySays B s t m
+    not-refused : (r : Request (B .Key) (B .Rec)) → Unrefused r → refusal B s t r ≡ none
+    unfolding refusal
+    not-refused begin f = rw (f .0 refl)
+    not-refused commit f = rw (f .1 (λ z. never (cc)), f .2 (λ z. never (cc)) (λ z. never (cc)))
+    not-refused rollback f = rw (f .1 (λ z. never (cc)))
+    not-refused (ask a) f = rw (f .1 (λ z. never (cc)), f .2 (λ z. never (cc)) (λ z. never (cc)))
+
+    pub unrefused : (r : Request (B .Key) (B .Rec)) → refusal B s t r ≡ none → Unrefused r
+    unrefused r e = (
+      λ z. fails (runs B s t) (λ q. let v = already r z q in never (cc)),
+      λ z. not-false-is (runs B s t) (λ q. let v = not-running r z q in never (cc)),
+      λ z y. fails (waitsNow B s t) (λ q. by-running z y q (runs B s t) refl),
+    )
+      where
+        not-false-is : (b : Bool) → (b ≡ false → ⊥) → b ≡ true
+        not-false-is true f = refl
+        not-false-is false f = absurd (f refl)
+
+        by-running : r ≢ begin → r ≢ rollback → waitsNow B s t ≡ true → (b : Bool) → runs B s t ≡ b → ⊥
+        by-running z y q true k = let v = while-waiting r z y k q in never (cc)
+        by-running z y q false k = let v = not-running r z k in never (cc)
+
+    pub says-only : (r : Request (B .Key) (B .Rec)) (m : Sy B) → refusal B s t r ≡ some m → step B s t r ≡ onlySays B s t m
     unfolding step
     says-only r m e = ap (unless B s t (acts B s t r)) e
 
-    goes-on : (r : Request (B .Key) (B .Rec)) → refusal B s t r ≡ none → step B s t r ≡ acts B s t r
+    pub goes-on : (r : Request (B .Key) (B .Rec)) → refusal B s t r ≡ none → step B s t r ≡ acts B s t r
     unfolding step
     goes-on r e = ap (unless B s t (acts B s t r)) e
-
-  holds-else : (b : Bool) → (b ≡ false → ⊥) → b ≡ true
-  holds-else true f = refl
-  holds-else false f = absurd (f refl)
 
   -- ---- a worked queue says none of 13 to 15
   abbrev Later : Sy B → Type 0
@@ -156,52 +170,55 @@ module _ (B : Book) where
       go y (inr i) f = waiting-later t (waitsNow B (w .state) t) y i
 
   -- ---- a call
+  -- where the queue is worked from
+  abbrev pub setOut : St B → ℕ → Request (B .Key) (B .Rec) → St B
+  setOut s t begin = begun B s t
+  setOut s t commit = ended B committed s t
+  setOut s t rollback = ended B rolledBack s t
+  setOut s t (ask a) = joined B s t a
+
   module _ (L : Ordered (B .Key) (B .compare)) (s : St B) (g : Good B s) (t : ℕ) (h : isTransaction B t ≡ true) where
-    acted : (r : Request (B .Key) (B .Rec)) → legalRequest B r ≡ true
-        → (r ≡ begin → runs B s t ≡ false) → (r ≢ begin → runs B s t ≡ true) → (r ≢ begin → r ≢ rollback → waitsNow B s t ≡ false) → Acts B s t r (acts B s t r)
-    unfolding acts legalRequest
-    acted begin l b n w = record {
+    pub set-out-good : (r : Request (B .Key) (B .Rec)) → legalRequest B r ≡ true → Unrefused s t r → Good B (setOut s t r)
+    unfolding legalRequest
+    set-out-good begin l f = good-kept B L .begins s t h (f .0 refl) g
+    set-out-good commit l f = good-kept B L .commits s t tt h (f .1 (λ z. never (cc))) (f .2 (λ z. never (cc)) (λ z. never (cc))) g
+    set-out-good rollback l f = good-kept B L .rollsBack s t tt h (f .1 (λ z. never (cc))) g
+    set-out-good (ask a) l f = good-kept B L .joins s t a (f .1 (λ z. never (cc))) (f .2 (λ z. never (cc)) (λ z. never (cc))) l g
+
+    acted : (r : Request (B .Key) (B .Rec)) → Good B (setOut s t r) → Acts B s t r (acts B s t r)
+    unfolding acts
+    acted begin k = record {
       others = worked B (begun B s t) .answers;
-      begins = λ e. (works B L (begun B s t) (good-kept B L .begins s t h (b refl) g), refl);
+      begins = λ e. (works B L (begun B s t) k, refl);
       commits = λ e. never (cc);
       rollsBack = λ e. never (cc);
       asks = λ a e. never (cc);
     }
-    acted commit l b n w = record {
+    acted commit k = record {
       others = worked B (ended B committed s t) .answers;
       begins = λ e. never (cc);
-      commits = λ e. (works B L (ended B committed s t) (good-kept B L .commits s t tt h (n (λ z. never (cc))) (w (λ z. never (cc)) (λ z. never (cc))) g), refl);
+      commits = λ e. (works B L (ended B committed s t) k, refl);
       rollsBack = λ e. never (cc);
       asks = λ a e. never (cc);
     }
-    acted rollback l b n w = record {
+    acted rollback k = record {
       others = worked B (ended B rolledBack s t) .answers;
       begins = λ e. never (cc);
       commits = λ e. never (cc);
-      rollsBack = λ e. (works B L (ended B rolledBack s t) (good-kept B L .rollsBack s t tt h (n (λ z. never (cc))) g), refl);
+      rollsBack = λ e. (works B L (ended B rolledBack s t) k, refl);
       asks = λ a e. never (cc);
     }
-    acted (ask a) l b n w = record {
+    acted (ask a) k = record {
       others = worked B (joined B s t a) .answers;
       begins = λ e. never (cc);
       commits = λ e. never (cc);
       rollsBack = λ e. never (cc);
-      asks = λ x e.
-          let z : a ≡ x = cc in
-          rw (← z) (works B L (joined B s t a) (good-kept B L .joins s t a (n (λ z. never (cc))) (w (λ z. never (cc)) (λ z. never (cc))) l g), refl);
+      asks = λ x e. let z : a ≡ x = cc in rw (← z) (works B L (joined B s t a) k, refl);
     }
 
     module _ (r : Request (B .Key) (B .Rec)) (l : legalRequest B r ≡ true) where
-      -- where r is not refused it acts
-      goes : refusal B s t r ≡ none → Acts B s t r (acts B s t r)
-      goes e = acted r l
-          (λ z. fails (runs B s t) (λ q. let v = already s t r z q in never (cc)))
-          (λ z. holds-else (runs B s t) (λ q. let v = not-running s t r z q in never (cc)))
-          (λ z y. fails (waitsNow B s t) (λ q. by-running z y q (runs B s t) refl))
-        where
-          by-running : r ≢ begin → r ≢ rollback → waitsNow B s t ≡ true → (b : Bool) → runs B s t ≡ b → ⊥
-          by-running z y q true k = let v = while-waiting s t r z y k q in never (cc)
-          by-running z y q false k = let v = not-running s t r z k in never (cc)
+      goes : Unrefused s t r → Acts B s t r (acts B s t r)
+      goes f = acted r (set-out-good r l f)
 
       -- 13 to 15 are said by a refusal
       refused : (u : ℕ) (m : Sy B) → (Later m → ⊥) → In (says B u m) (step B s t r .answers) → (u ≡ t) × Why s t r m
@@ -209,7 +226,7 @@ module _ (B : Book) where
       refused u m n i = go (refusal B s t r) refl i
         where
           go : (o : Option (Sy B)) → refusal B s t r ≡ o → In (says B u m) (unless B s t (acts B s t r) o .answers) → (u ≡ t) × Why s t r m
-          go none e i = absurd (n (acted-later s t r (acts B s t r) (goes e) (says B u m) i))
+          go none e i = absurd (n (acted-later s t r (acts B s t r) (goes (unrefused s t r e)) (says B u m) i))
           go (some x) e (inl q) =
               let v : x ≡ m = ap (λ (a : An B). a .says) q in
               (ap (λ (a : An B). a .asker) (sym q), subst (Why s t r) v (why s t r x e))
@@ -222,7 +239,7 @@ module _ (B : Book) where
         thirteenCause = λ u i. let x = refused u runsAlready (λ z. z) i in (x .0, x .1 .0, x .1 .1);
         fourteenCause = λ u i. let x = refused u runsNot (λ z. z) i in (x .0, x .1 .0, x .1 .1);
         fifteenCause = λ u i. let x = refused u waitsAlready (λ z. z) i in (x .0, x .1 .0, x .1 .1, x .1 .2, x .1 .3);
-        acts = λ b n w. rw (goes-on s t r (not-refused s t r b n w)) (acted r l b n w);
+        acts = λ b n w. rw (goes-on s t r (not-refused s t r (b, n, w))) (goes (b, n, w));
       }
 
 module _ (B : Book) (L : Ordered (B .Key) (B .compare)) where
