@@ -4,15 +4,14 @@ use Prim.Native.Nat.{ℕ}
 use mathlib.Core.Path.{_≡_, refl, sym, ap, subst, _∙_}
 use mathlib.Core.Logic.{_≢_, _⊎_, ⊎-elim}
 use mathlib.Core.Bool.{Bool, true, false, cond, not, true≢false, false≢true}
-use mathlib.Core.List.{List, [], _∷_, map}
+use mathlib.Core.List.{[], _∷_, map}
 use mathlib.Core.Option.{Option, none, some}
-use lib.Dec.{eqb}
-use borrow.Author.Tests.{eq-eqb, not-true}
-use Rattle.lists.specs.Lists.{all, In, first}
+use borrow.Author.Tests.{eq-eqb}
+use Rattle.lists.specs.Lists.{all, In}
 use Rattle.lists.proofs.Tests.{and-right, never}
 use Rattle.lists.proofs.Elements.{all-in, in-all, first-in}
 use Rattle.rules.specs.Kinds.{Book, Ordered, Mode, S, X, Name, on, end, Ask, read, insert, delete}
-use Rattle.rules.specs.Entries.{Entries, isThere, atMost, same, present, ghost}
+use Rattle.rules.specs.Entries.{Entries, isThere, atMost, same}
 use Rattle.rules.specs.Locks.{Slots, holds, raised, behind, added, taken, target, counts, named, itself, mode, wanted}
 use Rattle.rules.specs.Queue.{St, Q, Wait, waits}
 use Rattle.rules.specs.Runs.{done, found, nothing, waiting, runsAlready, runsNot, waitsAlready, isPresent, locksShort, pagesShort, circle, Sy, En, Ran, unmoved, locked, given, taking, readSays, insertMissing, insertThere, insertAs, deleteThere, deleteAs, runOn, run}
@@ -26,7 +25,7 @@ use Rattle.rules.proofs.Unblocked.{good-sound, clear-as}
 use Rattle.rules.proofs.Targets.{own-cover, entry-at}
 use Rattle.rules.specs.Desk.{runs}
 use Rattle.promises.specs.Demand3.{nowIn, nowAt}
-use Rattle.promises.specs.Demand2.{lockName, lockFor, LocksShort, Present, PagesShort, Finds, FindsNothing, above, absent, Does, putsIn, bringsBack, takesAway, RunsRightly}
+use Rattle.promises.specs.Demand2.{lockFor, LocksShort, Present, PagesShort, Finds, FindsNothing, above, absent, Does, putsIn, bringsBack, takesAway, RunsRightly}
 
 module _ (B : Book) where
   -- ---- "a new lock is needed and all are in use": a lock is not to be had where t holds none on the name and no slot is free, and only there

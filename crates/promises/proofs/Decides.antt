@@ -1,9 +1,9 @@
 -- Demand 2 decides: whatever it holds of is the rule book's step, state and answers (`demand2-decides`), so no idle desk satisfies it. A run is told
 -- by its causes, a turn by the oldest and the newest, and so on along the queue as it is worked. Assumes nothing.
 use Prim.Native.Nat.{ℕ}
-use mathlib.Core.Path.{_≡_, refl, sym, ap, ap₂, subst, _∙_}
+use mathlib.Core.Path.{_≡_, refl, sym, ap, ap₂, _∙_}
 use mathlib.Core.Logic.{_≢_, _⊎_, inl, inr}
-use mathlib.Core.Bool.{Bool, true, false, cond, not, true≢false, false≢true}
+use mathlib.Core.Bool.{Bool, true, false, not, true≢false, false≢true}
 use mathlib.Core.List.{List, [], _∷_, _++_}
 use mathlib.Core.Option.{Option, none, some, Option·some-injective}
 use Rattle.lists.specs.Lists.{all, In, first, last, isNil}
@@ -11,7 +11,6 @@ use Rattle.lists.proofs.Tests.{fails, never, nil-is, first-past, first-hit}
 use Rattle.lists.proofs.Elements.{all-in, in-all, in-right, first-in, last-in}
 use Rattle.rules.specs.Kinds.{Book, Ordered, insert, delete, Request, begin, commit, rollback, ask}
 use Rattle.rules.specs.Entries.{Entries, same, inserted, deleted, revived, put, changed}
-use Rattle.rules.specs.Locks.{taken, wanted}
 use Rattle.rules.specs.Queue.{St, Q, Wait, waits, oldest, newest, onCircle}
 use Rattle.rules.specs.Runs.{done, found, nothing, waiting, runsAlready, runsNot, waitsAlready, isPresent, locksShort, pagesShort, circle, Sy, En, Ran, unmoved, run, Turn, left, refused, served, turn, Worked, worked, AtRest}
 use Rattle.rules.specs.Desk.{An, refusal, afterDone, waitingLast, acts, step, isTransaction, legalRequest}
@@ -21,7 +20,7 @@ use Rattle.rules.proofs.Waits.{oldest-waits, newest-waits}
 use Rattle.rules.proofs.Rest.{worked-turn, worked-done}
 use Rattle.rules.proofs.Chains.{found-is-circle, circle-is-found}
 use Rattle.rules.proofs.GoodKept.{good-kept}
-use Rattle.promises.specs.Demand2.{lockFor, LocksShort, Does, putsIn, bringsBack, takesAway, RunsRightly, MayRun, MustGiveWay, Rests, Works, rests, ran, gaveWay, onlySays, Acts, Demand2}
+use Rattle.promises.specs.Demand2.{LocksShort, Does, putsIn, bringsBack, takesAway, RunsRightly, MayRun, MustGiveWay, Rests, Works, rests, ran, gaveWay, onlySays, Acts, Demand2}
 use Rattle.promises.proofs.Causes.{runs-rightly}
 use Rattle.promises.proofs.Working.{same-wait}
 use Rattle.promises.proofs.Demand2.{Why, why, unrefused, says-only, goes-on, setOut, set-out-good}

@@ -1,10 +1,10 @@
 -- Demand 2 in its own words, proved of every call on a good state: the one theorem is `demand2`. 13 to 15 by the cases of the request, and never
 -- said by a worked queue; the rest is how the queue is worked (Working) and what a run says (Causes). Assumes nothing.
 use Prim.Native.Nat.{ℕ}
-use mathlib.Core.Path.{_≡_, refl, sym, ap, subst, _∙_}
+use mathlib.Core.Path.{_≡_, refl, sym, ap, subst}
 use mathlib.Core.Logic.{_≢_, _⊎_, inl, inr}
 use mathlib.Core.Bool.{Bool, true, false, cond}
-use mathlib.Core.List.{List, [], _∷_, _++_}
+use mathlib.Core.List.{List, [], _∷_}
 use mathlib.Core.Option.{Option, none, some}
 use Rattle.lists.specs.Lists.{In}
 use Rattle.lists.proofs.Tests.{fails, never}
@@ -16,7 +16,7 @@ use Rattle.rules.specs.Runs.{done, found, nothing, waiting, runsAlready, runsNo
 use Rattle.rules.specs.Desk.{An, runs, waitsNow, says, unlessRuns, ifSo, refusal, begun, ended, joined, acts, unless, step, isTransaction, legalRequest}
 use Rattle.rules.specs.Good.{Good}
 use Rattle.rules.proofs.GoodKept.{good-kept}
-use Rattle.promises.specs.Demand2.{RunsRightly, Works, rests, ran, gaveWay, onlySays, Acts, Demand2}
+use Rattle.promises.specs.Demand2.{Works, rests, ran, gaveWay, onlySays, Acts, Demand2}
 use Rattle.promises.proofs.Working.{works}
 
 module _ (B : Book) where

@@ -1,6 +1,6 @@
--- Demand 2 in its own words: "A refusal is given when its stated cause holds and at no other time." For each of 13 to 19 the cause, in the words
--- of document 01, "What the desk says", and what is changed with it; and the order in which the queue is worked ("Working the queue"), without
--- the search that finds it. Assumes nothing.
+-- Demand 2 in its own words: "A refusal is given when its stated cause holds and at no other time." For each number of document 01, "What the
+-- desk says", from 0 on, the cause, and what is changed with it; and the order in which the queue is worked ("Working the queue"), without the
+-- search that finds it. Proofs/Decides: no second outcome of a call satisfies it, so no idle desk does. Assumes nothing.
 use Prim.Native.Nat.{ℕ}
 use mathlib.Core.Path.{_≡_}
 use mathlib.Core.Logic.{_≢_, _⊎_}
@@ -12,8 +12,8 @@ use Rattle.rules.specs.Kinds.{Book, Name, on, Ask, read, insert, delete, Reques
 use Rattle.rules.specs.Entries.{Entries, isThere, atMost, same, inserted, deleted, revived, put, changed, committed, rolledBack}
 use Rattle.rules.specs.Locks.{holds, taken, target, named, wanted}
 use Rattle.rules.specs.Queue.{St, Q, Wait, waits}
-use Rattle.rules.specs.Runs.{done, found, nothing, waiting, runsAlready, runsNot, waitsAlready, isPresent, locksShort, pagesShort, circle, Sy, En, Ran, unmoved, Turn, left, Worked}
-use Rattle.rules.specs.Desk.{An, Cl, runs, waitsNow, says, begun, ended, joined}
+use Rattle.rules.specs.Runs.{done, found, nothing, waiting, runsAlready, runsNot, waitsAlready, isPresent, locksShort, pagesShort, circle, Sy, En, Ran, unmoved, left, Worked}
+use Rattle.rules.specs.Desk.{An, runs, waitsNow, says, begun, ended, joined}
 use Rattle.rules.specs.Chains.{Circle}
 use Rattle.promises.specs.Demand3.{nowAt}
 
