@@ -130,14 +130,18 @@ module _ (B : Book) where
 
           is-there : (u : atMost B (e .key) hi ≡ true) (o : Option (B .Rec)) → e .now ≡ o → (was : B .Rec) × (o ≡ some was) × Finds B s q (e .key) was
           is-there u none z = absurd (read-present lo hi e a h u z)
-          is-there u (some was) z = (was, refl, record {
-            lo = lo;
-            hi = hi;
-            asks = refl;
-            isTarget = rw h;
-            inside = u;
-            isNow = now-of (s .entries) e (g .keys) (target-in B (s .entries) t (read lo hi) e h) ∙ z;
-          })
+          is-there u (some was) z = (
+            was,
+            refl,
+            record {
+              lo = lo;
+              hi = hi;
+              asks = refl;
+              isTarget = rw h;
+              inside = u;
+              isNow = now-of (s .entries) e (g .keys) (target-in B (s .entries) t (read lo hi) e h) ∙ z;
+            },
+          )
 
           go : (b : Bool) → atMost B (e .key) hi ≡ b → Outcome s q ls (locked B s (cond b (found (e .key) (e .now)) nothing) ls)
           go true u = seen (e .key) (e .now) (is-there u (e .now) refl)
@@ -164,11 +168,15 @@ module _ (B : Book) where
 
           go : (ls : Slots B) (o : Option (B .Rec)) → e .now ≡ o → Outcome s (record { asker = t; asks = insert k r }) ls (insertThere B s t r e o ls)
           go ls none z = made _ _ (bringsBack e r (ap (λ (y : B .Key). insert y r) (sym own)) stands (own-ghost e stands z (rw (a, x .0, x .1))) z)
-          go ls (some was) z = there (e .key) (some was) (was, refl, record {
-            rec = r;
-            asks = ap (λ (y : B .Key). insert y r) (sym own);
-            isNow = now-of (s .entries) e (g .keys) stands ∙ z;
-          })
+          go ls (some was) z = there (e .key) (some was) (
+            was,
+            refl,
+            record {
+              rec = r;
+              asks = ap (λ (y : B .Key). insert y r) (sym own);
+              isNow = now-of (s .entries) e (g .keys) stands ∙ z;
+            },
+          )
 
       delete-locking : (k : B .Key) (o : Option (En B)) → itself B k (atOrAbove B k (s .entries)) ≡ o → Locking s (record { asker = t; asks = delete k })
       unfolding run runOn target wanted mode deleteAs deleteThere
