@@ -41,7 +41,8 @@ module _ (B : Book) where
   full-added l (none ∷ ls) h = never (cc)
   full-added l (some x ∷ ls) h = go (added B l ls) refl h (full-added l ls)
     where
-      go : (o : Option (Slots B)) → added B l ls ≡ o → behind B (some x) o ≡ none → (added B l ls ≡ none → all isThere ls ≡ true) → all isThere ls ≡ true
+      go : (o : Option (Slots B)) → added B l ls ≡ o → behind B (some x) o ≡ none → (added B l ls ≡ none → all isThere ls ≡ true)
+          → all isThere ls ≡ true
       go none e h f = f e
       go (some ms) e h f = never (cc)
 
@@ -53,7 +54,8 @@ module _ (B : Book) where
   unfolding taken
   short-taken ls t n m h = go (holds B ls t n) refl h
     where
-      go : (b : Bool) → holds B ls t n ≡ b → cond b (some (map (raised B t n m) ls)) (added B (lockOf B t n m) ls) ≡ none → (holds B ls t n ≡ false) × (all isThere ls ≡ true)
+      go : (b : Bool) → holds B ls t n ≡ b → cond b (some (map (raised B t n m) ls)) (added B (lockOf B t n m) ls) ≡ none
+          → (holds B ls t n ≡ false) × (all isThere ls ≡ true)
       go true q e = never (cc)
       go false q e = (q, full-added (lockOf B t n m) ls e)
 
@@ -76,7 +78,8 @@ module _ (B : Book) where
             let i = first-in (λ y. atMost B k (y .key)) es e (x .0) .0 in
             absurd (false≢true (ap not (sym (x .1)) ∙ all-in (λ e. not (same B (e .key) k)) es e h i))
 
-    itself-missing : (es : Entries B) (k : B .Key) → ascending B es ≡ true → itself B k (atOrAbove B k es) ≡ none → all (λ e. not (same B (e .key) k)) es ≡ true
+    itself-missing : (es : Entries B) (k : B .Key) → ascending B es ≡ true → itself B k (atOrAbove B k es) ≡ none
+        → all (λ e. not (same B (e .key) k)) es ≡ true
     itself-missing es k h n = in-all (λ e. not (same B (e .key) k)) es (λ e i. ap not (missing B L es k h n e i))
 
     -- ---- what a run does that has its lock, with ls the lock table then
@@ -86,11 +89,13 @@ module _ (B : Book) where
       -- 2
       empty : FindsNothing B s q → Outcome s q ls (locked B s nothing ls)
       -- 16
-      there : (k : B .Key) (o : Option (B .Rec)) → (was : B .Rec) × (o ≡ some was) × Present B s q k was → Outcome s q ls (locked B s (isPresent k o) ls)
+      there : (k : B .Key) (o : Option (B .Rec)) → (was : B .Rec) × (o ≡ some was) × Present B s q k was
+          → Outcome s q ls (locked B s (isPresent k o) ls)
       -- 18
       full : PagesShort B s q → Outcome s q ls (unmoved B s pagesShort)
       -- 0
-      made : (es : Entries B) (ps : B .paging .Pages) → Does B s q es ps → Outcome s q ls (record { says = done; entries = es; pages = ps; slots = ls })
+      made : (es : Entries B) (ps : B .paging .Pages) → Does B s q es ps
+          → Outcome s q ls (record { says = done; entries = es; pages = ps; slots = ls })
 
     -- a run: it takes its lasting lock, or says 17, and then does as above
     record Locking (s : St B) (q : Q B) : Type 0 where
@@ -104,14 +109,17 @@ module _ (B : Book) where
       t = w .request .asker
 
       -- a ghost is its owner's in X: where nobody blocks the request that would lock it, the owner is the asker
-      own-ghost : (e : En B) → In e (s .entries) → e .now ≡ none → wanted B (s .entries) (w .request) ≡ record { name = on (e .key); mode = S } → e .owner ≡ t
+      own-ghost : (e : En B) → In e (s .entries) → e .now ≡ none → wanted B (s .entries) (w .request) ≡ record { name = on (e .key); mode = S }
+          → e .owner ≡ t
       own-ghost e k z v =
           let o = good-sound B L s g in
           let x = owner-holds B (runs B s) (s .slots) e (o .owners e k) (λ y. true≢false (sym (o .settled e k y .isThere) ∙ ap isThere z)) in
-          sym (x .holder) ∙ clear-as B L s w i n g (record { name = on (e .key); mode = S }) v (x .lock) (x .stands) (x .name) (x-conflicts (x .lock .mode) S (x .strong))
+          sym (x .holder)
+          ∙ clear-as B L s w i n g (record { name = on (e .key); mode = S }) v (x .lock) (x .stands) (x .name) (x-conflicts (x .lock .mode) S (x .strong))
 
       -- "first entry at or above lo that is above hi or isn't the asker's own ghost": at most hi it is present
-      read-present : (lo hi : B .Key) (e : En B) → w .request .asks ≡ read lo hi → target B (s .entries) t (read lo hi) ≡ some e → atMost B (e .key) hi ≡ true
+      read-present : (lo hi : B .Key) (e : En B) → w .request .asks ≡ read lo hi → target B (s .entries) t (read lo hi) ≡ some e
+          → atMost B (e .key) hi ≡ true
           → e .now ≡ none → ⊥
       unfolding target wanted mode
       read-present lo hi e a h u z =
@@ -145,14 +153,16 @@ module _ (B : Book) where
 
           go : (b : Bool) → atMost B (e .key) hi ≡ b → Outcome s q ls (locked B s (cond b (found (e .key) (e .now)) nothing) ls)
           go true u = seen (e .key) (e .now) (is-there u (e .now) refl)
-          go false u = empty (above lo hi refl (λ k z. let y : on (e .key) ≡ on k = ap (named B) (sym h) ∙ z in let x : e .key ≡ k = cc in rw (← x) u))
+          go false u =
+              empty (above lo hi refl (λ k z. let y : on (e .key) ≡ on k = ap (named B) (sym h) ∙ z in let x : e .key ≡ k = cc in rw (← x) u))
 
       insert-locking : (k : B .Key) (r : B .Rec) → w .request .asks ≡ insert k r → (o : Option (En B)) → itself B k (atOrAbove B k (s .entries)) ≡ o
           → Locking s (record { asker = t; asks = insert k r })
       unfolding run runOn target wanted mode insertAs insertMissing insertThere
       insert-locking k r a none h = record { act = insertMissing B s t k r; isRun = rw h; acts = λ ls. go ls (B .paging .fits (s .pages) k) refl }
         where
-          go : (ls : Slots B) (b : Bool) → B .paging .fits (s .pages) k ≡ b → Outcome s (record { asker = t; asks = insert k r }) ls (insertMissing B s t k r ls)
+          go : (ls : Slots B) (b : Bool) → B .paging .fits (s .pages) k ≡ b
+              → Outcome s (record { asker = t; asks = insert k r }) ls (insertMissing B s t k r ls)
           go ls true f = rw f (made _ _ (putsIn k r refl (itself-missing (s .entries) k (g .keys) h) f))
           go ls false f = rw f (full (record { key = k; rec = r; asks = refl; missing = itself-missing (s .entries) k (g .keys) h; short = f }))
       insert-locking k r a (some e) h = record { act = insertThere B s t r e (e .now); isRun = rw (h, own); acts = λ ls. go ls (e .now) refl }
@@ -178,7 +188,8 @@ module _ (B : Book) where
             },
           )
 
-      delete-locking : (k : B .Key) (o : Option (En B)) → itself B k (atOrAbove B k (s .entries)) ≡ o → Locking s (record { asker = t; asks = delete k })
+      delete-locking : (k : B .Key) (o : Option (En B)) → itself B k (atOrAbove B k (s .entries)) ≡ o
+          → Locking s (record { asker = t; asks = delete k })
       unfolding run runOn target wanted mode deleteAs deleteThere
       delete-locking k none h = record {
         act = locked B s nothing;
@@ -208,14 +219,16 @@ module _ (B : Book) where
       locking (delete k) a = delete-locking k (itself B k (atOrAbove B k (s .entries))) refl
 
       -- with a lock to be had, each cause gives its number
-      had : (LocksShort B s (w .request) → ⊥) → (m : Mode) (f : Slots B → Ran B) → (ls : Slots B) × (taking B s t (lockFor B s (w .request)) m f ≡ f ls)
+      had : (LocksShort B s (w .request) → ⊥) → (m : Mode) (f : Slots B → Ran B)
+          → (ls : Slots B) × (taking B s t (lockFor B s (w .request)) m f ≡ f ls)
       had free m f = go (taken B (s .slots) t (lockFor B s (w .request)) m) refl
         where
           go : (o : Option (Slots B)) → taken B (s .slots) t (lockFor B s (w .request)) m ≡ o → (ls : Slots B) × (given B s f o ≡ f ls)
           go none e = let c = short-taken (s .slots) t (lockFor B s (w .request)) m e in absurd (free (record { new = c .0; full = c .1 }))
           go (some ls) e = (ls, refl)
 
-      says-present : (LocksShort B s (w .request) → ⊥) → (k : B .Key) (was : B .Rec) → Present B s (w .request) k was → run B s (w .request) .says ≡ isPresent k (some was)
+      says-present : (LocksShort B s (w .request) → ⊥) → (k : B .Key) (was : B .Rec) → Present B s (w .request) k was
+          → run B s (w .request) .says ≡ isPresent k (some was)
       unfolding run runOn target insertAs insertThere
       says-present free k was p = go (itself B k (atOrAbove B k (s .entries))) refl
         where
@@ -227,7 +240,8 @@ module _ (B : Book) where
           go (some e) h =
               let own : e .key ≡ k = same-equal B L (e .key) k (itself-is B k (atOrAbove B k (s .entries)) e h .1) in
               let v = had free S (insertThere B s t (p .rec) e (e .now)) in
-              let r : run B s (w .request) ≡ taking B s t (lockFor B s (w .request)) S (insertThere B s t (p .rec) e (e .now)) = rw (p .asks, h, own) in
+              let r : run B s (w .request) ≡ taking B s t (lockFor B s (w .request)) S (insertThere B s t (p .rec) e (e .now)) =
+              rw (p .asks, h, own) in
               ap (λ (m : Ran B). m .says) (r ∙ v .1) ∙ (rw (now (some e) h, own))
 
       says-pages : (LocksShort B s (w .request) → ⊥) → PagesShort B s (w .request) → run B s (w .request) .says ≡ pagesShort
@@ -238,11 +252,13 @@ module _ (B : Book) where
           let r : run B s (w .request) ≡ taking B s t (lockFor B s (w .request)) X (insertMissing B s t (p .key) (p .rec)) = rw (p .asks, h) in
           ap (λ (m : Ran B). m .says) (r ∙ v .1) ∙ (rw (p .short))
 
-      says-found : (LocksShort B s (w .request) → ⊥) → (k : B .Key) (was : B .Rec) → Finds B s (w .request) k was → run B s (w .request) .says ≡ found k (some was)
+      says-found : (LocksShort B s (w .request) → ⊥) → (k : B .Key) (was : B .Rec) → Finds B s (w .request) k was
+          → run B s (w .request) .says ≡ found k (some was)
       unfolding run runOn readSays
       says-found free k was p = go (target B (s .entries) t (w .request .asks)) refl (p .isTarget)
         where
-          go : (o : Option (En B)) → target B (s .entries) t (w .request .asks) ≡ o → named B o ≡ on k → run B s (w .request) .says ≡ found k (some was)
+          go : (o : Option (En B)) → target B (s .entries) t (w .request .asks) ≡ o → named B o ≡ on k
+              → run B s (w .request) .says ≡ found k (some was)
           go none h e = never (cc)
           go (some e) h q =
               let own : e .key ≡ k = cc in
@@ -267,7 +283,8 @@ module _ (B : Book) where
               past (some e) h = rw (f (e .key) (ap (named B) h))
       says-nothing free (absent k a z) = go (itself B k (atOrAbove B k (s .entries))) refl (sym (now-at (s .entries) k (g .keys)) ∙ z)
         where
-          go : (o : Option (En B)) → itself B k (atOrAbove B k (s .entries)) ≡ o → nowIn B (itself B k (atOrAbove B k (s .entries))) ≡ none → run B s (w .request) .says ≡ nothing
+          go : (o : Option (En B)) → itself B k (atOrAbove B k (s .entries)) ≡ o → nowIn B (itself B k (atOrAbove B k (s .entries))) ≡ none
+              → run B s (w .request) .says ≡ nothing
           go none h y =
               let v = had free S (locked B s nothing) in
               let r : run B s (w .request) ≡ taking B s t (lockFor B s (w .request)) S (locked B s nothing) = rw (a, h) in
@@ -279,7 +296,8 @@ module _ (B : Book) where
               rw (a, h, itself-is B k (atOrAbove B k (s .entries)) e h .0) in
               ap (λ (m : Ran B). m .says) (r ∙ v .1) ∙ (rw now)
 
-      says-done : (LocksShort B s (w .request) → ⊥) → (es : Entries B) (ps : B .paging .Pages) → Does B s (w .request) es ps → run B s (w .request) .says ≡ done
+      says-done : (LocksShort B s (w .request) → ⊥) → (es : Entries B) (ps : B .paging .Pages) → Does B s (w .request) es ps
+          → run B s (w .request) .says ≡ done
       unfolding run runOn target insertAs insertMissing insertThere deleteAs deleteThere
       says-done free es ps (putsIn k r a m f) =
           let h = missing-itself (s .entries) k m in
@@ -293,7 +311,8 @@ module _ (B : Book) where
           ap (λ (m : Ran B). m .says) (y ∙ v .1) ∙ (rw z)
       says-done free es ps (takesAway k was a z) = go (itself B k (atOrAbove B k (s .entries))) refl (sym (now-at (s .entries) k (g .keys)) ∙ z)
         where
-          go : (o : Option (En B)) → itself B k (atOrAbove B k (s .entries)) ≡ o → nowIn B (itself B k (atOrAbove B k (s .entries))) ≡ some was → run B s (w .request) .says ≡ done
+          go : (o : Option (En B)) → itself B k (atOrAbove B k (s .entries)) ≡ o → nowIn B (itself B k (atOrAbove B k (s .entries))) ≡ some was
+              → run B s (w .request) .says ≡ done
           go none h y = let x : none ≡ some was = rw h at y in never (cc)
           go (some e) h y =
               let now : e .now ≡ some was = rw h at y in
@@ -325,7 +344,8 @@ module _ (B : Book) where
 
       -- with the lock, and a number that is no refusal
       with-lock : (m : Ran B) → taken B (s .slots) t (lockFor B s (w .request)) (wanted B (s .entries) (w .request) .mode) ≡ some (m .slots)
-          → m .says ≢ locksShort → m .says ≢ pagesShort → Cause m (m .says) → (m .says ≢ done → (m .entries ≡ s .entries) × (m .pages ≡ s .pages)) → Right m
+          → m .says ≢ locksShort → m .says ≢ pagesShort → Cause m (m .says)
+          → (m .says ≢ done → (m .entries ≡ s .entries) × (m .pages ≡ s .pages)) → Right m
       with-lock m e a b c l = record { cause = c; queueAlone = ⊎-elim (λ z. absurd (a z)) (λ z. absurd (b z)); takesLock = λ x y. e; lockAlone = l }
 
       by-outcome : (ls : Slots B) → taken B (s .slots) t (lockFor B s (w .request)) (wanted B (s .entries) (w .request) .mode) ≡ some ls
@@ -340,7 +360,8 @@ module _ (B : Book) where
       ran = locking (w .request .asks) refl
 
       -- the lock is had or not
-      by-lock : (o : Option (Slots B)) → taken B (s .slots) t (lockFor B s (w .request)) (wanted B (s .entries) (w .request) .mode) ≡ o → Right (given B s (ran .act) o)
+      by-lock : (o : Option (Slots B)) → taken B (s .slots) t (lockFor B s (w .request)) (wanted B (s .entries) (w .request) .mode) ≡ o
+          → Right (given B s (ran .act) o)
       by-lock none e = let c = short-taken (s .slots) t (lockFor B s (w .request)) (wanted B (s .entries) (w .request) .mode) e in record {
         cause = record { new = c .0; full = c .1 };
         queueAlone = λ z. refl;
@@ -350,7 +371,8 @@ module _ (B : Book) where
       by-lock (some ls) e = by-outcome ls e (ran .act ls) (ran .acts ls)
 
       right : Right (run B s (w .request))
-      right = subst Right (sym (ran .isRun)) (by-lock (taken B (s .slots) t (lockFor B s (w .request)) (wanted B (s .entries) (w .request) .mode)) refl)
+      right =
+          subst Right (sym (ran .isRun)) (by-lock (taken B (s .slots) t (lockFor B s (w .request)) (wanted B (s .entries) (w .request) .mode)) refl)
 
       cause-of : (x : Sy B) → run B s (w .request) .says ≡ x → Cause (run B s (w .request)) x
       cause-of x e = subst (Cause (run B s (w .request))) e (right .cause)
@@ -358,7 +380,8 @@ module _ (B : Book) where
       says-short : LocksShort B s (w .request) → run B s (w .request) .says ≡ locksShort
       says-short c =
           ap (λ (x : Ran B). x .says) (ran .isRun
-          ∙ ap (given B s (ran .act)) (taken-short (s .slots) t (lockFor B s (w .request)) (wanted B (s .entries) (w .request) .mode) (c .new) (c .full)))
+          ∙ ap (given B s (ran .act))
+          (taken-short (s .slots) t (lockFor B s (w .request)) (wanted B (s .entries) (w .request) .mode) (c .new) (c .full)))
 
       pub runs-rightly : RunsRightly B s (w .request) (run B s (w .request))
       runs-rightly = record {

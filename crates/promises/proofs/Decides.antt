@@ -98,7 +98,8 @@ module _ (B : Book) (L : Ordered (B .Key) (B .compare)) where
     locked-same : m .says ≢ locksShort → m .says ≢ pagesShort → (n .entries ≡ m .entries) × (n .pages ≡ m .pages) → n ≡ m
     locked-same f h w =
         alike (w .0) (w .1)
-        (Option·some-injective (n .slots) (m .slots) (sym (b .takesLock (λ z. f (sym same-number ∙ z)) (λ z. h (sym same-number ∙ z))) ∙ a .takesLock f h))
+        (Option·some-injective (n .slots) (m .slots)
+        (sym (b .takesLock (λ z. f (sym same-number ∙ z)) (λ z. h (sym same-number ∙ z))) ∙ a .takesLock f h))
 
     pub one-run : n ≡ m
     one-run = go (m .says) refl
@@ -138,7 +139,8 @@ module _ {A : Type 0} where
       by-last none e = refl
       by-last (some x) e = let w = last-in p xs x e in absurd (true≢false (sym (w .1) ∙ f x (w .0)))
 
-  last-here : (p : A → Bool) (ahead : List A) (x : A) (after : List A) → p x ≡ true → ((y : A) → In y after → p y ≡ false) → last p (ahead ++ (x ∷ after)) ≡ some x
+  last-here : (p : A → Bool) (ahead : List A) (x : A) (after : List A) → p x ≡ true → ((y : A) → In y after → p y ≡ false)
+      → last p (ahead ++ (x ∷ after)) ≡ some x
   unfolding last
   last-here p [] x after h f = rw (none-passes p after f .1, h)
   last-here p (y ∷ ahead) x after h f = rw (last-here p ahead x after h f)
@@ -191,7 +193,8 @@ module _ (B : Book) where
     abbrev SoWorked : St B → List (An B) → St B → Type 0
     SoWorked s as′ z = _≡_ {A = Worked B} (record { state = z; answers = as′ }) (worked B s)
 
-    onward-same : (s : St B) (o : Turn B) (as′ : List (An B)) (z : St B) → turn B s ≡ some o → SoWorked (o .state) as′ z → SoWorked s (o .answer ∷ as′) z
+    onward-same : (s : St B) (o : Turn B) (as′ : List (An B)) (z : St B) → turn B s ≡ some o → SoWorked (o .state) as′ z
+        → SoWorked s (o .answer ∷ as′) z
     onward-same s o as′ z e k = ap (λ (w : Worked B). record { state = w .state; answers = o .answer ∷ w .answers }) k ∙ sym (worked-turn B s o e)
 
     pub works-once : {s z : St B} {as′ : List (An B)} → Works B s as′ z → Good B s → SoWorked s as′ z
@@ -223,21 +226,21 @@ module _ (B : Book) where
         → (w : Worked B) → Demand2 B s t r w → w ≡ step B s t r
     demand2-decides s g t r h l w d = go (refusal B s t r) refl
       where
-        by-why : (m : Sy B) → refusal B s t r ≡ some m → Why B s t r m → w ≡ onlySays B s t m
-        by-why runsAlready e y = d .thirteen (y .0) (y .1)
-        by-why runsNot e y = d .fourteen (y .0) (y .1)
-        by-why waitsAlready e y = d .fifteen (y .0) (y .1) (y .2) (y .3)
-        by-why done e y = absurd y
-        by-why (found k o) e y = absurd y
-        by-why nothing e y = absurd y
-        by-why waiting e y = absurd y
-        by-why (isPresent k o) e y = absurd y
-        by-why locksShort e y = absurd y
-        by-why pagesShort e y = absurd y
-        by-why circle e y = absurd y
+        by-why : (m : Sy B) → Why B s t r m → w ≡ onlySays B s t m
+        by-why runsAlready y = d .thirteen (y .0) (y .1)
+        by-why runsNot y = d .fourteen (y .0) (y .1)
+        by-why waitsAlready y = d .fifteen (y .0) (y .1) (y .2) (y .3)
+        by-why done y = absurd y
+        by-why (found k o) y = absurd y
+        by-why nothing y = absurd y
+        by-why waiting y = absurd y
+        by-why (isPresent k o) y = absurd y
+        by-why locksShort y = absurd y
+        by-why pagesShort y = absurd y
+        by-why circle y = absurd y
 
         go : (o : Option (Sy B)) → refusal B s t r ≡ o → w ≡ step B s t r
-        go (some m) e = by-why m e (why B s t r m e) ∙ sym (says-only B s t r m e)
+        go (some m) e = by-why m (why B s t r m e) ∙ sym (says-only B s t r m e)
         go none e =
             let f = unrefused B s t r e in
             acted-once s t r w (set-out-good B L s g t h r l f) (d .acts (f .0) (f .1) (f .2)) ∙ sym (goes-on B s t r e)

@@ -75,7 +75,8 @@ module _ (B : Book) where
     not-running rollback n h = rw h
     not-running (ask a) n h = rw h
 
-    while-waiting : (r : Request (B .Key) (B .Rec)) → r ≢ begin → r ≢ rollback → runs B s t ≡ true → waitsNow B s t ≡ true → refusal B s t r ≡ some waitsAlready
+    while-waiting : (r : Request (B .Key) (B .Rec)) → r ≢ begin → r ≢ rollback → runs B s t ≡ true → waitsNow B s t ≡ true
+        → refusal B s t r ≡ some waitsAlready
     unfolding refusal
     while-waiting begin n m h k = absurd (n refl)
     while-waiting commit n m h k = rw (h, k)

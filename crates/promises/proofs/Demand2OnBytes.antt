@@ -47,25 +47,30 @@ demand2-on-bytes q x y r c v w g h =
     let granted = served-good q x y r c w g h v in
     let legal = heard-legal (book .paging) q c h in
     let before = stateOf (x .pages) (x .desk) in
-    let rule = demand2 book numbers-ordered before (g .values) (c .asker) (c .request) (and-left _ _ legal) (and-right (isTransaction book (c .asker)) _ legal) in
+    let rule = demand2 book numbers-ordered before (g .values) (c .asker) (c .request)
+    (and-left _ _ legal) (and-right (isTransaction book (c .asker)) _ legal) in
     record {
       answers = stepOf c x .answers;
       space = granted .answered .answers;
       result = granted .result ∙ ap (returned 0) (granted .answered .bytes);
-      rule = subst (λ (z : St book). Demand2 book before (c .asker) (c .request) (record { state = z; answers = stepOf c x .answers })) (sym (granted .answered .state)) rule;
+      rule =
+          subst (λ (z : St book). Demand2 book before (c .asker) (c .request) (record { state = z; answers = stepOf c x .answers }))
+          (sym (granted .answered .state)) rule;
       short = λ k m. fits-index (x .pages) (x .desk) k ∙ too-many (x .pages) k m;
       shortOnly = λ k m. only-too-many (x .pages) k (sym (fits-index (x .pages) (x .desk) k) ∙ m);
     }
 
 -- ---- no second outcome: a desk that leaves whole pictures and satisfies demand 2 writes and returns what this one does
 module _ (q : List ℕ) (x : Lent) (c : Call ℕ ℕ) (g : Whole (x .pages) (x .desk)) (h : heard q ≡ some c) where
-  decided : (y : Lent) (r : ℕ) (u : Ruled x y r c) → _≡_ {A = Worked book} (record { state = stateOf (y .pages) (y .desk); answers = u .answers }) (stepOf c x)
+  decided : (y : Lent) (r : ℕ) (u : Ruled x y r c)
+      → _≡_ {A = Worked book} (record { state = stateOf (y .pages) (y .desk); answers = u .answers }) (stepOf c x)
   decided y r u =
       let legal = heard-legal (book .paging) q c h in
       demand2-decides book numbers-ordered (stateOf (x .pages) (x .desk)) (g .values) (c .asker) (c .request)
       (and-left _ _ legal) (and-right (isTransaction book (c .asker)) _ legal) _ (u .rule)
 
-  pub ruled-once : (y y′ : Lent) (r r′ : ℕ) → Whole (y .pages) (y .desk) → Whole (y′ .pages) (y′ .desk) → Ruled x y r c → Ruled x y′ r′ c → (y ≡ y′) × (r ≡ r′)
+  pub ruled-once : (y y′ : Lent) (r r′ : ℕ) → Whole (y .pages) (y .desk) → Whole (y′ .pages) (y′ .desk) → Ruled x y r c → Ruled x y′ r′ c
+      → (y ≡ y′) × (r ≡ r′)
   ruled-once y y′ r r′ w w′ u u′ =
       let same = decided y r u ∙ sym (decided y′ r′ u′) in
       let as′ : u .answers ≡ u′ .answers = ap (λ (z : Worked book). z .answers) same in

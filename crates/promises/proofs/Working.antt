@@ -115,7 +115,8 @@ module _ (B : Book) where
     unfolding turn
     turn-works s o z e more g = by-oldest (oldest B s) refl e
       where
-        by-newest : (x : Option (Wait B)) → oldest B s ≡ none → newest B s ≡ x → refused B s x ≡ some o → Works B s (o .answer ∷ z .answers) (z .state)
+        by-newest : (x : Option (Wait B)) → oldest B s ≡ none → newest B s ≡ x → refused B s x ≡ some o
+            → Works B s (o .answer ∷ z .answers) (z .state)
         by-newest none n q e = absurd (Option·none-ne-some o e)
         by-newest (some w) n q e =
             let v = Option·some-injective (left B s (w .request) (unmoved B s circle)) o e in
@@ -135,4 +136,4 @@ module _ (B : Book) where
     at-rest s h g = record { nobody = nobody-free s (rest-choices B s h .0); noCircle = chains-end B s g h .noCircle }
 
     pub works : (s : St B) → Good B s → Works B s (worked B s .answers) (worked B s .state)
-    works = worked-by-turns B (λ s w. Good B s → Works B s (w .answers) (w .state)) (λ s h g. rests (at-rest s h g)) (λ s o w e k g. turn-works s o w e k g)
+    works = worked-by-turns B (λ s w. Good B s → Works B s (w .answers) (w .state)) (λ s h g. rests (at-rest s h g)) turn-works
