@@ -4,6 +4,12 @@ pub mod Told
 pub mod Ranges
 pub mod Again
 pub mod Demand3
+pub mod Causes
+pub mod Working
+pub mod Demand2
+pub mod Decides
+pub mod EveryNumber
 pub mod Namesake
 pub mod Demand1
 pub mod OnBytes
+pub mod Demand2OnBytes
