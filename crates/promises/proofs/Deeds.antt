@@ -1,10 +1,10 @@
 -- A story with the states between: each deed is a move of the desk (`Acts`), and a story is moves in a row, with requests that join in
 -- between (`Tells`). Along the story's definition; what is queued is what its asker had asked (`Known`), so a turn's request is that. Assumes nothing.
 use Prim.Native.Nat.{ℕ, zero, suc}
-use mathlib.Core.Path.{_≡_, refl, sym, subst, _∙_}
+use mathlib.Core.Path.{_≡_, refl, sym, ap, subst, _∙_}
 use mathlib.Core.Logic.{_⊎_, inl, inr}
 use mathlib.Core.Bool.{Bool, true, false, cond, true≢false}
-use mathlib.Core.List.{List, [], _∷_, _++_}
+use mathlib.Core.List.{List, [], _∷_, _++_, append-assoc}
 use mathlib.Core.Option.{Option, none, some, Option·some-injective}
 use lib.Dec.{eqb}
 use lib.ListN.{length}
@@ -24,7 +24,7 @@ use Rattle.rules.proofs.Rest.{turn-leaves, worked-by-turns, worked-rests}
 use Rattle.rules.proofs.Waits.{newest-waits}
 use Rattle.rules.proofs.Did.{waits-in}
 use Rattle.rules.proofs.Unblocked.{good-queues}
-use Rattle.rules.proofs.GoodKept.{good-kept, fresh-good}
+use Rattle.rules.proofs.GoodKept.{good-kept, fresh-good, after-good}
 use Rattle.promises.specs.Story.{Deed, Asked, nothingAsked, isTurnedAway, turnedAway, askedThen, turnDeed, andOn, turnDeeds, queueDeeds, idleDeed, lastDeed, actDeeds, deedsUnless, callDeeds, storyFrom, story, Seamless, ends}
 
 module _ (B : Book) where
@@ -84,7 +84,7 @@ module _ (B : Book) where
   tells-append (tells e y) v = tells e (tells-append y v)
 
   -- nothing changes between
-  acts-entries : (s : St B) (d : Deed B) (z : St B) → Acts s d z → (d .before ≡ s .entries) × (d .after ≡ z .entries)
+  pub acts-entries : (s : St B) (d : Deed B) (z : St B) → Acts s d z → (d .before ≡ s .entries) × (d .after ≡ z .entries)
   acts-entries s d z (begins t h r) = (refl, refl)
   acts-entries s d z (commits t h r w) = (refl, refl)
   acts-entries s d z (rollsBack t h r) = (refl, refl)
@@ -121,6 +121,27 @@ module _ (B : Book) where
       let p : c ≡ x = cc in
       let v = tells-at y xs d ys (cc) in
       record { before = v .before; after = v .after; earlier = tells (rw p at a) (v .earlier); acts = v .acts; later = v .later }
+
+  -- what is known after a call, and after calls
+  abbrev asNow : Asked B → St B → Cl B → Asked B
+  asNow f s c = askedThen B f c (answersOf B (call B s c))
+
+  unfoldable pub askedAfter : Asked B → St B → List (Cl B) → Asked B
+  askedAfter f s [] = f
+  askedAfter f s (c ∷ cs) = askedAfter (asNow f s c) (stateAfter B s (call B s c)) cs
+
+  -- the story goes on where it was
+  after-on : (s : St B) (cs more : List (Cl B)) → after B s (cs ++ more) ≡ after B (after B s cs) more
+  unfolding after
+  after-on s [] more = refl
+  after-on s (c ∷ cs) more = after-on (stateAfter B s (call B s c)) cs more
+
+  story-on : (f : Asked B) (s : St B) (cs more : List (Cl B)) → storyFrom B f s (cs ++ more) ≡ storyFrom B f s cs ++ storyFrom B (askedAfter f s cs) (after B s cs) more
+  unfolding storyFrom after askedAfter
+  story-on f s [] more = refl
+  story-on f s (c ∷ cs) more =
+      ap (λ (ds : List (Deed B)). callDeeds B (asNow f s c) s c ++ ds) (story-on (asNow f s c) (stateAfter B s (call B s c)) cs more)
+      ∙ sym (append-assoc (callDeeds B (asNow f s c) s c) _ _)
 
   -- what is queued is what its asker had asked
   abbrev Known : Asked B → St B → Type 0
@@ -370,9 +391,6 @@ module _ (B : Book) where
         let y = known-joined f g s t a n (m .1) k in
         (ask-tells g s t a w y (m .0) (m .1) l, known-worked g (joined B s t a) y)
 
-    abbrev asNow : Asked B → St B → Cl B → Asked B
-    asNow f s c = askedThen B f c (answersOf B (call B s c))
-
     call-tells : (f : Asked B) (s : St B) (c : Cl B) → Good B s → Known f s
         → Tells s (callDeeds B (asNow f s c) s c) (stateAfter B s (call B s c)) × Known (asNow f s c) (stateAfter B s (call B s c))
     unfolding callDeeds call step
@@ -396,22 +414,39 @@ module _ (B : Book) where
             (tells (refuses t r m e) silent, λ q i. let h = refusal-turns s t r m e in rw h (k q i))
         go false l o e = (silent, k)
 
-    calls-tell : (f : Asked B) (s : St B) (cs : List (Cl B)) → Good B s → Known f s → Tells s (storyFrom B f s cs) (after B s cs)
-    unfolding storyFrom after
-    calls-tell f s [] g k = silent
+    calls-tell : (f : Asked B) (s : St B) (cs : List (Cl B)) → Good B s → Known f s → Tells s (storyFrom B f s cs) (after B s cs) × Known (askedAfter f s cs) (after B s cs)
+    unfolding storyFrom after askedAfter
+    calls-tell f s [] g k = (silent, k)
     calls-tell f s (c ∷ cs) g k =
         let one = call-tells f s c g k in
-        tells-append (one .0)
-        (calls-tell (asNow f s c) (stateAfter B s (call B s c)) cs
-        (call-keeps B (Anyone B) (Good B) (good-kept B L) s c (anyone-may B (c .asker) (c .request)) g) (one .1))
+        let more = calls-tell (asNow f s c) (stateAfter B s (call B s c)) cs
+        (call-keeps B (Anyone B) (Good B) (good-kept B L) s c (anyone-may B (c .asker) (c .request)) g) (one .1) in
+        (tells-append (one .0) (more .0), more .1)
 
     -- the story of a run of calls, from fresh to where they lead
-    pub story-tells : (cs : List (Cl B)) → Tells (fresh B) (story B cs) (after B (fresh B) cs)
+    told-from-fresh : (cs : List (Cl B)) → Tells (fresh B) (story B cs) (after B (fresh B) cs) × Known (askedAfter (nothingAsked B) (fresh B) cs) (after B (fresh B) cs)
     unfolding fresh
-    story-tells cs = calls-tell (nothingAsked B) (fresh B) cs (fresh-good B L) (λ q i. absurd i)
+    told-from-fresh cs = calls-tell (nothingAsked B) (fresh B) cs (fresh-good B L) (λ q i. absurd i)
+
+    pub story-tells : (cs : List (Cl B)) → Tells (fresh B) (story B cs) (after B (fresh B) cs)
+    story-tells cs = told-from-fresh cs .0
+
+    -- what more calls add to it, from where the first led to
+    abbrev pub moreDeeds : List (Cl B) → List (Cl B) → List (Deed B)
+    moreDeeds cs more = storyFrom B (askedAfter (nothingAsked B) (fresh B) cs) (after B (fresh B) cs) more
+
+    pub story-more : (cs more : List (Cl B)) → story B (cs ++ more) ≡ story B cs ++ moreDeeds cs more
+    story-more cs more = story-on (nothingAsked B) (fresh B) cs more
+
+    pub more-tells : (cs more : List (Cl B)) → Tells (after B (fresh B) cs) (moreDeeds cs more) (after B (fresh B) (cs ++ more))
+    more-tells cs more = subst (Tells (after B (fresh B) cs) (moreDeeds cs more)) (sym (after-on (fresh B) cs more))
+        (calls-tell (askedAfter (nothingAsked B) (fresh B) cs) (after B (fresh B) cs) more (after-good B L cs) (told-from-fresh cs .1) .0)
 
     pub seamless : (cs : List (Cl B)) → Seamless B (fresh B .entries) (story B cs) (after B (fresh B) cs .entries)
     seamless cs = tells-seamless (story-tells cs)
+
+    pub good-at : {xs ys : List (Deed B)} {d : Deed B} {z : St B} → (v : At (fresh B) xs d ys z) → Good B (v .before)
+    good-at v = tells-keep (Good B) (λ d. Unit {0}) (good-kept B L .joins) (λ s d z c o. good-after s d z c) (v .earlier) (λ d i. tt) (fresh-good B L)
 
     -- a deed of the story, and a later one: the states at each, and the deeds between
     pub record Later (a : Deed B) (ys : List (Deed B)) (m : Deed B) : Type 0 where
@@ -431,7 +466,7 @@ module _ (B : Book) where
         record {
           before = v .before;
           after = v .after;
-          good = tells-keep (Good B) (λ d. Unit {0}) (good-kept B L .joins) (λ s d z c o. good-after s d z c) (v .earlier) (λ d i. tt) (fresh-good B L);
+          good = good-at v;
           acts = v .acts;
           until = w .before;
           between = w .earlier;

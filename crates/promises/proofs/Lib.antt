@@ -3,6 +3,7 @@ pub mod Deeds
 pub mod Told
 pub mod Ranges
 pub mod Again
+pub mod Then
 pub mod Demand3
 pub mod Namesake
 pub mod Demand1
