@@ -131,7 +131,7 @@ module _ (B : Book) where
   askedAfter f s (c ∷ cs) = askedAfter (asNow f s c) (stateAfter B s (call B s c)) cs
 
   -- the story goes on where it was
-  after-on : (s : St B) (cs more : List (Cl B)) → after B s (cs ++ more) ≡ after B (after B s cs) more
+  pub after-on : (s : St B) (cs more : List (Cl B)) → after B s (cs ++ more) ≡ after B (after B s cs) more
   unfolding after
   after-on s [] more = refl
   after-on s (c ∷ cs) more = after-on (stateAfter B s (call B s c)) cs more
