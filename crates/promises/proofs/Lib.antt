@@ -8,3 +8,4 @@ pub mod Demand3
 pub mod Namesake
 pub mod Demand1
 pub mod OnBytes
+pub mod Pins
