@@ -33,12 +33,14 @@ opening =
     ∷ sends 1 (ask (read 30 40))
     ∷ []
 
--- 2 would delete 20, and has to wait; its commit is turned away. 1 inserts 50, and reads 30..40 again
+-- 2 would delete 20, and has to wait; its commit is turned away (15), and so is a read with lo above hi (12: it has no answer). 1 inserts 50,
+-- and reads 30..40 again
 abbrev pub middle : List (Call ℕ ℕ)
 middle =
     sends 2 begin
     ∷ sends 2 (ask (delete 20))
     ∷ sends 2 commit
+    ∷ sends 2 (ask (read 40 30))
     ∷ sends 1 (ask (insert 50 5))
     ∷ sends 1 (ask (read 30 40))
     ∷ []
@@ -126,18 +128,18 @@ pub record Pins : Type 0 where
   -- 1 ends by its commit; 2 has not ended: its commit was turned away
   pub ends1 : those (ends plain 1) ≡ deed 1 commit done two both ∷ []
   pub ends2 : those (ends plain 2) ≡ []
-  -- requests that would change a key from 15 to 20: not 50, and no read
-  pub changes : those (λ d. changes plain (from 15 20) (d .request))
+  -- requests that would change a key from 10 to 40: not 50, and no read
+  pub changes : those (λ d. changes plain (from 10 40) (d .request))
       ≡ deed 16 (ask (insert 20 2)) done [] made
       ∷ deed 1 (ask (insert 20 9)) (isPresent 20 (some 2)) one one
       ∷ deed 1 (ask (delete 15)) nothing one one
       ∷ deed 2 (ask (delete 20)) waiting one one
       ∷ deed 2 (ask (delete 20)) done both gone
       ∷ []
-  -- and those that did: 1 changed none of 15..20, for it was told 16 and 2; of 15..50 it changed 50
-  pub own1 : those (ownChange plain 1 (from 15 20)) ≡ []
-  pub own1far : those (ownChange plain 1 (from 15 50)) ≡ deed 1 (ask (insert 50 5)) done one two ∷ []
-  pub own2 : those (ownChange plain 2 (from 15 20)) ≡ deed 2 (ask (delete 20)) done both gone ∷ []
+  -- and those that did: 1 changed none from 10 to 40, for it was told 16 and 2; up to 50 it changed one
+  pub own1 : those (ownChange plain 1 (from 10 40)) ≡ []
+  pub own1far : those (ownChange plain 1 (from 10 50)) ≡ deed 1 (ask (insert 50 5)) done one two ∷ []
+  pub own2 : those (ownChange plain 2 (from 10 40)) ≡ deed 2 (ask (delete 20)) done both gone ∷ []
   -- what does not leave 50 alone for 1, and what not 20
   pub fifty : those (λ d. not (leavesAlone plain 1 50 d)) ≡ deed 1 (ask (insert 50 5)) done one two ∷ deed 1 commit done two both ∷ []
   pub twenty : those (λ d. not (leavesAlone plain 1 20 d)) ≡ deed 1 commit done two both ∷ []
