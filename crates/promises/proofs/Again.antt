@@ -15,10 +15,10 @@ use Rattle.lists.proofs.Elements.{all-in, any-in, first-in}
 use Rattle.lists.proofs.Pairs.{first-least}
 use Rattle.lists.proofs.Firsts.{first-agree}
 use Rattle.rules.specs.Kinds.{Book, Ordered, Mode, S, X, Name, on, Ask, read, insert, delete, Request, begin, commit, rollback, ask}
-use Rattle.rules.specs.Entries.{Entries, atMost, same, isThere, inserted, committed, rolledBack, put}
+use Rattle.rules.specs.Entries.{Entries, atMost, isThere, inserted, committed, rolledBack, put}
 use Rattle.rules.specs.Locks.{Slots, inUse, conflict, stronger, sameName, holds, taken, counts, target, named, itself, mode, Want, wanted, holders, blockers}
 use Rattle.rules.specs.Queue.{St, Q, Wait, waits, oldest}
-use Rattle.rules.specs.Runs.{done, found, nothing, waiting, runsAlready, runsNot, waitsAlready, isPresent, locksShort, pagesShort, circle, Sy, En, unmoved, locked, given, readSays, insertMissing, insertThere, insertAs, deleteThere, deleteAs, runOn, run, left}
+use Rattle.rules.specs.Runs.{done, found, nothing, waiting, runsAlready, runsNot, waitsAlready, isPresent, locksShort, pagesShort, circle, Sy, En, unmoved, locked, given, readSays, insertMissing, insertThere, insertAs, deleteThere, deleteAs, runOn, run}
 use Rattle.rules.specs.Desk.{Cl, runs, waitsNow, ifSo, refusal, begun, joined}
 use Rattle.rules.specs.Good.{Lk, together, below, ascending, Good}
 use Rattle.rules.proofs.Keys.{same-equal, atMost-itself, atMost-other, atMost-along, name-equal}
@@ -34,7 +34,7 @@ use Rattle.rules.proofs.Cover.{Covers}
 use Rattle.rules.proofs.Targets.{entry-at}
 use Rattle.rules.proofs.Stands.{Stands, Outside, other-run, other-end, own-run, not-blocked, says-again, read-stands}
 use Rattle.promises.specs.Story.{Deed, Range, range, toldRead, toldKey, told, within, ends}
-use Rattle.promises.specs.Demand3.{nowIn, nowAt, changes, ownChange, leavesAlone, SameAgain}
+use Rattle.promises.specs.Demand3.{nowIn, nowAt, changes, ownChange, SameAgain}
 use Rattle.promises.proofs.Deeds.{Acts, begins, commits, rollsBack, goes, givesWay, refuses, queues, Tells, tells-keep, good-after, Later, story-later}
 use Rattle.promises.proofs.Told.{key-range, tells-none, refusal-told, told-covered}
 use Rattle.promises.proofs.Ranges.{stays}

@@ -28,7 +28,7 @@ use Rattle.calls.specs.Promise.{shortSpace}
 use Rattle.calls.specs.Calls.{Sent, callIn, with, callsIn, refuses, backIf, backOf, onward, backsFrom, wrote, bytesOf}
 use Rattle.calls.proofs.Bytes.{refusal-wrote, answers-wrote}
 use Rattle.calls.proofs.Runs.{legal-called, run-back, run-from-fresh, few-bytes, never-eleven}
-use Rattle.promises.specs.Story.{Deed, given, story, Seamless}
+use Rattle.promises.specs.Story.{given, story, Seamless}
 use Rattle.promises.specs.Demand3.{nowAt}
 use Rattle.promises.specs.OnBytes.{Demand3OnBytes, ThenAndNowOnBytes}
 use Rattle.promises.proofs.Faithful.{faithful}
@@ -108,7 +108,7 @@ unfolding stateOf
 then-and-now-on-bytes as′ more bs bs′ p d p′ d′ f r ds t x e k h =
     let first = run-from-fresh f in
     let second : stateOf p′ d′ ≡ after book (fresh book) (cs ++ callsIn more) =
-        run-back (first .1) r .2 ∙ ap (λ s. after book s (callsIn more)) (first .2) ∙ sym (after-on book (fresh book) cs (callsIn more)) in
+    run-back (first .1) r .2 ∙ ap (λ s. after book s (callsIn more)) (first .2) ∙ sym (after-on book (fresh book) cs (callsIn more)) in
     let n = then-and-now book numbers-ordered cs (callsIn more) .same ds t x
     (subst (λ (cs′ : List (Call ℕ ℕ)). story book cs′ ≡ story book cs ++ ds) (calls-more as′ more) e) k h in
     ap (λ (s : St book). nowAt book (s .entries) x) second ∙ n ∙ sym (ap (λ (s : St book). nowAt book (s .entries) x) (first .2))

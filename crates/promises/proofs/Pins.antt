@@ -1,7 +1,7 @@
 -- The words of demand 3 say of the short story what its table says. By computation; and what the demand promises of it, that 20 is as it was
 -- and that the read gets the same again, by the theorems themselves, whose conditions it meets. Assumes nothing.
 use mathlib.Core.Path.{_≡_, refl}
-use mathlib.Core.List.{List, [], _∷_, _++_}
+use mathlib.Core.List.{[], _∷_, _++_}
 use mathlib.Core.Option.{some}
 use Rattle.lists.specs.Lists as L
 use Rattle.lists.proofs.Tests.{never}

@@ -2,20 +2,18 @@
 -- the key from its answer on; what more calls add to the story begins where the first led to, and through it the key stays. Assumes nothing.
 use Prim.Native.Nat.{ℕ}
 use mathlib.Core.Path.{_≡_, refl, sym, subst, _∙_}
-use mathlib.Core.Bool.{true, false}
-use mathlib.Core.List.{List, _∷_, _++_}
+use mathlib.Core.List.{List}
 use borrow.Author.Tests.{not-true}
-use Rattle.lists.specs.Lists.{In, all}
+use Rattle.lists.specs.Lists.{In}
 use Rattle.lists.proofs.Elements.{all-in}
 use Rattle.lists.proofs.Joins.{append-apart}
 use Rattle.rules.specs.Kinds.{Book, Ordered}
-use Rattle.rules.specs.Queue.{St}
 use Rattle.rules.specs.Desk.{Cl, fresh, after}
 use Rattle.rules.specs.Good.{Good}
 use Rattle.rules.proofs.Cover.{Covers}
-use Rattle.promises.specs.Story.{Deed, story, told, within, ends}
-use Rattle.promises.specs.Demand3.{nowAt, KnowsOf, leavesAlone, ThenAndNow}
-use Rattle.promises.proofs.Deeds.{At, tells-at, good-after, good-at, story-tells, moreDeeds, story-more, more-tells}
+use Rattle.promises.specs.Story.{Deed, story, told, ends}
+use Rattle.promises.specs.Demand3.{KnowsOf, leavesAlone, ThenAndNow}
+use Rattle.promises.proofs.Deeds.{tells-at, good-after, good-at, story-tells, moreDeeds, story-more, more-tells}
 use Rattle.promises.proofs.Told.{told-covered}
 use Rattle.promises.proofs.Ranges.{still-covers, stays}
 
