@@ -1,31 +1,31 @@
 -- A story with the states between: each deed is a move of the desk (`Acts`), and a story is moves in a row, with requests that join in
--- between (`Tells`). Along the story's definition; what is queued is what its asker had asked (`Known`), so a turn's request is that. Assumes nothing.
+-- between (`Tells`). Along the story's definition; what is queued is what its asker had asked (`Known`), so that is a turn's request.
+-- Assumes nothing.
 use Prim.Native.Nat.{ℕ, zero, suc}
 use mathlib.Core.Path.{_≡_, refl, sym, ap, subst, _∙_}
 use mathlib.Core.Logic.{_⊎_, inl, inr}
 use mathlib.Core.Bool.{Bool, true, false, cond, true≢false}
 use mathlib.Core.List.{List, [], _∷_, _++_, append-assoc}
-use mathlib.Core.Option.{Option, none, some, Option·some-injective}
+use mathlib.Core.Option.{Option, none, some}
 use lib.Dec.{eqb}
 use lib.ListN.{length}
-use borrow.Author.Tests.{eqb-true, eq-eqb, not-true}
+use borrow.Author.Tests.{eq-eqb}
 use Rattle.lists.specs.Lists.{In, isNil}
-use Rattle.lists.proofs.Tests.{and-left, and-right, fails, never, nil-is}
-use Rattle.lists.proofs.Elements.{any-in, none-any, keep-in, first-in, append-in}
-use Rattle.rules.specs.Kinds.{Book, Ordered, Mode, S, X, Name, on, Ask, read, insert, delete, Request, begin, commit, rollback, ask}
-use Rattle.rules.specs.Entries.{atMost, inserted, committed, rolledBack, put}
-use Rattle.rules.specs.Locks.{Slots, taken, named, itself}
-use Rattle.rules.specs.Queue.{St, Q, Wait, waits, oldest, newest, leave}
-use Rattle.rules.specs.Runs.{done, found, nothing, waiting, runsAlready, runsNot, waitsAlready, pagesShort, circle, Sy, En, Ran, unmoved, given, taking, readSays, insertMissing, insertThere, insertAs, deleteThere, deleteAs, runOn, run, left, Turn, refused, served, turn, onward, turns, Worked, worked, AtRest}
-use Rattle.rules.specs.Desk.{An, Cl, runs, waitsNow, says, ifSo, unlessRuns, refusal, begun, ended, joined, acts, unless, step, isTransaction, legalAsk, legalRequest, legalCall, call, stateAfter, answersOf, fresh, after}
+use Rattle.lists.proofs.Tests.{and-left, and-right, never, nil-is}
+use Rattle.lists.proofs.Elements.{any-in, none-any, first-in, append-in}
+use Rattle.rules.specs.Kinds.{Book, Ordered, Ask, Request, begin, commit, rollback, ask}
+use Rattle.rules.specs.Entries.{committed, rolledBack}
+use Rattle.rules.specs.Queue.{St, Q, Wait, waits, oldest, newest}
+use Rattle.rules.specs.Runs.{done, waiting, runsAlready, waitsAlready, circle, Sy, unmoved, run, left, Turn, refused, served, turn, onward, turns, Worked, worked, AtRest}
+use Rattle.rules.specs.Desk.{Cl, runs, waitsNow, says, ifSo, unlessRuns, refusal, begun, ended, joined, acts, unless, step, isTransaction, legalAsk, legalRequest, legalCall, call, stateAfter, answersOf, fresh, after}
 use Rattle.rules.specs.Good.{Good}
 use Rattle.rules.proofs.Keeps.{Kept, Anyone, anyone-may, call-keeps}
-use Rattle.rules.proofs.Rest.{turn-leaves, worked-by-turns, worked-rests}
+use Rattle.rules.proofs.Rest.{worked-rests}
 use Rattle.rules.proofs.Waits.{newest-waits}
 use Rattle.rules.proofs.Did.{waits-in}
-use Rattle.rules.proofs.Unblocked.{good-queues}
 use Rattle.rules.proofs.GoodKept.{good-kept, fresh-good, after-good}
-use Rattle.promises.specs.Story.{Deed, Asked, nothingAsked, isTurnedAway, turnedAway, askedThen, turnDeed, andOn, turnDeeds, queueDeeds, idleDeed, lastDeed, actDeeds, deedsUnless, callDeeds, storyFrom, story, Seamless, ends}
+use Rattle.promises.specs.Story.{Deed, Asked, nothingAsked, askedThen, turnDeed, andOn, turnDeeds, queueDeeds, idleDeed, lastDeed, actDeeds, deedsUnless, callDeeds, storyFrom, story, Seamless, ends}
+use Rattle.promises.proofs.Asked.{Known, turn-shrinks, queue-shrinks, known-worked, known-begun, known-ended, known-joined, refusal-turns, acts-stand}
 
 module _ (B : Book) where
   abbrev pub deedOf : St B → ℕ → Request (B .Key) (B .Rec) → Sy B → St B → Deed B
@@ -107,7 +107,8 @@ module _ (B : Book) where
     pub acts : Acts before d after
     pub later : Tells after ys z
 
-  pub tells-at : {s : St B} {ds : List (Deed B)} {z : St B} → Tells s ds z → (xs : List (Deed B)) (d : Deed B) (ys : List (Deed B)) → ds ≡ xs ++ (d ∷ ys) → At s xs d ys z
+  pub tells-at : {s : St B} {ds : List (Deed B)} {z : St B} → Tells s ds z → (xs : List (Deed B)) (d : Deed B) (ys : List (Deed B))
+      → ds ≡ xs ++ (d ∷ ys) → At s xs d ys z
   tells-at silent [] d ys e = never (cc)
   tells-at silent (x ∷ xs) d ys e = never (cc)
   tells-at (joins t a r w l y) xs d ys e =
@@ -136,151 +137,17 @@ module _ (B : Book) where
   after-on s [] more = refl
   after-on s (c ∷ cs) more = after-on (stateAfter B s (call B s c)) cs more
 
-  story-on : (f : Asked B) (s : St B) (cs more : List (Cl B)) → storyFrom B f s (cs ++ more) ≡ storyFrom B f s cs ++ storyFrom B (askedAfter f s cs) (after B s cs) more
+  story-on : (f : Asked B) (s : St B) (cs more : List (Cl B))
+      → storyFrom B f s (cs ++ more) ≡ storyFrom B f s cs ++ storyFrom B (askedAfter f s cs) (after B s cs) more
   unfolding storyFrom after askedAfter
   story-on f s [] more = refl
   story-on f s (c ∷ cs) more =
       ap (λ (ds : List (Deed B)). callDeeds B (asNow f s c) s c ++ ds) (story-on (asNow f s c) (stateAfter B s (call B s c)) cs more)
       ∙ sym (append-assoc (callDeeds B (asNow f s c) s c) _ _)
 
-  -- what is queued is what its asker had asked
-  abbrev Known : Asked B → St B → Type 0
-  Known f s = (q : Q B) → In q (s .queue) → f (q .asker) ≡ ask (q .asks)
-
-  -- a worked queue has only what it had
-  turn-shrinks : (s : St B) (o : Turn B) → turn B s ≡ some o → (q : Q B) → In q (o .state .queue) → In q (s .queue)
-  unfolding leave
-  turn-shrinks s o e q i = keep-in _ (s .queue) q (subst (λ (qs : List (Q B)). In q qs) (turn-leaves B s o e .queue) i) .0
-
-  queue-shrinks : (s : St B) (q : Q B) → In q (worked B s .state .queue) → In q (s .queue)
-  queue-shrinks = worked-by-turns B (λ u v. (q : Q B) → In q (v .state .queue) → In q (u .queue)) (λ u e q i. i) (λ u o v e f q i. turn-shrinks u o e q (f q i))
-
-  known-worked : (f : Asked B) (s : St B) → Known f s → Known f (worked B s .state)
-  known-worked f s k q i = k q (queue-shrinks s q i)
-
-  -- t asks r, and g is what is known then: it is known of all others as before
-  module _ (f g : Asked B) (s : St B) (t : ℕ) (r : Request (B .Key) (B .Rec)) (n : (u : ℕ) → g u ≡ cond (eqb u t) r (f u)) where
-    known-other : Known f s → (q : Q B) → In q (s .queue) → eqb (q .asker) t ≡ false → g (q .asker) ≡ ask (q .asks)
-    known-other k q i e = n (q .asker) ∙ (rw e (k q i))
-
-  known-begun : (f g : Asked B) (s : St B) (t : ℕ) → ((u : ℕ) → g u ≡ cond (eqb u t) begin (f u)) → runs B s t ≡ false → Good B s → Known f s → Known g (begun B s t)
-  unfolding begun
-  known-begun f g s t n h w k q i = known-other f g s t begin n k q i (fails (eqb (q .asker) t) (λ e.
-      true≢false (sym (good-queues B s w .queued q i .0) ∙ (rw (eqb-true (q .asker) t e) h))))
-
-  known-ended : (f g : Asked B) (x : En B → En B) (s : St B) (t : ℕ) (r : Request (B .Key) (B .Rec)) → ((u : ℕ) → g u ≡ cond (eqb u t) r (f u)) → Known f s → Known g (ended B x s t)
-  unfolding ended leave
-  known-ended f g x s t r n k q i = let j = keep-in _ (s .queue) q i in known-other f g s t r n k q (j .0) (not-true _ (j .1))
-
-  known-joined : (f g : Asked B) (s : St B) (t : ℕ) (a : Ask (B .Key) (B .Rec)) → ((u : ℕ) → g u ≡ cond (eqb u t) (ask a) (f u)) → waitsNow B s t ≡ false → Known f s → Known g (joined B s t a)
-  unfolding joined
-  known-joined f g s t a n h k q i = go (append-in (s .queue) _ q i)
-    where
-      mine : Q B
-      mine = record { asker = t; asks = a }
-
-      go : In q (s .queue) ⊎ In q (mine ∷ []) → g (q .asker) ≡ ask (q .asks)
-      go (inl j) = known-other f g s t (ask a) n k q j (none-any (λ p. eqb (p .asker) t) (s .queue) q h j)
-      go (inr (inl z)) = subst (λ (p : Q B). g (p .asker) ≡ ask (p .asks)) z (n t ∙ (rw (eq-eqb t t refl)))
-      go (inr (inr x)) = absurd x
-
-  -- 13, 14 and 15 turn a call away
-  asked-turns : (b c : Bool) (m : Sy B) → unlessRuns B b (ifSo B c waitsAlready) ≡ some m → isTurnedAway B m ≡ true
-  asked-turns true true m e = rw (← Option·some-injective waitsAlready m e)
-  asked-turns true false m e = never (cc)
-  asked-turns false c m e = rw (← Option·some-injective runsNot m e)
-
-  refusal-turns : (s : St B) (t : ℕ) (r : Request (B .Key) (B .Rec)) (m : Sy B) → refusal B s t r ≡ some m → isTurnedAway B m ≡ true
-  unfolding refusal
-  refusal-turns s t begin m e = go (runs B s t) e
-    where
-      go : (b : Bool) → ifSo B b runsAlready ≡ some m → isTurnedAway B m ≡ true
-      go true e = rw (← Option·some-injective runsAlready m e)
-      go false e = never (cc)
-  refusal-turns s t commit m e = asked-turns (runs B s t) (waitsNow B s t) m e
-  refusal-turns s t rollback m e = go (runs B s t) e
-    where
-      go : (b : Bool) → unlessRuns B b none ≡ some m → isTurnedAway B m ≡ true
-      go true e = never (cc)
-      go false e = rw (← Option·some-injective runsNot m e)
-  refusal-turns s t (ask a) m e = asked-turns (runs B s t) (waitsNow B s t) m e
-
-  -- and nothing else does: no run says them
-  taking-stands : (s : St B) (t : ℕ) (n : Name (B .Key)) (m : Mode) (f : Slots B → Ran B) → ((ls : Slots B) → isTurnedAway B (f ls .says) ≡ false)
-      → isTurnedAway B (taking B s t n m f .says) ≡ false
-  taking-stands s t n m f h = go (taken B (s .slots) t n m)
-    where
-      go : (o : Option (Slots B)) → isTurnedAway B (given B s f o .says) ≡ false
-      go none = refl
-      go (some ls) = h ls
-
-  read-stands : (hi : B .Key) (o : Option (En B)) → isTurnedAway B (readSays B hi o) ≡ false
-  unfolding readSays
-  read-stands hi none = refl
-  read-stands hi (some e) = go (atMost B (e .key) hi)
-    where
-      go : (b : Bool) → isTurnedAway B (cond b (found (e .key) (e .now)) nothing) ≡ false
-      go true = refl
-      go false = refl
-
-  insert-stands : (s : St B) (t : ℕ) (k : B .Key) (r : B .Rec) (o : Option (En B)) → isTurnedAway B (insertAs B s t k r o .says) ≡ false
-  unfolding insertAs insertMissing insertThere
-  insert-stands s t k r none = taking-stands s t (on k) X _ (λ ls. go ls (B .paging .fits (s .pages) k))
-    where
-      go : (ls : Slots B) (b : Bool) → isTurnedAway B (cond b (record { says = done; entries = put B (inserted t k r) (s .entries); pages = B .paging .grown (s .pages) k; slots = ls }) (unmoved B s pagesShort) .says) ≡ false
-      go ls true = refl
-      go ls false = refl
-  insert-stands s t k r (some e) = taking-stands s t (on (e .key)) S _ (λ ls. go ls (e .now))
-    where
-      go : (ls : Slots B) (o : Option (B .Rec)) → isTurnedAway B (insertThere B s t r e o ls .says) ≡ false
-      go ls (some was) = refl
-      go ls none = refl
-
-  delete-stands : (s : St B) (t : ℕ) (n : Name (B .Key)) (o : Option (En B)) → isTurnedAway B (deleteAs B s t n o .says) ≡ false
-  unfolding deleteAs deleteThere
-  delete-stands s t n none = taking-stands s t n S _ (λ ls. refl)
-  delete-stands s t n (some e) = taking-stands s t (on (e .key)) X _ (λ ls. go ls (e .now))
-    where
-      go : (ls : Slots B) (o : Option (B .Rec)) → isTurnedAway B (deleteThere B s t e o ls .says) ≡ false
-      go ls (some was) = refl
-      go ls none = refl
-
-  ran-stands : (s : St B) (t : ℕ) (a : Ask (B .Key) (B .Rec)) (x : Option (En B)) → isTurnedAway B (runOn B s t a x .says) ≡ false
-  unfolding runOn
-  ran-stands s t (read lo hi) x = taking-stands s t (named B x) S _ (λ ls. read-stands hi x)
-  ran-stands s t (insert k r) x = insert-stands s t k r (itself B k x)
-  ran-stands s t (delete k) x = delete-stands s t (named B x) (itself B k x)
-
-  turn-stands : (s : St B) (o : Turn B) → turn B s ≡ some o → isTurnedAway B (o .answer .says) ≡ false
-  unfolding turn run
-  turn-stands s o e = by-oldest (oldest B s) e
-    where
-      by-newest : (w : Option (Wait B)) → refused B s w ≡ some o → isTurnedAway B (o .answer .says) ≡ false
-      by-newest none e = never (cc)
-      by-newest (some w) e = rw (← Option·some-injective _ o e)
-
-      by-oldest : (w : Option (Wait B)) → served B s w ≡ some o → isTurnedAway B (o .answer .says) ≡ false
-      by-oldest none e = by-newest (newest B s) e
-      by-oldest (some w) e = rw (← Option·some-injective _ o e) (ran-stands s (w .request .asker) (w .request .asks) _)
-
-  worked-stands : (s : St B) (as′ : List (An B)) → turnedAway B (some as′) ≡ false → turnedAway B (some (worked B s .answers ++ as′)) ≡ false
-  worked-stands s as′ h =
-      worked-by-turns B (λ u w. turnedAway B (some (w .answers ++ as′)) ≡ false) (λ u e. h) (λ u o w e k. turn-stands u o e) s
-
-  acts-stand : (s : St B) (t : ℕ) (r : Request (B .Key) (B .Rec)) → turnedAway B (some (acts B s t r .answers)) ≡ false
-  unfolding acts
-  acts-stand s t begin = refl
-  acts-stand s t commit = refl
-  acts-stand s t rollback = refl
-  acts-stand s t (ask a) = worked-stands (joined B s t a) _ (go (waitsNow B (worked B (joined B s t a) .state) t))
-    where
-      go : (b : Bool) → turnedAway B (some (cond b (says B t waiting ∷ []) [])) ≡ false
-      go true = refl
-      go false = refl
-
   -- the story is told: a turn
   module _ (L : Ordered (B .Key) (B .compare)) where
-    turn-acts : (f : Asked B) (s : St B) (o : Turn B) → Known f s → turn B s ≡ some o → Acts s (turnDeed B f s o) (o .state)
+    turn-acts : (f : Asked B) (s : St B) (o : Turn B) → Known B f s → turn B s ≡ some o → Acts s (turnDeed B f s o) (o .state)
     unfolding turn oldest newest
     turn-acts f s o k e = by-oldest (oldest B s) refl e
       where
@@ -306,24 +173,24 @@ module _ (B : Book) where
     pub good-after : (s : St B) (d : Deed B) (z : St B) → Acts s d z → Good B s → Good B z
     good-after s d z a = acts-keep (Anyone B) (Good B) (good-kept B L) s d z a (λ u e. tt)
 
-    turns-tell : (f : Asked B) (n : ℕ) (s : St B) → Good B s → Known f s → Tells s (turnDeeds B f n s) (turns B n s .state)
+    turns-tell : (f : Asked B) (n : ℕ) (s : St B) → Good B s → Known B f s → Tells s (turnDeeds B f n s) (turns B n s .state)
     unfolding turnDeeds turns
     turns-tell f zero s g k = silent
     turns-tell f (suc n) s g k = go (turn B s) refl (turns-tell f n)
       where
-        go : (o : Option (Turn B)) → turn B s ≡ o → ((u : St B) → Good B u → Known f u → Tells u (turnDeeds B f n u) (turns B n u .state))
+        go : (o : Option (Turn B)) → turn B s ≡ o → ((u : St B) → Good B u → Known B f u → Tells u (turnDeeds B f n u) (turns B n u .state))
             → Tells s (andOn B f s (turnDeeds B f n) o) (onward B s (turns B n) o .state)
         go none e h = silent
         go (some o) e h =
             let a = turn-acts f s o k e in
-            tells a (h (o .state) (good-after s _ (o .state) a g) (λ q i. k q (turn-shrinks s o e q i)))
+            tells a (h (o .state) (good-after s _ (o .state) a g) (λ q i. k q (turn-shrinks B s o e q i)))
 
-    queue-tells : (f : Asked B) (s : St B) → Good B s → Known f s → Tells s (queueDeeds B f s) (worked B s .state)
+    queue-tells : (f : Asked B) (s : St B) → Good B s → Known B f s → Tells s (queueDeeds B f s) (worked B s .state)
     unfolding worked
     queue-tells f s g k = turns-tell f (length (s .queue)) s g k
 
     -- begin, commit and rollback, and then the queue
-    done-tells : (f : Asked B) (s : St B) (d : Deed B) (z : St B) → Acts s d z → Good B s → Known f z → Tells s (d ∷ queueDeeds B f z) (worked B z .state)
+    done-tells : (f : Asked B) (s : St B) (d : Deed B) (z : St B) → Acts s d z → Good B s → Known B f z → Tells s (d ∷ queueDeeds B f z) (worked B z .state)
     done-tells f s d z a g k = tells a (queue-tells f z (good-after s d z a g) k)
 
     -- a request that is still queued when the queue is worked is the one that joined
@@ -332,7 +199,7 @@ module _ (B : Book) where
     unfolding joined
     still-queued s t a n h =
         let w = any-in (λ q. eqb (q .asker) t) (worked B (joined B s t a) .state .queue) h in
-        go (w .0) (w .1) (w .2) (append-in (s .queue) _ (w .0) (queue-shrinks (joined B s t a) (w .0) (w .1)))
+        go (w .0) (w .1) (w .2) (append-in (s .queue) _ (w .0) (queue-shrinks B (joined B s t a) (w .0) (w .1)))
       where
         mine : Q B
         mine = record { asker = t; asks = a }
@@ -343,7 +210,8 @@ module _ (B : Book) where
         go q j e (inr (inl z)) = rw (sym z) at j
         go q j e (inr (inr x)) = absurd x
 
-    ask-tells : (f : Asked B) (s : St B) (t : ℕ) (a : Ask (B .Key) (B .Rec)) → Good B s → Known f (joined B s t a) → runs B s t ≡ true → waitsNow B s t ≡ false → legalAsk B a ≡ true
+    ask-tells : (f : Asked B) (s : St B) (t : ℕ) (a : Ask (B .Key) (B .Rec)) → Good B s → Known B f (joined B s t a) → runs B s t ≡ true
+        → waitsNow B s t ≡ false → legalAsk B a ≡ true
         → Tells s (queueDeeds B f (joined B s t a) ++ lastDeed B (worked B (joined B s t a) .state) t a) (worked B (joined B s t a) .state)
     ask-tells f s t a g k r n l =
         joins t a r n l (tells-append (queue-tells f u (good-kept B L .joins s t a r n l g) k) (go (waitsNow B (worked B u .state) t) refl))
@@ -370,29 +238,29 @@ module _ (B : Book) where
     may-rollback true h = refl
     may-rollback false h = never (cc)
 
-    -- what t's new request leaves known: of one that has nothing else queued, or whose queued request has left
+    -- t's request acts, and g is what is known when it was sent
     acts-tell : (f g : Asked B) (s : St B) (t : ℕ) (r : Request (B .Key) (B .Rec)) → ((u : ℕ) → g u ≡ cond (eqb u t) r (f u))
-        → isTransaction B t ≡ true → legalRequest B r ≡ true → Good B s → Known f s → refusal B s t r ≡ none
-        → Tells s (actDeeds B g s t r) (acts B s t r .state) × Known g (acts B s t r .state)
+        → isTransaction B t ≡ true → legalRequest B r ≡ true → Good B s → Known B f s → refusal B s t r ≡ none
+        → Tells s (actDeeds B g s t r) (acts B s t r .state) × Known B g (acts B s t r .state)
     unfolding actDeeds acts refusal legalRequest
     acts-tell f g s t begin n h l w k e =
         let m = may-begin (runs B s t) e in
-        let y = known-begun f g s t n m w k in
-        (done-tells g s _ (begun B s t) (begins t h m) w y, known-worked g (begun B s t) y)
+        let y = known-begun B f g s t n m w k in
+        (done-tells g s _ (begun B s t) (begins t h m) w y, known-worked B g (begun B s t) y)
     acts-tell f g s t commit n h l w k e =
         let m = may-ask (runs B s t) (waitsNow B s t) e in
-        let y = known-ended f g committed s t commit n k in
-        (done-tells g s _ (ended B committed s t) (commits t h (m .0) (m .1)) w y, known-worked g (ended B committed s t) y)
+        let y = known-ended B f g committed s t commit n k in
+        (done-tells g s _ (ended B committed s t) (commits t h (m .0) (m .1)) w y, known-worked B g (ended B committed s t) y)
     acts-tell f g s t rollback n h l w k e =
-        let y = known-ended f g rolledBack s t rollback n k in
-        (done-tells g s _ (ended B rolledBack s t) (rollsBack t h (may-rollback (runs B s t) e)) w y, known-worked g (ended B rolledBack s t) y)
+        let y = known-ended B f g rolledBack s t rollback n k in
+        (done-tells g s _ (ended B rolledBack s t) (rollsBack t h (may-rollback (runs B s t) e)) w y, known-worked B g (ended B rolledBack s t) y)
     acts-tell f g s t (ask a) n h l w k e =
         let m = may-ask (runs B s t) (waitsNow B s t) e in
-        let y = known-joined f g s t a n (m .1) k in
-        (ask-tells g s t a w y (m .0) (m .1) l, known-worked g (joined B s t a) y)
+        let y = known-joined B f g s t a n (m .1) k in
+        (ask-tells g s t a w y (m .0) (m .1) l, known-worked B g (joined B s t a) y)
 
-    call-tells : (f : Asked B) (s : St B) (c : Cl B) → Good B s → Known f s
-        → Tells s (callDeeds B (asNow f s c) s c) (stateAfter B s (call B s c)) × Known (asNow f s c) (stateAfter B s (call B s c))
+    call-tells : (f : Asked B) (s : St B) (c : Cl B) → Good B s → Known B f s
+        → Tells s (callDeeds B (asNow f s c) s c) (stateAfter B s (call B s c)) × Known B (asNow f s c) (stateAfter B s (call B s c))
     unfolding callDeeds call step
     call-tells f s c w k = go (legalCall B c) refl (refusal B s (c .asker) (c .request)) refl
       where
@@ -407,14 +275,15 @@ module _ (B : Book) where
 
         go : (b : Bool) → legalCall B c ≡ b → (o : Option (Sy B)) → refusal B s t r ≡ o
             → Tells s (cond b (deedsUnless B (askedThen B f c (answersOf B (then b o))) s t r o) []) (stateAfter B s (then b o))
-            × Known (askedThen B f c (answersOf B (then b o))) (stateAfter B s (then b o))
+            × Known B (askedThen B f c (answersOf B (then b o))) (stateAfter B s (then b o))
         go true l none e =
-            acts-tell f _ s t r (λ u. rw (acts-stand s t r)) (and-left _ _ l) (and-right (isTransaction B t) _ l) w k e
+            acts-tell f _ s t r (λ u. rw (acts-stand B s t r)) (and-left _ _ l) (and-right (isTransaction B t) _ l) w k e
         go true l (some m) e =
-            (tells (refuses t r m e) silent, λ q i. let h = refusal-turns s t r m e in rw h (k q i))
+            (tells (refuses t r m e) silent, λ q i. let h = refusal-turns B s t r m e in rw h (k q i))
         go false l o e = (silent, k)
 
-    calls-tell : (f : Asked B) (s : St B) (cs : List (Cl B)) → Good B s → Known f s → Tells s (storyFrom B f s cs) (after B s cs) × Known (askedAfter f s cs) (after B s cs)
+    calls-tell : (f : Asked B) (s : St B) (cs : List (Cl B)) → Good B s → Known B f s
+        → Tells s (storyFrom B f s cs) (after B s cs) × Known B (askedAfter f s cs) (after B s cs)
     unfolding storyFrom after askedAfter
     calls-tell f s [] g k = (silent, k)
     calls-tell f s (c ∷ cs) g k =
@@ -424,7 +293,8 @@ module _ (B : Book) where
         (tells-append (one .0) (more .0), more .1)
 
     -- the story of a run of calls, from fresh to where they lead
-    told-from-fresh : (cs : List (Cl B)) → Tells (fresh B) (story B cs) (after B (fresh B) cs) × Known (askedAfter (nothingAsked B) (fresh B) cs) (after B (fresh B) cs)
+    told-from-fresh : (cs : List (Cl B))
+        → Tells (fresh B) (story B cs) (after B (fresh B) cs) × Known B (askedAfter (nothingAsked B) (fresh B) cs) (after B (fresh B) cs)
     unfolding fresh
     told-from-fresh cs = calls-tell (nothingAsked B) (fresh B) cs (fresh-good B L) (λ q i. absurd i)
 

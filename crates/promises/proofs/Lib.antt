@@ -1,7 +1,11 @@
 pub mod Faithful
+pub mod Asked
 pub mod Deeds
 pub mod Told
 pub mod Ranges
+pub mod Gets
+pub mod ReadAgain
+pub mod KeyAgain
 pub mod Again
 pub mod Then
 pub mod Demand3

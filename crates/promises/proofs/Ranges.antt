@@ -32,7 +32,8 @@ use Rattle.promises.proofs.Told.{told-covered}
 
 module _ (B : Book) (L : Ordered (B .Key) (B .compare)) where
   -- the same cover, the same presence and record
-  now-same : (es es′ : Entries B) (x : B .Key) → ascending B es ≡ true → ascending B es′ ≡ true → atOrAbove B x es′ ≡ atOrAbove B x es → nowAt B es′ x ≡ nowAt B es x
+  now-same : (es es′ : Entries B) (x : B .Key) → ascending B es ≡ true → ascending B es′ ≡ true → atOrAbove B x es′ ≡ atOrAbove B x es
+      → nowAt B es′ x ≡ nowAt B es x
   unfolding nowAt
   now-same es es′ x h h′ e = ap (nowIn B) (entry-at B L es′ x h′ ∙ ap (itself B x) e ∙ sym (entry-at B L es x h))
 
@@ -50,7 +51,8 @@ module _ (B : Book) (L : Ordered (B .Key) (B .compare)) where
   deed-leaves s d z (queues q i e) g k T x c o = refl
 
   -- who covers x covers it until its end
-  deed-covers : (T : ℕ) (x : B .Key) (s : St B) (d : Deed B) (z : St B) → Acts B s d z → ends B T d ≡ false → Good B s × Covers B s T x → Good B z × Covers B z T x
+  deed-covers : (T : ℕ) (x : B .Key) (s : St B) (d : Deed B) (z : St B) → Acts B s d z → ends B T d ≡ false → Good B s × Covers B s T x
+      → Good B z × Covers B z T x
   deed-covers T x s d z a o = acts-keep B (λ u. u ≡ T → ⊥) (λ s. Good B s × Covers B s T x) (cover-kept B L T x) s d z a (λ u e q. true≢false (sym e ∙ (rw q o)))
 
   pub still-covers : (T : ℕ) (x : B .Key) {s z : St B} {ds : List (Deed B)} → Tells B s ds z → ((d : Deed B) → In d ds → ends B T d ≡ false)
@@ -118,7 +120,8 @@ module _ (B : Book) (L : Ordered (B .Key) (B .compare)) where
   unfolding joined
   join-keeps T x o s t a r w l k = (cover-kept B L T x .joins s t a r w l (k .0), k .1)
 
-  deed-keeps : (T : ℕ) (x : B .Key) (o : Option (B .Rec)) (s : St B) (d : Deed B) (z : St B) → Acts B s d z → leavesAlone B T x d ≡ true → Keeps T x o s → Keeps T x o z
+  deed-keeps : (T : ℕ) (x : B .Key) (o : Option (B .Rec)) (s : St B) (d : Deed B) (z : St B) → Acts B s d z → leavesAlone B T x d ≡ true
+      → Keeps T x o s → Keeps T x o z
   deed-keeps T x o s d z a h k =
       let p = deed-covers T x s d z a (not-true _ (and-left _ _ h)) (k .0) in
       (p, go (eqb (d .actor) T) refl p ∙ k .1)
