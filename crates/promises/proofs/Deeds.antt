@@ -1,31 +1,31 @@
 -- A story with the states between: each deed is a move of the desk (`Acts`), and a story is moves in a row, with requests that join in
--- between (`Tells`). Along the story's definition; the request of a turn is the one that its asker has queued. Assumes nothing.
+-- between (`Tells`). Along the story's definition; what is queued is what its asker had asked (`Known`), so that is a turn's request.
+-- Assumes nothing.
 use Prim.Native.Nat.{ℕ, zero, suc}
 use mathlib.Core.Path.{_≡_, refl, sym, ap, subst, _∙_}
 use mathlib.Core.Logic.{_⊎_, inl, inr}
-use mathlib.Core.Bool.{Bool, true, false, cond, true≢false, false≢true}
-use mathlib.Core.List.{List, [], _∷_, _++_}
+use mathlib.Core.Bool.{Bool, true, false, cond, true≢false}
+use mathlib.Core.List.{List, [], _∷_, _++_, append-assoc}
 use mathlib.Core.Option.{Option, none, some}
 use lib.Dec.{eqb}
 use lib.ListN.{length}
-use borrow.Author.Tests.{eqb-true, eq-eqb}
+use borrow.Author.Tests.{eq-eqb}
 use Rattle.lists.specs.Lists.{In, isNil}
 use Rattle.lists.proofs.Tests.{and-left, and-right, never, nil-is}
-use Rattle.lists.proofs.Elements.{any-in, none-any, keep-in, first-in, append-in}
-use Rattle.lists.proofs.Pairs.{pairs-in}
-use Rattle.lists.proofs.Firsts.{first-only}
+use Rattle.lists.proofs.Elements.{any-in, none-any, first-in, append-in}
 use Rattle.rules.specs.Kinds.{Book, Ordered, Ask, Request, begin, commit, rollback, ask}
 use Rattle.rules.specs.Entries.{committed, rolledBack}
-use Rattle.rules.specs.Queue.{St, Q, Wait, waits, oldest, newest, leave}
-use Rattle.rules.specs.Runs.{done, waiting, runsAlready, waitsAlready, circle, Sy, run, unmoved, left, Turn, refused, served, turn, onward, turns, worked, AtRest}
-use Rattle.rules.specs.Desk.{Cl, runs, waitsNow, ifSo, unlessRuns, refusal, begun, ended, joined, acts, unless, step, isTransaction, legalAsk, legalRequest, legalCall, call, stateAfter, fresh, after}
-use Rattle.rules.specs.Good.{Good, otherAsker}
+use Rattle.rules.specs.Queue.{St, Q, Wait, waits, oldest, newest}
+use Rattle.rules.specs.Runs.{done, waiting, runsAlready, waitsAlready, circle, Sy, unmoved, run, left, Turn, refused, served, turn, onward, turns, Worked, worked, AtRest}
+use Rattle.rules.specs.Desk.{Cl, runs, waitsNow, says, ifSo, unlessRuns, refusal, begun, ended, joined, acts, unless, step, isTransaction, legalAsk, legalRequest, legalCall, call, stateAfter, answersOf, fresh, after}
+use Rattle.rules.specs.Good.{Good}
 use Rattle.rules.proofs.Keeps.{Kept, Anyone, anyone-may, call-keeps}
-use Rattle.rules.proofs.Rest.{turn-leaves, worked-by-turns, worked-rests}
+use Rattle.rules.proofs.Rest.{worked-rests}
 use Rattle.rules.proofs.Waits.{newest-waits}
 use Rattle.rules.proofs.Did.{waits-in}
-use Rattle.rules.proofs.GoodKept.{good-kept, fresh-good}
-use Rattle.promises.specs.Story.{Deed, asksOf, askedBy, turnDeed, andOn, turnDeeds, queueDeeds, idleDeed, lastDeed, actDeeds, deedsUnless, callDeeds, storyFrom, story, Seamless, ends}
+use Rattle.rules.proofs.GoodKept.{good-kept, fresh-good, after-good}
+use Rattle.promises.specs.Story.{Deed, Asked, nothingAsked, askedThen, turnDeed, andOn, turnDeeds, queueDeeds, idleDeed, lastDeed, actDeeds, deedsUnless, callDeeds, storyFrom, story, Seamless, ends}
+use Rattle.promises.proofs.Asked.{Known, turn-shrinks, queue-shrinks, known-worked, known-begun, known-ended, known-joined, refusal-turns, acts-stand}
 
 module _ (B : Book) where
   abbrev pub deedOf : St B → ℕ → Request (B .Key) (B .Rec) → Sy B → St B → Deed B
@@ -84,7 +84,7 @@ module _ (B : Book) where
   tells-append (tells e y) v = tells e (tells-append y v)
 
   -- nothing changes between
-  acts-entries : (s : St B) (d : Deed B) (z : St B) → Acts s d z → (d .before ≡ s .entries) × (d .after ≡ z .entries)
+  pub acts-entries : (s : St B) (d : Deed B) (z : St B) → Acts s d z → (d .before ≡ s .entries) × (d .after ≡ z .entries)
   acts-entries s d z (begins t h r) = (refl, refl)
   acts-entries s d z (commits t h r w) = (refl, refl)
   acts-entries s d z (rollsBack t h r) = (refl, refl)
@@ -107,7 +107,8 @@ module _ (B : Book) where
     pub acts : Acts before d after
     pub later : Tells after ys z
 
-  pub tells-at : {s : St B} {ds : List (Deed B)} {z : St B} → Tells s ds z → (xs : List (Deed B)) (d : Deed B) (ys : List (Deed B)) → ds ≡ xs ++ (d ∷ ys) → At s xs d ys z
+  pub tells-at : {s : St B} {ds : List (Deed B)} {z : St B} → Tells s ds z → (xs : List (Deed B)) (d : Deed B) (ys : List (Deed B))
+      → ds ≡ xs ++ (d ∷ ys) → At s xs d ys z
   tells-at silent [] d ys e = never (cc)
   tells-at silent (x ∷ xs) d ys e = never (cc)
   tells-at (joins t a r w l y) xs d ys e =
@@ -122,71 +123,83 @@ module _ (B : Book) where
       let v = tells-at y xs d ys (cc) in
       record { before = v .before; after = v .after; earlier = tells (rw p at a) (v .earlier); acts = v .acts; later = v .later }
 
+  -- what is known after a call, and after calls
+  abbrev asNow : Asked B → St B → Cl B → Asked B
+  asNow f s c = askedThen B f c (answersOf B (call B s c))
+
+  unfoldable pub askedAfter : Asked B → St B → List (Cl B) → Asked B
+  askedAfter f s [] = f
+  askedAfter f s (c ∷ cs) = askedAfter (asNow f s c) (stateAfter B s (call B s c)) cs
+
+  -- the story goes on where it was
+  pub after-on : (s : St B) (cs more : List (Cl B)) → after B s (cs ++ more) ≡ after B (after B s cs) more
+  unfolding after
+  after-on s [] more = refl
+  after-on s (c ∷ cs) more = after-on (stateAfter B s (call B s c)) cs more
+
+  story-on : (f : Asked B) (s : St B) (cs more : List (Cl B))
+      → storyFrom B f s (cs ++ more) ≡ storyFrom B f s cs ++ storyFrom B (askedAfter f s cs) (after B s cs) more
+  unfolding storyFrom after askedAfter
+  story-on f s [] more = refl
+  story-on f s (c ∷ cs) more =
+      ap (λ (ds : List (Deed B)). callDeeds B (asNow f s c) s c ++ ds) (story-on (asNow f s c) (stateAfter B s (call B s c)) cs more)
+      ∙ sym (append-assoc (callDeeds B (asNow f s c) s c) _ _)
+
   -- the story is told: a turn
   module _ (L : Ordered (B .Key) (B .compare)) where
-    -- what a queued transaction has asked
-    asked : (s : St B) → Good B s → (q : Q B) → In q (s .queue) → askedBy B s (q .asker) ≡ ask (q .asks)
-    asked s g q i = ap (asksOf B) (first-only (λ p. eqb (p .asker) (q .asker)) (s .queue) q i (eq-eqb (q .asker) (q .asker) refl)
-        (λ p j e. go p (eqb-true (p .asker) (q .asker) e) (pairs-in (otherAsker B) (s .queue) p q (g .askers) j i)))
-      where
-        go : (p : Q B) → p .asker ≡ q .asker → (p ≡ q) ⊎ ((otherAsker B p q ≡ true) ⊎ (otherAsker B q p ≡ true)) → p ≡ q
-        go p e (inl z) = z
-        go p e (inr (inl z)) = absurd (false≢true (rw (eq-eqb (p .asker) (q .asker) e) at z))
-        go p e (inr (inr z)) = absurd (false≢true (rw (eq-eqb (q .asker) (p .asker) (sym e)) at z))
-
-    turn-acts : (s : St B) (o : Turn B) → Good B s → turn B s ≡ some o → Acts s (turnDeed B s o) (o .state)
+    turn-acts : (f : Asked B) (s : St B) (o : Turn B) → Known B f s → turn B s ≡ some o → Acts s (turnDeed B f s o) (o .state)
     unfolding turn oldest newest
-    turn-acts s o g e = by-oldest (oldest B s) refl e
+    turn-acts f s o k e = by-oldest (oldest B s) refl e
       where
         -- the deed as the story has it
         as-told : (w : Wait B) (m : Sy B) (z : St B) → In w (waits B s) → Acts s (deedOf s (w .request .asker) (ask (w .request .asks)) m z) z
-            → Acts s (deedOf s (w .request .asker) (askedBy B s (w .request .asker)) m z) z
-        as-told w m z i = subst (λ (r : Request (B .Key) (B .Rec)). Acts s (deedOf s (w .request .asker) r m z) z) (sym (asked s g (w .request) (waits-in B s w i)))
+            → Acts s (deedOf s (w .request .asker) (f (w .request .asker)) m z) z
+        as-told w m z i = subst (λ (r : Request (B .Key) (B .Rec)). Acts s (deedOf s (w .request .asker) r m z) z) (sym (k (w .request) (waits-in B s w i)))
 
-        by-newest : (w : Option (Wait B)) → newest B s ≡ w → oldest B s ≡ none → refused B s w ≡ some o → Acts s (turnDeed B s o) (o .state)
+        by-newest : (w : Option (Wait B)) → newest B s ≡ w → oldest B s ≡ none → refused B s w ≡ some o → Acts s (turnDeed B f s o) (o .state)
         by-newest none q n e = never (cc)
         by-newest (some w) q n e =
             let z : left B s (w .request) (unmoved B s circle) ≡ o = cc in
             let i = newest-waits B s w q in
-            subst (λ (u : Turn B). Acts s (turnDeed B s u) (u .state)) z (as-told w circle _ i (givesWay w i n))
+            subst (λ (u : Turn B). Acts s (turnDeed B f s u) (u .state)) z (as-told w circle _ i (givesWay w i n))
 
-        by-oldest : (w : Option (Wait B)) → oldest B s ≡ w → served B s w ≡ some o → Acts s (turnDeed B s o) (o .state)
+        by-oldest : (w : Option (Wait B)) → oldest B s ≡ w → served B s w ≡ some o → Acts s (turnDeed B f s o) (o .state)
         by-oldest none q e = by-newest (newest B s) refl q e
         by-oldest (some w) q e =
             let z : left B s (w .request) (run B s (w .request)) ≡ o = cc in
             let i : In w (waits B s) × (isNil (w .behind) ≡ true) = first-in _ (waits B s) w q in
-            subst (λ (u : Turn B). Acts s (turnDeed B s u) (u .state)) z (as-told w (run B s (w .request) .says) _ (i .0) (goes w (i .0) (nil-is (w .behind) (i .1))))
+            subst (λ (u : Turn B). Acts s (turnDeed B f s u) (u .state)) z (as-told w (run B s (w .request) .says) _ (i .0) (goes w (i .0) (nil-is (w .behind) (i .1))))
 
     pub good-after : (s : St B) (d : Deed B) (z : St B) → Acts s d z → Good B s → Good B z
     good-after s d z a = acts-keep (Anyone B) (Good B) (good-kept B L) s d z a (λ u e. tt)
 
-    turns-tell : (n : ℕ) (s : St B) → Good B s → Tells s (turnDeeds B n s) (turns B n s .state)
+    turns-tell : (f : Asked B) (n : ℕ) (s : St B) → Good B s → Known B f s → Tells s (turnDeeds B f n s) (turns B n s .state)
     unfolding turnDeeds turns
-    turns-tell zero s g = silent
-    turns-tell (suc n) s g = go (turn B s) refl (turns-tell n)
+    turns-tell f zero s g k = silent
+    turns-tell f (suc n) s g k = go (turn B s) refl (turns-tell f n)
       where
-        go : (o : Option (Turn B)) → turn B s ≡ o → ((u : St B) → Good B u → Tells u (turnDeeds B n u) (turns B n u .state))
-            → Tells s (andOn B s (turnDeeds B n) o) (onward B s (turns B n) o .state)
-        go none e f = silent
-        go (some o) e f = let a = turn-acts s o g e in tells a (f (o .state) (good-after s _ (o .state) a g))
+        go : (o : Option (Turn B)) → turn B s ≡ o → ((u : St B) → Good B u → Known B f u → Tells u (turnDeeds B f n u) (turns B n u .state))
+            → Tells s (andOn B f s (turnDeeds B f n) o) (onward B s (turns B n) o .state)
+        go none e h = silent
+        go (some o) e h =
+            let a = turn-acts f s o k e in
+            tells a (h (o .state) (good-after s _ (o .state) a g) (λ q i. k q (turn-shrinks B s o e q i)))
 
-    queue-tells : (s : St B) → Good B s → Tells s (queueDeeds B s) (worked B s .state)
+    queue-tells : (f : Asked B) (s : St B) → Good B s → Known B f s → Tells s (queueDeeds B f s) (worked B s .state)
     unfolding worked
-    queue-tells s g = turns-tell (length (s .queue)) s g
+    queue-tells f s g k = turns-tell f (length (s .queue)) s g k
 
     -- begin, commit and rollback, and then the queue
-    done-tells : (s : St B) (d : Deed B) (z : St B) → Acts s d z → Good B s → Tells s (d ∷ queueDeeds B z) (worked B z .state)
-    done-tells s d z a g = tells a (queue-tells z (good-after s d z a g))
+    done-tells : (f : Asked B) (s : St B) (d : Deed B) (z : St B) → Acts s d z → Good B s → Known B f z → Tells s (d ∷ queueDeeds B f z) (worked B z .state)
+    done-tells f s d z a g k = tells a (queue-tells f z (good-after s d z a g) k)
 
     -- a request that is still queued when the queue is worked is the one that joined
     still-queued : (s : St B) (t : ℕ) (a : Ask (B .Key) (B .Rec)) → waitsNow B s t ≡ false → waitsNow B (worked B (joined B s t a) .state) t ≡ true
         → In (record { asker = t; asks = a }) (worked B (joined B s t a) .state .queue)
-    unfolding joined leave
+    unfolding joined
     still-queued s t a n h =
         let w = any-in (λ q. eqb (q .asker) t) (worked B (joined B s t a) .state .queue) h in
-        let i = worked-by-turns B (λ u v. (q : Q B) → In q (v .state .queue) → In q (u .queue)) (λ u e q i. i)
-        (λ u o v e f q i. keep-in _ (u .queue) q (subst (λ (qs : List (Q B)). In q qs) (turn-leaves B u o e .queue) (f q i)) .0) (joined B s t a) (w .0) (w .1) in
-        go (w .0) (w .1) (w .2) (append-in (s .queue) _ (w .0) i)
+        go (w .0) (w .1) (w .2) (append-in (s .queue) _ (w .0) (queue-shrinks B (joined B s t a) (w .0) (w .1)))
       where
         mine : Q B
         mine = record { asker = t; asks = a }
@@ -197,10 +210,11 @@ module _ (B : Book) where
         go q j e (inr (inl z)) = rw (sym z) at j
         go q j e (inr (inr x)) = absurd x
 
-    ask-tells : (s : St B) (t : ℕ) (a : Ask (B .Key) (B .Rec)) → Good B s → runs B s t ≡ true → waitsNow B s t ≡ false → legalAsk B a ≡ true
-        → Tells s (queueDeeds B (joined B s t a) ++ lastDeed B (worked B (joined B s t a) .state) t a) (worked B (joined B s t a) .state)
-    ask-tells s t a g r n l =
-        joins t a r n l (tells-append (queue-tells u (good-kept B L .joins s t a r n l g)) (go (waitsNow B (worked B u .state) t) refl))
+    ask-tells : (f : Asked B) (s : St B) (t : ℕ) (a : Ask (B .Key) (B .Rec)) → Good B s → Known B f (joined B s t a) → runs B s t ≡ true
+        → waitsNow B s t ≡ false → legalAsk B a ≡ true
+        → Tells s (queueDeeds B f (joined B s t a) ++ lastDeed B (worked B (joined B s t a) .state) t a) (worked B (joined B s t a) .state)
+    ask-tells f s t a g k r n l =
+        joins t a r n l (tells-append (queue-tells f u (good-kept B L .joins s t a r n l g) k) (go (waitsNow B (worked B u .state) t) refl))
       where
         u : St B
         u = joined B s t a
@@ -224,38 +238,85 @@ module _ (B : Book) where
     may-rollback true h = refl
     may-rollback false h = never (cc)
 
-    acts-tell : (s : St B) (t : ℕ) (r : Request (B .Key) (B .Rec)) → isTransaction B t ≡ true → legalRequest B r ≡ true → Good B s → refusal B s t r ≡ none
-        → Tells s (actDeeds B s t r) (acts B s t r .state)
+    -- t's request acts, and g is what is known when it was sent
+    acts-tell : (f g : Asked B) (s : St B) (t : ℕ) (r : Request (B .Key) (B .Rec)) → ((u : ℕ) → g u ≡ cond (eqb u t) r (f u))
+        → isTransaction B t ≡ true → legalRequest B r ≡ true → Good B s → Known B f s → refusal B s t r ≡ none
+        → Tells s (actDeeds B g s t r) (acts B s t r .state) × Known B g (acts B s t r .state)
     unfolding actDeeds acts refusal legalRequest
-    acts-tell s t begin h l g e = done-tells s _ (begun B s t) (begins t h (may-begin (runs B s t) e)) g
-    acts-tell s t commit h l g e = let m = may-ask (runs B s t) (waitsNow B s t) e in done-tells s _ (ended B committed s t) (commits t h (m .0) (m .1)) g
-    acts-tell s t rollback h l g e = done-tells s _ (ended B rolledBack s t) (rollsBack t h (may-rollback (runs B s t) e)) g
-    acts-tell s t (ask a) h l g e = let m = may-ask (runs B s t) (waitsNow B s t) e in ask-tells s t a g (m .0) (m .1) l
+    acts-tell f g s t begin n h l w k e =
+        let m = may-begin (runs B s t) e in
+        let y = known-begun B f g s t n m w k in
+        (done-tells g s _ (begun B s t) (begins t h m) w y, known-worked B g (begun B s t) y)
+    acts-tell f g s t commit n h l w k e =
+        let m = may-ask (runs B s t) (waitsNow B s t) e in
+        let y = known-ended B f g committed s t commit n k in
+        (done-tells g s _ (ended B committed s t) (commits t h (m .0) (m .1)) w y, known-worked B g (ended B committed s t) y)
+    acts-tell f g s t rollback n h l w k e =
+        let y = known-ended B f g rolledBack s t rollback n k in
+        (done-tells g s _ (ended B rolledBack s t) (rollsBack t h (may-rollback (runs B s t) e)) w y, known-worked B g (ended B rolledBack s t) y)
+    acts-tell f g s t (ask a) n h l w k e =
+        let m = may-ask (runs B s t) (waitsNow B s t) e in
+        let y = known-joined B f g s t a n (m .1) k in
+        (ask-tells g s t a w y (m .0) (m .1) l, known-worked B g (joined B s t a) y)
 
-    call-tells : (s : St B) (c : Cl B) → Good B s → Tells s (callDeeds B s c) (stateAfter B s (call B s c))
+    call-tells : (f : Asked B) (s : St B) (c : Cl B) → Good B s → Known B f s
+        → Tells s (callDeeds B (asNow f s c) s c) (stateAfter B s (call B s c)) × Known B (asNow f s c) (stateAfter B s (call B s c))
     unfolding callDeeds call step
-    call-tells s c g = go (legalCall B c) refl (refusal B s (c .asker) (c .request)) refl
+    call-tells f s c w k = go (legalCall B c) refl (refusal B s (c .asker) (c .request)) refl
       where
-        go : (b : Bool) → legalCall B c ≡ b → (o : Option (Sy B)) → refusal B s (c .asker) (c .request) ≡ o
-            → Tells s (cond b (deedsUnless B s (c .asker) (c .request) o) []) (stateAfter B s (cond b (some (unless B s (c .asker) (acts B s (c .asker) (c .request)) o)) none))
-        go true l none e =
-            acts-tell s (c .asker) (c .request) (and-left _ _ l) (and-right (isTransaction B (c .asker)) _ l) g e
-        go true l (some m) e = tells (refuses (c .asker) (c .request) m e) silent
-        go false l o e = silent
+        t : ℕ
+        t = c .asker
 
-    calls-tell : (s : St B) (cs : List (Cl B)) → Good B s → Tells s (storyFrom B s cs) (after B s cs)
-    unfolding storyFrom after
-    calls-tell s [] g = silent
-    calls-tell s (c ∷ cs) g =
-        tells-append (call-tells s c g)
-        (calls-tell (stateAfter B s (call B s c)) cs (call-keeps B (Anyone B) (Good B) (good-kept B L) s c (anyone-may B (c .asker) (c .request)) g))
+        r : Request (B .Key) (B .Rec)
+        r = c .request
+
+        then : Bool → Option (Sy B) → Option (Worked B)
+        then b o = cond b (some (unless B s t (acts B s t r) o)) none
+
+        go : (b : Bool) → legalCall B c ≡ b → (o : Option (Sy B)) → refusal B s t r ≡ o
+            → Tells s (cond b (deedsUnless B (askedThen B f c (answersOf B (then b o))) s t r o) []) (stateAfter B s (then b o))
+            × Known B (askedThen B f c (answersOf B (then b o))) (stateAfter B s (then b o))
+        go true l none e =
+            acts-tell f _ s t r (λ u. rw (acts-stand B s t r)) (and-left _ _ l) (and-right (isTransaction B t) _ l) w k e
+        go true l (some m) e =
+            (tells (refuses t r m e) silent, λ q i. let h = refusal-turns B s t r m e in rw h (k q i))
+        go false l o e = (silent, k)
+
+    calls-tell : (f : Asked B) (s : St B) (cs : List (Cl B)) → Good B s → Known B f s
+        → Tells s (storyFrom B f s cs) (after B s cs) × Known B (askedAfter f s cs) (after B s cs)
+    unfolding storyFrom after askedAfter
+    calls-tell f s [] g k = (silent, k)
+    calls-tell f s (c ∷ cs) g k =
+        let one = call-tells f s c g k in
+        let more = calls-tell (asNow f s c) (stateAfter B s (call B s c)) cs
+        (call-keeps B (Anyone B) (Good B) (good-kept B L) s c (anyone-may B (c .asker) (c .request)) g) (one .1) in
+        (tells-append (one .0) (more .0), more .1)
 
     -- the story of a run of calls, from fresh to where they lead
+    told-from-fresh : (cs : List (Cl B))
+        → Tells (fresh B) (story B cs) (after B (fresh B) cs) × Known B (askedAfter (nothingAsked B) (fresh B) cs) (after B (fresh B) cs)
+    unfolding fresh
+    told-from-fresh cs = calls-tell (nothingAsked B) (fresh B) cs (fresh-good B L) (λ q i. absurd i)
+
     pub story-tells : (cs : List (Cl B)) → Tells (fresh B) (story B cs) (after B (fresh B) cs)
-    story-tells cs = calls-tell (fresh B) cs (fresh-good B L)
+    story-tells cs = told-from-fresh cs .0
+
+    -- what more calls add to it, from where the first led to
+    abbrev pub moreDeeds : List (Cl B) → List (Cl B) → List (Deed B)
+    moreDeeds cs more = storyFrom B (askedAfter (nothingAsked B) (fresh B) cs) (after B (fresh B) cs) more
+
+    pub story-more : (cs more : List (Cl B)) → story B (cs ++ more) ≡ story B cs ++ moreDeeds cs more
+    story-more cs more = story-on (nothingAsked B) (fresh B) cs more
+
+    pub more-tells : (cs more : List (Cl B)) → Tells (after B (fresh B) cs) (moreDeeds cs more) (after B (fresh B) (cs ++ more))
+    more-tells cs more = subst (Tells (after B (fresh B) cs) (moreDeeds cs more)) (sym (after-on (fresh B) cs more))
+        (calls-tell (askedAfter (nothingAsked B) (fresh B) cs) (after B (fresh B) cs) more (after-good B L cs) (told-from-fresh cs .1) .0)
 
     pub seamless : (cs : List (Cl B)) → Seamless B (fresh B .entries) (story B cs) (after B (fresh B) cs .entries)
     seamless cs = tells-seamless (story-tells cs)
+
+    pub good-at : {xs ys : List (Deed B)} {d : Deed B} {z : St B} → (v : At (fresh B) xs d ys z) → Good B (v .before)
+    good-at v = tells-keep (Good B) (λ d. Unit {0}) (good-kept B L .joins) (λ s d z c o. good-after s d z c) (v .earlier) (λ d i. tt) (fresh-good B L)
 
     -- a deed of the story, and a later one: the states at each, and the deeds between
     pub record Later (a : Deed B) (ys : List (Deed B)) (m : Deed B) : Type 0 where
@@ -275,7 +336,7 @@ module _ (B : Book) where
         record {
           before = v .before;
           after = v .after;
-          good = tells-keep (Good B) (λ d. Unit {0}) (good-kept B L .joins) (λ s d z c o. good-after s d z c) (v .earlier) (λ d i. tt) (fresh-good B L);
+          good = good-at v;
           acts = v .acts;
           until = w .before;
           between = w .earlier;

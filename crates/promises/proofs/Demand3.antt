@@ -1,5 +1,5 @@
 -- Demand 3, proved of every run of calls from a fresh index, over any ordered keys: the one theorem is `demand3`. The locks by the invariant
--- that holders go together, the chains by the desk being at rest; the ranges and the repeated read in files of their own. Assumes nothing.
+-- that holders go together, the chains by the desk being at rest; the ranges and the repeated request in files of their own. Assumes nothing.
 use Prim.Native.Nat.{ℕ}
 use mathlib.Core.Path.{_≡_, sym, ap}
 use mathlib.Core.Logic.{_⊎_, inl, inr}

@@ -1,8 +1,13 @@
 pub mod Faithful
+pub mod Asked
 pub mod Deeds
 pub mod Told
 pub mod Ranges
+pub mod Gets
+pub mod ReadAgain
+pub mod KeyAgain
 pub mod Again
+pub mod Then
 pub mod Demand3
 pub mod Causes
 pub mod Working
@@ -13,3 +18,4 @@ pub mod Namesake
 pub mod Demand1
 pub mod OnBytes
 pub mod Demand2OnBytes
+pub mod Pins

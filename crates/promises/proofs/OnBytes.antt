@@ -1,5 +1,6 @@
--- Demand 3 on bytes, proved of every run of calls from fresh: the one theorem is `demand3-on-bytes`. The run goes as the rule book says, and
--- of that the demand is proved; the bytes that the calls wrote are the story's answers, one after the other. Assumes nothing.
+-- Demand 3 on bytes, proved of every run of calls from fresh: the theorem is `demand3-on-bytes`. The run goes as the rule book says, and
+-- of that the demand is proved; the bytes that the calls wrote are the story's answers, one after the other. And then and now, of two moments
+-- of such a run: `then-and-now-on-bytes`. Assumes nothing.
 use Prim.Native.Nat.{ℕ}
 use mathlib.Core.Path.{_≡_, refl, sym, ap, ap₂, subst, _∙_}
 use mathlib.Core.Bool.{Bool, true, false, cond}
@@ -14,7 +15,7 @@ use Rattle.rules.specs.Kinds.{Call, Lock}
 use Rattle.rules.specs.Locks.{inUse, sameName, conflict}
 use Rattle.rules.specs.Queue.{St}
 use Rattle.rules.specs.Runs.{AtRest}
-use Rattle.rules.specs.Desk.{step, stateAfter, answersOf, fresh, session}
+use Rattle.rules.specs.Desk.{step, stateAfter, answersOf, fresh, after, session}
 use Rattle.rules.specs.Good.{Good}
 use Rattle.rules.specs.Chains.{ChainsEnd}
 use Rattle.rules.proofs.Orders.{numbers-ordered}
@@ -26,11 +27,14 @@ use Rattle.desks.specs.States.{book, stateOf}
 use Rattle.calls.specs.Promise.{shortSpace}
 use Rattle.calls.specs.Calls.{Sent, callIn, with, callsIn, refuses, backIf, backOf, onward, backsFrom, wrote, bytesOf}
 use Rattle.calls.proofs.Bytes.{refusal-wrote, answers-wrote}
-use Rattle.calls.proofs.Runs.{legal-called, run-from-fresh, few-bytes, never-eleven}
+use Rattle.calls.proofs.Runs.{legal-called, run-back, run-from-fresh, few-bytes, never-eleven}
 use Rattle.promises.specs.Story.{given, story, Seamless}
-use Rattle.promises.specs.OnBytes.{Demand3OnBytes}
+use Rattle.promises.specs.Demand3.{nowAt}
+use Rattle.promises.specs.OnBytes.{Demand3OnBytes, ThenAndNowOnBytes}
 use Rattle.promises.proofs.Faithful.{faithful}
+use Rattle.promises.proofs.Deeds.{after-on}
 use Rattle.promises.proofs.Demand3.{demand3-of-document}
+use Rattle.promises.proofs.Then.{then-and-now}
 
 -- ---- the bytes that the calls wrote are the answers that the rule book gives
 abbrev Wrote : St book → List Sent → Type 0
@@ -85,6 +89,29 @@ demand3-on-bytes as′ bs p d f =
       locks = subst HoldersApart (sym (run .2)) (demand .locks .apart);
       chains = subst (ChainsEnd book) (sym (run .2)) (demand .chains);
     }
+  where
+    cs : List (Call ℕ ℕ)
+    cs = callsIn as′
+
+-- ---- two moments of a run: what was sent is what was sent up to the first, and what was sent after it
+calls-more : (as′ more : List Sent) → callsIn (as′ ++ more) ≡ callsIn as′ ++ callsIn more
+unfolding callsIn
+calls-more [] more = refl
+calls-more (a ∷ as′) more = go (callIn a) (calls-more as′ more)
+  where
+    go : (o : Option (Call ℕ ℕ)) → callsIn (as′ ++ more) ≡ callsIn as′ ++ callsIn more → with o (callsIn (as′ ++ more)) ≡ with o (callsIn as′) ++ callsIn more
+    go none e = e
+    go (some c) e = ap (λ cs. c ∷ cs) e
+
+pub then-and-now-on-bytes : ThenAndNowOnBytes
+unfolding stateOf
+then-and-now-on-bytes as′ more bs bs′ p d p′ d′ f r ds t x e k h =
+    let first = run-from-fresh f in
+    let second : stateOf p′ d′ ≡ after book (fresh book) (cs ++ callsIn more) =
+    run-back (first .1) r .2 ∙ ap (λ s. after book s (callsIn more)) (first .2) ∙ sym (after-on book (fresh book) cs (callsIn more)) in
+    let n = then-and-now book numbers-ordered cs (callsIn more) .same ds t x
+    (subst (λ (cs′ : List (Call ℕ ℕ)). story book cs′ ≡ story book cs ++ ds) (calls-more as′ more) e) k h in
+    ap (λ (s : St book). nowAt book (s .entries) x) second ∙ n ∙ sym (ap (λ (s : St book). nowAt book (s .entries) x) (first .2))
   where
     cs : List (Call ℕ ℕ)
     cs = callsIn as′

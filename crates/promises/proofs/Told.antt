@@ -54,15 +54,15 @@ module _ (B : Book) (L : Ordered (B .Key) (B .compare)) where
       read-covers B L s (v .good) t lo hi (v .held) x (u .0) (u .1)
 
   -- the range of an insert or a delete is its key
-  key-range : (k : B .Key) (m : Sy B) (g : Range B) → toldKey B k m ≡ some g → range B k k ≡ some g
+  pub key-range : (k : B .Key) (m : Sy B) (g : Range B) → toldKey B k m ≡ some g → range B k k ≡ some g
   key-range k done g h = never (cc)
   key-range k (found j r) g h = never (cc)
-  key-range k nothing g h = h
+  key-range k nothing g h = cc
   key-range k waiting g h = never (cc)
   key-range k runsAlready g h = never (cc)
   key-range k runsNot g h = never (cc)
   key-range k waitsAlready g h = never (cc)
-  key-range k (isPresent j r) g h = h
+  key-range k (isPresent j r) g h = cc
   key-range k locksShort g h = never (cc)
   key-range k pagesShort g h = never (cc)
   key-range k circle g h = never (cc)

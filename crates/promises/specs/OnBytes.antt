@@ -3,8 +3,8 @@
 use Prim.Native.Nat.{ℕ}
 use mathlib.Core.Path.{_≡_}
 use mathlib.Core.Bool.{true, false}
-use mathlib.Core.List.{List, [], map}
-use Rattle.lists.specs.Lists.{In, join}
+use mathlib.Core.List.{List, [], _++_, map}
+use Rattle.lists.specs.Lists.{In, all, join}
 use Rattle.rules.specs.Kinds.{Lock}
 use Rattle.rules.specs.Locks.{inUse, sameName, conflict}
 use Rattle.rules.specs.Runs.{AtRest}
@@ -15,9 +15,9 @@ use Rattle.index.specs.Pictures.{entriesIn}
 use Rattle.desks.specs.States.{book, stateOf}
 use Rattle.whole.specs.Whole.{Whole}
 use Rattle.calls.specs.Promise.{returned}
-use Rattle.calls.specs.Calls.{Sent, Back, FromFresh, callsIn, backsFrom, wrote, bytesOf}
-use Rattle.promises.specs.Story.{story, answerOf, Seamless}
-use Rattle.promises.specs.Demand3.{Demand3}
+use Rattle.calls.specs.Calls.{Sent, Back, Runs, FromFresh, callsIn, backsFrom, wrote, bytesOf}
+use Rattle.promises.specs.Story.{Deed, story, answerOf, Seamless}
+use Rattle.promises.specs.Demand3.{nowAt, KnowsOf, leavesAlone, Demand3}
 
 -- what was sent, what came back, and the picture that it left
 pub record OnBytes (as′ : List Sent) (bs : List Back) (p d : List ℕ) : Type 0 where
@@ -42,3 +42,13 @@ pub record OnBytes (as′ : List Sent) (bs : List Back) (p d : List ℕ) : Type 
 -- every run of calls from fresh
 abbrev pub Demand3OnBytes : Type 0
 Demand3OnBytes = (as′ : List Sent) (bs : List Back) (p d : List ℕ) → FromFresh as′ bs p d → OnBytes as′ bs p d
+
+-- Then and now: take two moments of a run from fresh, the pages p at the first and p′ at the second, when `more` was sent in between and ds
+-- is what was answered to it. What t knew of at the first, and has neither ended nor changed itself since, is at the second as it was.
+abbrev pub ThenAndNowOnBytes : Type 0
+ThenAndNowOnBytes =
+    (as′ more : List Sent) (bs bs′ : List Back) (p d p′ d′ : List ℕ) → FromFresh as′ bs p d → Runs p d more bs′ p′ d′
+    → (ds : List (Deed book)) (t x : ℕ) → story book (callsIn (as′ ++ more)) ≡ story book (callsIn as′) ++ ds
+    → KnowsOf book t x (story book (callsIn as′))
+    → all (leavesAlone book t x) ds ≡ true
+    → nowAt book (entriesIn p′) x ≡ nowAt book (entriesIn p) x

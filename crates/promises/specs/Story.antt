@@ -1,6 +1,7 @@
 -- What happened, in order: each answer with the request that it answers, and the index before and after. The answers are those that the
--- calls were given (`Faithful`, below), and nothing changes between them (`Seamless`); what a transaction was told, and since when, is read from them and from nothing else.
--- (Document 01, "What a signature on the scorecard means".) Assumes nothing.
+-- calls were given (`Faithful`, below), and nothing changes between them (`Seamless`). What a transaction had asked is the latest call that it
+-- sent and was not turned away; what it was told, and since when, is read from the answers: from calls and answers, and from no table.
+-- (Document 01, "What a signature on the scorecard means": "by the rule book's answers since each begin, not by the tables".) Assumes nothing.
 use Prim.Native.Nat.{ℕ, zero, suc}
 use mathlib.Core.Path.{_≡_}
 use mathlib.Core.Bool.{Bool, true, false, cond, _&&_}
@@ -8,12 +9,12 @@ use mathlib.Core.List.{List, [], _∷_, _++_, map}
 use mathlib.Core.Option.{Option, none, some}
 use lib.Dec.{eqb}
 use lib.ListN.{length}
-use Rattle.lists.specs.Lists.{first, join}
-use Rattle.rules.specs.Kinds.{Book, Ask, read, insert, delete, Request, begin, commit, rollback, ask, Queued}
+use Rattle.lists.specs.Lists.{join}
+use Rattle.rules.specs.Kinds.{Book, Ask, read, insert, delete, Request, begin, commit, rollback, ask}
 use Rattle.rules.specs.Entries.{Entries, atMost, committed, rolledBack}
 use Rattle.rules.specs.Queue.{St}
 use Rattle.rules.specs.Runs.{done, found, nothing, waiting, runsAlready, runsNot, waitsAlready, isPresent, locksShort, pagesShort, circle, Sy, Turn, turn, worked}
-use Rattle.rules.specs.Desk.{An, Cl, refusal, begun, ended, joined, waitsNow, legalCall, call, stateAfter, fresh, session}
+use Rattle.rules.specs.Desk.{An, Cl, refusal, begun, ended, joined, waitsNow, legalCall, call, stateAfter, answersOf, fresh, session}
 
 module _ (B : Book) where
   -- one answer: who got it, what it had asked, what it was told, and the entries before and after
@@ -24,40 +25,62 @@ module _ (B : Book) where
     pub before : Entries B
     pub after : Entries B
 
-  -- what a queued transaction has asked
-  abbrev pub asksOf : Option (Queued (B .Key) (B .Rec)) → Request (B .Key) (B .Rec)
-  asksOf none = begin
-  asksOf (some q) = ask (q .asks)
+  -- what each transaction has asked, as far as it is known from the calls that were sent
+  abbrev pub Asked : Type 0
+  Asked = ℕ → Request (B .Key) (B .Rec)
 
-  abbrev pub askedBy : St B → ℕ → Request (B .Key) (B .Rec)
-  askedBy s t = asksOf (first (λ q. eqb (q .asker) t) (s .queue))
+  abbrev pub nothingAsked : Asked
+  nothingAsked t = begin
+
+  -- a call that is answered 13, 14 or 15, or is 12, was turned away: what its sender had asked before still stands
+  abbrev pub isTurnedAway : Sy B → Bool
+  isTurnedAway done = false
+  isTurnedAway (found k r) = false
+  isTurnedAway nothing = false
+  isTurnedAway waiting = false
+  isTurnedAway runsAlready = true
+  isTurnedAway runsNot = true
+  isTurnedAway waitsAlready = true
+  isTurnedAway (isPresent k r) = false
+  isTurnedAway locksShort = false
+  isTurnedAway pagesShort = false
+  isTurnedAway circle = false
+
+  abbrev pub turnedAway : Option (List (An B)) → Bool
+  turnedAway none = true
+  turnedAway (some []) = false
+  turnedAway (some (a ∷ as′)) = isTurnedAway (a .says)
+
+  -- what is known when a call was sent and answered so
+  abbrev pub askedThen : Asked → Cl B → Option (List (An B)) → Asked
+  askedThen f c o u = cond (turnedAway o) (f u) (cond (eqb u (c .asker)) (c .request) (f u))
 
   -- the turns of the queue
-  abbrev pub turnDeed : St B → Turn B → Deed
-  turnDeed s o =
+  abbrev pub turnDeed : Asked → St B → Turn B → Deed
+  turnDeed f s o =
       record {
         actor = o .answer .asker;
-        request = askedBy s (o .answer .asker);
+        request = f (o .answer .asker);
         says = o .answer .says;
         before = s .entries;
         after = o .state .entries;
       }
 
-  abbrev pub andOn : St B → (St B → List Deed) → Option (Turn B) → List Deed
-  andOn s f none = []
-  andOn s f (some o) = turnDeed s o ∷ f (o .state)
+  abbrev pub andOn : Asked → St B → (St B → List Deed) → Option (Turn B) → List Deed
+  andOn f s more none = []
+  andOn f s more (some o) = turnDeed f s o ∷ more (o .state)
 
-  unfoldable pub turnDeeds : ℕ → St B → List Deed
-  turnDeeds zero s = []
-  turnDeeds (suc n) s = andOn s (turnDeeds n) (turn B s)
+  unfoldable pub turnDeeds : Asked → ℕ → St B → List Deed
+  turnDeeds f zero s = []
+  turnDeeds f (suc n) s = andOn f s (turnDeeds f n) (turn B s)
 
-  abbrev pub queueDeeds : St B → List Deed
-  queueDeeds s = turnDeeds (length (s .queue)) s
+  abbrev pub queueDeeds : Asked → St B → List Deed
+  queueDeeds f s = turnDeeds f (length (s .queue)) s
 
   -- begin, commit and rollback: done, and then the queue
-  abbrev pub doneDeeds : St B → ℕ → Request (B .Key) (B .Rec) → St B → List Deed
-  doneDeeds s t r s′ =
-      record { actor = t; request = r; says = done; before = s .entries; after = s′ .entries } ∷ queueDeeds s′
+  abbrev pub doneDeeds : Asked → St B → ℕ → Request (B .Key) (B .Rec) → St B → List Deed
+  doneDeeds f s t r s′ =
+      record { actor = t; request = r; says = done; before = s .entries; after = s′ .entries } ∷ queueDeeds f s′
 
   -- an answer that changes no entry
   abbrev pub idleDeed : Entries B → ℕ → Request (B .Key) (B .Rec) → Sy B → Deed
@@ -66,27 +89,30 @@ module _ (B : Book) where
   abbrev pub lastDeed : St B → ℕ → Ask (B .Key) (B .Rec) → List Deed
   lastDeed s t a = cond (waitsNow B s t) (idleDeed (s .entries) t (ask a) waiting ∷ []) []
 
-  unfoldable pub actDeeds : St B → ℕ → Request (B .Key) (B .Rec) → List Deed
-  actDeeds s t begin = doneDeeds s t begin (begun B s t)
-  actDeeds s t commit = doneDeeds s t commit (ended B committed s t)
-  actDeeds s t rollback = doneDeeds s t rollback (ended B rolledBack s t)
-  actDeeds s t (ask a) = queueDeeds (joined B s t a) ++ lastDeed (worked B (joined B s t a) .state) t a
+  unfoldable pub actDeeds : Asked → St B → ℕ → Request (B .Key) (B .Rec) → List Deed
+  actDeeds f s t begin = doneDeeds f s t begin (begun B s t)
+  actDeeds f s t commit = doneDeeds f s t commit (ended B committed s t)
+  actDeeds f s t rollback = doneDeeds f s t rollback (ended B rolledBack s t)
+  actDeeds f s t (ask a) = queueDeeds f (joined B s t a) ++ lastDeed (worked B (joined B s t a) .state) t a
 
-  abbrev pub deedsUnless : St B → ℕ → Request (B .Key) (B .Rec) → Option (Sy B) → List Deed
-  deedsUnless s t r none = actDeeds s t r
-  deedsUnless s t r (some m) = idleDeed (s .entries) t r m ∷ []
+  abbrev pub deedsUnless : Asked → St B → ℕ → Request (B .Key) (B .Rec) → Option (Sy B) → List Deed
+  deedsUnless f s t r none = actDeeds f s t r
+  deedsUnless f s t r (some m) = idleDeed (s .entries) t r m ∷ []
 
   -- the deeds of a call; a call that is 12 has none
-  unfoldable pub callDeeds : St B → Cl B → List Deed
-  callDeeds s c = cond (legalCall B c) (deedsUnless s (c .asker) (c .request) (refusal B s (c .asker) (c .request))) []
+  unfoldable pub callDeeds : Asked → St B → Cl B → List Deed
+  callDeeds f s c = cond (legalCall B c) (deedsUnless f s (c .asker) (c .request) (refusal B s (c .asker) (c .request))) []
 
-  unfoldable pub storyFrom : St B → List (Cl B) → List Deed
-  storyFrom s [] = []
-  storyFrom s (c ∷ cs) = callDeeds s c ++ storyFrom (stateAfter B s (call B s c)) cs
+  unfoldable pub storyFrom : Asked → St B → List (Cl B) → List Deed
+  storyFrom f s [] = []
+  storyFrom f s (c ∷ cs) =
+      let w = call B s c in
+      let g = askedThen f c (answersOf B w) in
+      callDeeds g s c ++ storyFrom g (stateAfter B s w) cs
 
   -- the story of a run of calls from a fresh index
   abbrev pub story : List (Cl B) → List Deed
-  story cs = storyFrom (fresh B) cs
+  story cs = storyFrom nothingAsked (fresh B) cs
 
   -- the deeds are the answers that the calls were given, in their order, and no others
   abbrev pub answerOf : Deed → An B
