@@ -1,14 +1,14 @@
--- Demand 1, proved of whatever keeps the promise of the call: the one theorem is `demand1`. A refusal leaves all as it was; otherwise the
+-- Demand 1, proved of whatever keeps the promise of the call: the one theorem is `demand1`; `shuts-out` says what it rules out. A refusal leaves all as it was; otherwise the
 -- answers are at most sixteen, so that their bytes are never taken for a refusal's number. Assumes nothing.
 use Prim.Native.Nat.{ℕ, _≤_, _<_}
-use mathlib.Core.Path.{_≡_, sym, ap, subst, _∙_}
+use mathlib.Core.Path.{_≡_, refl, sym, ap, subst, _∙_}
 use mathlib.Core.Logic.{_⊎_, inl, inr}
 use mathlib.Core.Bool.{true, false, true≢false}
 use mathlib.Core.List.{List}
 use mathlib.Core.Option.{none, some}
 use native.Mathlib.Nat.{zero-add}
 use native.Mathlib.Omega.{arith}
-use lib.ListN.{length, drop}
+use lib.ListN.{length, getD, drop}
 use Rattle.rules.specs.Kinds.{Call}
 use Rattle.entries.specs.Records.{heard}
 use Rattle.entries.proofs.Written.{length-written, written-rest}
@@ -17,7 +17,7 @@ use Rattle.whole.specs.Whole.{Whole}
 use Rattle.calls.specs.Promise.{Lent, wrongSizes, returned, stepOf, Answered, Served}
 use Rattle.calls.proofs.Determined.{served-ten, served-eleven, served-twelve}
 use Rattle.calls.proofs.Runs.{few-bytes}
-use Rattle.promises.specs.Demand1.{Demand1}
+use Rattle.promises.specs.Demand1.{Demand1, ShutsOut}
 
 module _ (q : List ℕ) (x y : Lent) (r : ℕ) where
   -- ---- a number at no other time than when its cause holds
@@ -117,3 +117,26 @@ module _ (q : List ℕ) (x y : Lent) (r : ℕ) where
         desk = desk-length o;
         answers = answers-length o;
       }
+
+-- ---- what it shuts out
+pub shuts-out : (q : List ℕ) (x y : Lent) → ShutsOut q x y
+shuts-out q x y =
+    record {
+      not10 = λ r w n d. n (d .ten w);
+      not11 = λ r w f n d. n (d .eleven w f);
+      not12 = λ r w f h n d. n (d .twelve w f h);
+      only10 = λ w d. true≢false (sym (d .tenCause refl) ∙ w);
+      only11 = λ w d. d .elevenCause refl .1 w;
+      small11 = λ w d. true≢false (sym w ∙ d .elevenCause refl .0);
+      only12 = λ h d. h (d .twelveCause refl .2);
+      small12 = λ w d. true≢false (sym w ∙ d .twelveCause refl .0);
+      broken12 = λ f d. f (d .twelveCause refl .1);
+      other = λ r w f h n d. let m = d .answered w f h in omega arith;
+      touched = λ r n o d. o (d .refused (omega arith));
+      seventeen = λ d. let m = d .most (omega arith) in omega arith;
+      behind = λ r i n o d. o (ap (λ s. getD s i 0) (d .beyond (omega arith)));
+      spoilt = λ r w f o d. o (d .whole w f);
+      pages = λ r o d. o (d .pages);
+      desk = λ r o d. o (d .desk);
+      answers = λ r o d. o (d .answers);
+    }

@@ -2,10 +2,11 @@
 -- refusal has its number, and says exactly which bytes have changed": none. Assumes nothing.
 use Prim.Native.Nat.{ℕ, _≤_, _<_}
 use mathlib.Core.Path.{_≡_}
+use mathlib.Core.Logic.{_≢_}
 use mathlib.Core.Bool.{true, false}
 use mathlib.Core.List.{List}
 use mathlib.Core.Option.{none}
-use lib.ListN.{length, drop}
+use lib.ListN.{length, getD, drop}
 use Rattle.entries.specs.Records.{heard}
 use Rattle.whole.specs.Whole.{Whole}
 use Rattle.calls.specs.Promise.{Lent, wrongSizes, returned}
@@ -32,3 +33,28 @@ pub record Demand1 (q : List ℕ) (x y : Lent) (r : ℕ) : Type 0 where
   pub pages : length (y .pages) ≡ length (x .pages)
   pub desk : length (y .desk) ≡ length (x .desk)
   pub answers : length (y .answers) ≡ length (x .answers)
+
+-- What it shuts out, line by line: outcomes of a call, none of which keeps it. A field that said less would let one of them pass.
+pub record ShutsOut (q : List ℕ) (x y : Lent) : Type 0 where
+  -- a cause, and not its number
+  pub not10 : (r : ℕ) → wrongSizes x ≡ true → r ≢ returned 10 0 → Demand1 q x y r → ⊥
+  pub not11 : (r : ℕ) → wrongSizes x ≡ false → (Whole (x .pages) (x .desk) → ⊥) → r ≢ returned 11 0 → Demand1 q x y r → ⊥
+  pub not12 : (r : ℕ) → wrongSizes x ≡ false → Whole (x .pages) (x .desk) → heard q ≡ none → r ≢ returned 12 0 → Demand1 q x y r → ⊥
+  -- a number, and not its cause
+  pub only10 : wrongSizes x ≡ false → Demand1 q x y (returned 10 0) → ⊥
+  pub only11 : Whole (x .pages) (x .desk) → Demand1 q x y (returned 11 0) → ⊥
+  pub small11 : wrongSizes x ≡ true → Demand1 q x y (returned 11 0) → ⊥
+  pub only12 : (heard q ≡ none → ⊥) → Demand1 q x y (returned 12 0) → ⊥
+  pub small12 : wrongSizes x ≡ true → Demand1 q x y (returned 12 0) → ⊥
+  pub broken12 : (Whole (x .pages) (x .desk) → ⊥) → Demand1 q x y (returned 12 0) → ⊥
+  -- no cause, and some number all the same
+  pub other : (r : ℕ) → wrongSizes x ≡ false → Whole (x .pages) (x .desk) → (heard q ≡ none → ⊥) → returned 1 0 ≤ r → Demand1 q x y r → ⊥
+  -- a refusal that changed something
+  pub touched : (r : ℕ) → returned 1 0 ≤ r → y ≢ x → Demand1 q x y r → ⊥
+  -- more than sixteen answers; a byte changed behind the answers; a picture spoilt; a buffer that grew or shrank
+  pub seventeen : Demand1 q x y 340 → ⊥
+  pub behind : (r i : ℕ) → r < returned 1 0 → getD (drop r (y .answers)) i 0 ≢ getD (drop r (x .answers)) i 0 → Demand1 q x y r → ⊥
+  pub spoilt : (r : ℕ) → wrongSizes x ≡ false → Whole (x .pages) (x .desk) → (Whole (y .pages) (y .desk) → ⊥) → Demand1 q x y r → ⊥
+  pub pages : (r : ℕ) → length (y .pages) ≢ length (x .pages) → Demand1 q x y r → ⊥
+  pub desk : (r : ℕ) → length (y .desk) ≢ length (x .desk) → Demand1 q x y r → ⊥
+  pub answers : (r : ℕ) → length (y .answers) ≢ length (x .answers) → Demand1 q x y r → ⊥
