@@ -4,13 +4,13 @@
 use Prim.Native.Nat.{ℕ}
 use mathlib.Core.Path.{_≡_, refl, sym, ap, ap₂, subst, _∙_}
 use mathlib.Core.Bool.{Bool, true, false, cond}
-use mathlib.Core.List.{List, [], _∷_, _++_}
+use mathlib.Core.List.{List, [], _∷_, _++_, map, map-append}
 use mathlib.Core.Option.{Option, none, some}
 use native.Mathlib.Omega.{arith}
 use borrow.Author.Tests.{ltb-false}
 use lib.ListN.{length}
 use Rattle.lists.specs.Lists.{join, In}
-use Rattle.lists.proofs.Joins.{join-append}
+use Rattle.lists.proofs.Joins.{append-apart, join-append}
 use Rattle.rules.specs.Kinds.{Call, Lock}
 use Rattle.rules.specs.Locks.{inUse, sameName, conflict}
 use Rattle.rules.specs.Queue.{St}
@@ -25,12 +25,12 @@ use Rattle.entries.specs.Records.{heard}
 use Rattle.entries.proofs.Number12.{heard-legal}
 use Rattle.desks.specs.States.{book, stateOf}
 use Rattle.calls.specs.Promise.{shortSpace}
-use Rattle.calls.specs.Calls.{Sent, callIn, with, callsIn, refuses, backIf, backOf, onward, backsFrom, wrote, bytesOf}
+use Rattle.calls.specs.Calls.{Sent, Back, Runs, FromFresh, callIn, with, callsIn, refuses, backIf, backOf, onward, backsFrom, wrote, bytesOf}
 use Rattle.calls.proofs.Bytes.{refusal-wrote, answers-wrote}
 use Rattle.calls.proofs.Runs.{legal-called, run-back, run-from-fresh, few-bytes, never-eleven}
-use Rattle.promises.specs.Story.{given, story, Seamless}
+use Rattle.promises.specs.Story.{Deed, given, answerOf, story, Seamless}
 use Rattle.promises.specs.Demand3.{nowAt}
-use Rattle.promises.specs.OnBytes.{Demand3OnBytes, ThenAndNowOnBytes}
+use Rattle.promises.specs.OnBytes.{Demand3OnBytes, ThenAndNowOnBytes, BetweenOnBytes}
 use Rattle.promises.proofs.Faithful.{faithful}
 use Rattle.promises.proofs.Deeds.{after-on}
 use Rattle.promises.proofs.Demand3.{demand3-of-document}
@@ -115,3 +115,22 @@ then-and-now-on-bytes as′ more bs bs′ p d p′ d′ f r ds t x e k h =
   where
     cs : List (Call ℕ ℕ)
     cs = callsIn as′
+
+-- the run to the second moment is one from fresh too, and its bytes are those up to the first and those after it
+runs-on : {p d p₁ d₁ p′ d′ : List ℕ} {as′ more : List Sent} {bs bs′ : List Back} → Runs p d as′ bs p₁ d₁ → Runs p₁ d₁ more bs′ p′ d′
+    → Runs p d (as′ ++ more) (bs ++ bs′) p′ d′
+runs-on Runs.rest r = r
+runs-on (Runs.next h q) r = Runs.next h (runs-on q r)
+
+pub between-on-bytes : BetweenOnBytes
+between-on-bytes as′ more bs bs′ p d p′ d′ f r ds e =
+    let whole : FromFresh (as′ ++ more) (bs ++ bs′) p′ d′ =
+    record { pages = f .pages; desk = f .desk; whole = f .whole; state = f .state; runs = runs-on (f .runs) r } in
+    let one = demand3-on-bytes as′ bs p d f .bytes in
+    let two = demand3-on-bytes (as′ ++ more) (bs ++ bs′) p′ d′ whole .bytes in
+    append-apart (join wrote bs) (join bytesOf (map (answerOf book) first)) _ _ (ap length one)
+    (sym (join-append wrote bs bs′) ∙ two ∙ ap (λ (es : List (Deed book)). join bytesOf (map (answerOf book) es)) e
+    ∙ ap (join bytesOf) (map-append (answerOf book) first ds) ∙ join-append bytesOf (map (answerOf book) first) (map (answerOf book) ds)) .1
+  where
+    first : List (Deed book)
+    first = story book (callsIn as′)

@@ -52,3 +52,10 @@ ThenAndNowOnBytes =
     → KnowsOf book t x (story book (callsIn as′))
     → all (leavesAlone book t x) ds ≡ true
     → nowAt book (entriesIn p′) x ≡ nowAt book (entriesIn p) x
+
+-- and ds is, answer for answer, the bytes that were written in between
+abbrev pub BetweenOnBytes : Type 0
+BetweenOnBytes =
+    (as′ more : List Sent) (bs bs′ : List Back) (p d p′ d′ : List ℕ) → FromFresh as′ bs p d → Runs p d more bs′ p′ d′
+    → (ds : List (Deed book)) → story book (callsIn (as′ ++ more)) ≡ story book (callsIn as′) ++ ds
+    → join wrote bs′ ≡ join bytesOf (map (answerOf book) ds)
