@@ -4,11 +4,11 @@ use crate::records;
 use entries::Entry;
 use entries::Key;
 
-pub fn entry_of(key: u64, owner: u16, now: u64, before: u64) -> Entry {
+pub fn entry_of(key: Key, owner: u16, now: u64, before: u64) -> Entry {
     let is = records::value_of(now);
     let was = records::value_of(before);
     Entry {
-        key: Key(key),
+        key: key,
         owner: owner,
         now: is,
         before: was,
@@ -79,7 +79,7 @@ pub extern "C" fn codec_put_entry(
     if i >= 24 {
         return false;
     }
-    pages::leaf::put_entry(p, i, entry_of(key, owner, now, before));
+    pages::leaf::put_entry(p, i, entry_of(Key(key), owner, now, before));
     true
 }
 
@@ -102,7 +102,7 @@ pub extern "C" fn codec_insert_entry(
     if i > n {
         return false;
     }
-    pages::leaf::insert_entry(p, i, entry_of(key, owner, now, before));
+    pages::leaf::insert_entry(p, i, entry_of(Key(key), owner, now, before));
     true
 }
 
@@ -149,7 +149,7 @@ pub extern "C" fn codec_split_leaf(
     if i > 24 {
         return false;
     }
-    pages::leaf::split_leaf(left, right, i, entry_of(key, owner, now, before));
+    pages::leaf::split_leaf(left, right, i, entry_of(Key(key), owner, now, before));
     true
 }
 

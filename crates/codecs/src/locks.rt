@@ -28,13 +28,13 @@ pub extern "C" fn codec_slot_at(d: &[u8], i: usize, out: &mut [u8]) -> u64 {
     mode.number() as u64
 }
 
-// The slot that these numbers make; mode 0 is a free one.
-fn slot_of(name: u64, holder: u16, mode: u16) -> Slot {
+// The slot that these fields make; mode 0 is a free one.
+fn slot_of(name: Key, holder: u16, mode: u16) -> Slot {
     if mode == 0 {
         return Slot::Free;
     }
     Slot::Held(Lock {
-        name: Key(name),
+        name: name,
         holder: holder,
         mode: Mode::of(mode),
     })
@@ -57,7 +57,7 @@ pub extern "C" fn codec_put_slot(
     if mode > 2 {
         return false;
     }
-    tables::locks::put_slot(d, i, slot_of(name, holder, mode));
+    tables::locks::put_slot(d, i, slot_of(Key(name), holder, mode));
     true
 }
 

@@ -1,6 +1,7 @@
 // The queue of the desk.
 use crate::REFUSED;
 use crate::records;
+use entries::Key;
 
 #[no_mangle]
 pub extern "C" fn codec_queued(d: &[u8]) -> u64 {
@@ -59,7 +60,7 @@ pub extern "C" fn codec_join_queue(
     if n >= 16 {
         return false;
     }
-    tables::queue::join_queue(d, t, records::ask_of(kind, lo, hi, rec));
+    tables::queue::join_queue(d, t, records::ask_of(kind, Key(lo), Key(hi), rec));
     true
 }
 

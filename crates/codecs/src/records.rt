@@ -8,11 +8,11 @@ use entries::Request;
 use entries::Says;
 use entries::Value;
 
-// What an ask is made of, each field as a number; those that its kind has not are zero.
+// What an ask is made of; the fields that its kind has not are zero.
 pub struct Fields {
     pub kind: u64,
-    pub lo: u64,
-    pub hi: u64,
+    pub lo: Key,
+    pub hi: Key,
     pub rec: u64,
 }
 
@@ -20,20 +20,20 @@ pub fn fields_of(a: Ask) -> Fields {
     match a {
         Ask::Read(lo, hi) => Fields {
             kind: 4,
-            lo: lo.0,
-            hi: hi.0,
+            lo: lo,
+            hi: hi,
             rec: 0,
         },
         Ask::Insert(key, rec) => Fields {
             kind: 5,
-            lo: key.0,
-            hi: 0,
+            lo: key,
+            hi: Key::LOWEST,
             rec: rec as u64,
         },
         Ask::Delete(key) => Fields {
             kind: 6,
-            lo: key.0,
-            hi: 0,
+            lo: key,
+            hi: Key::LOWEST,
             rec: 0,
         },
     }
@@ -43,8 +43,8 @@ pub fn fields_of(a: Ask) -> Fields {
 fn bare(kind: u64) -> Fields {
     Fields {
         kind: kind,
-        lo: 0,
-        hi: 0,
+        lo: Key::LOWEST,
+        hi: Key::LOWEST,
         rec: 0,
     }
 }
@@ -66,8 +66,8 @@ pub fn put_fields(out: &mut [u8], at: usize, a: Fields) -> bool {
     if out.len() - 24 < at {
         return false;
     }
-    numbers::write_u64(out, at, a.lo);
-    numbers::write_u64(out, at + 8, a.hi);
+    numbers::write_u64(out, at, a.lo.0);
+    numbers::write_u64(out, at + 8, a.hi.0);
     numbers::write_u64(out, at + 16, a.rec);
     true
 }
@@ -78,14 +78,14 @@ pub fn is_ask(kind: u16) -> bool {
 }
 
 // The ask of a kind from 4 to 6.
-pub fn ask_of(kind: u16, lo: u64, hi: u64, rec: u32) -> Ask {
+pub fn ask_of(kind: u16, lo: Key, hi: Key, rec: u32) -> Ask {
     if kind == 4 {
-        return Ask::Read(Key(lo), Key(hi));
+        return Ask::Read(lo, hi);
     }
     if kind == 5 {
-        return Ask::Insert(Key(lo), rec);
+        return Ask::Insert(lo, rec);
     }
-    Ask::Delete(Key(lo))
+    Ask::Delete(lo)
 }
 
 // The kind of a request record, with transaction, lo, hi and record written to `out`, 8 bytes each; 0 for a bad one.

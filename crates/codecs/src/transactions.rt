@@ -1,6 +1,7 @@
 // The transactions of the desk.
 use crate::REFUSED;
 use crate::records;
+use entries::Key;
 
 // 1 where t runs, 0 where it does not.
 #[no_mangle]
@@ -96,7 +97,7 @@ pub extern "C" fn codec_put_ask(
     if !records::is_ask(kind) {
         return false;
     }
-    tables::transactions::put_ask(d, t, records::ask_of(kind, lo, hi, rec));
+    tables::transactions::put_ask(d, t, records::ask_of(kind, Key(lo), Key(hi), rec));
     true
 }
 

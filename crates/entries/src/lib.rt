@@ -17,30 +17,12 @@ ghost use Rattle.entries.specs.Records.{misshapen, Shaped, filled, callI
 pub struct Key(pub u64);
 
 impl Key {
+    // The marks: keys lie from the lowest to the highest, and the end comes next. `is_key` and `is_end` tie them to the rule book's.
     pub const LOWEST: Key = Key(0);
 
     pub const HIGHEST: Key = Key(18446744073709551614);
 
     pub const END: Key = Key(18446744073709551615);
-
-    // The marks, with their places in the rule book: keys lie from the lowest to the highest, and the end comes next.
-    pub fn lowest() -> Key
-        ensures { λ r. ⌜ r .0 ≡ 0 ⌝ }
-    {
-        Self::LOWEST
-    }
-
-    pub fn highest() -> Key
-        ensures { λ r. ⌜ r .0 + 1 ≡ endMark ⌝ }
-    {
-        Self::HIGHEST
-    }
-
-    pub fn end() -> Key
-        ensures { λ r. ⌜ r .0 ≡ endMark ⌝ }
-    {
-        Self::END
-    }
 
     // Whether it is a key, and not the end.
     pub fn is_key(self) -> bool
@@ -400,7 +382,7 @@ fn numbered(number: u16) -> Paper
 {
     Paper {
         number: number,
-        key: Key(0),
+        key: Key::LOWEST,
         rec: 0,
     }
 }

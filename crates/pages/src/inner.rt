@@ -19,10 +19,10 @@ pub fn child_at(p: &[u8], i: usize) -> Child
     ensures { λ r. ⌜ r ≡ childAt (now (p .entry)) i ⌝ }
 {
     let at = 16 + 16 * i;
-    let low = numbers::read_u64(p, at);
+    let low = Key(numbers::read_u64(p, at));
     let page = numbers::read_u16(p, at + 8);
     Child {
-        low: Key(low),
+        low: low,
         page: page,
     }
 }
@@ -121,7 +121,7 @@ fn take_first_low(p: &mut [u8]) -> Key
     ensures { λ r. ⌜ r .0 ≡ numberAt 8 (now (p .entry)) 16 ⌝ }
     ensures { λ _. ⌜ now (p .exit) ≡ putNumber 8 (now (p .entry)) 16 0 ⌝ }
 {
-    let low = numbers::read_u64(p, 16);
-    numbers::write_u64(p, 16, 0);
-    Key(low)
+    let low = Key(numbers::read_u64(p, 16));
+    numbers::write_u64(p, 16, Key::LOWEST.0);
+    low
 }

@@ -25,13 +25,13 @@ pub fn entry_at(p: &[u8], i: usize) -> Entry
     let now_at = key_at + 8;
     let before_at = now_at + 4;
     let owner_at = before_at + 4;
-    let key = numbers::read_u64(p, key_at);
+    let key = Key(numbers::read_u64(p, key_at));
     let now = numbers::read_u32(p, now_at);
     let before = numbers::read_u32(p, before_at);
     let owner = numbers::read_u16(p, owner_at);
     let there = numbers::read_u16(p, owner_at + 2);
     Entry {
-        key: Key(key),
+        key: key,
         owner: owner,
         now: value_if(there, now),
         before: value_if(there / 2, before),

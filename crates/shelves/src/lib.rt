@@ -119,7 +119,7 @@ pub extern "C" fn shelf_replace(
     if !is_whole(pages) {
         return false;
     }
-    index::replace(pages, leaf::entry_of(key, owner, now, before));
+    index::replace(pages, leaf::entry_of(Key(key), owner, now, before));
     true
 }
 

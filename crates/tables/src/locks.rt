@@ -41,15 +41,15 @@ pub fn slot_at(d: &[u8], i: usize) -> Slot
 }
 
 // Writes slot i by its numbers, and nothing else.
-fn put_row(d: &mut [u8], i: usize, name: u64, holder: u16, mode: u16)
+fn put_row(d: &mut [u8], i: usize, name: Key, holder: u16, mode: u16)
     requires { do ⌜ (← ⟦d.len()⟧) ≡ deskSize ⌝ }
     requires { ⌜ i < locksMost ⌝ }
-    ensures { λ _. ⌜ now (d .exit) ≡ putFields lockWidths (now (d .entry)) (lockPlace i) (name ∷ holder ∷ mode ∷ 0 ∷ []) ⌝ }
+    ensures { λ _. ⌜ now (d .exit) ≡ putFields lockWidths (now (d .entry)) (lockPlace i) (name .0 ∷ holder ∷ mode ∷ 0 ∷ []) ⌝ }
 {
     let p = SLOTS + WIDTH * i;
     let q = p + 8;
     let r = q + 2;
-    numbers::write_u64(d, p, name);
+    numbers::write_u64(d, p, name.0);
     numbers::write_u16(d, q, holder);
     numbers::write_u16(d, r, mode);
     numbers::write_u32(d, r + 2, 0);
@@ -62,11 +62,11 @@ pub fn put_slot(d: &mut [u8], i: usize, s: Slot)
     ensures { λ _. ⌜ now (d .exit) ≡ putSlot (now (d .entry)) i (bookSlot s) ⌝ }
 {
     match s {
-        Slot::Free => put_row(d, i, 0, 0, 0),
+        Slot::Free => put_row(d, i, Key::LOWEST, 0, 0), // a field not in use is zero
         Slot::Held(l) => {
             let name = l.name;
             let mode = l.mode;
-            put_row(d, i, name.0, l.holder, mode.number());
+            put_row(d, i, name, l.holder, mode.number());
         }
     }
 }

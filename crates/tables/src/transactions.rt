@@ -84,19 +84,19 @@ pub fn ask_at(d: &[u8], t: u16) -> Ask
     Ask::Delete(lo)
 }
 
-// Writes t's waiting request by its numbers, and nothing else.
-fn put_request(d: &mut [u8], t: u16, kind: u16, rec: u32, lo: u64, hi: u64)
+// Writes t's waiting request by its fields, and nothing else. A field not in use is zero.
+fn put_request(d: &mut [u8], t: u16, kind: u16, rec: u32, lo: Key, hi: Key)
     requires { do ⌜ (← ⟦d.len()⟧) ≡ deskSize ⌝ }
     requires { ⌜ t ≤ transactionsMost ⌝ }
-    ensures { λ _. ⌜ now (d .exit) ≡ putAsk (now (d .entry)) t (kind ∷ rec ∷ lo ∷ hi ∷ []) ⌝ }
+    ensures { λ _. ⌜ now (d .exit) ≡ putAsk (now (d .entry)) t (kind ∷ rec ∷ lo .0 ∷ hi .0 ∷ []) ⌝ }
 {
     let kind_at = record_place(t) + 2;
     let rec_at = kind_at + 2;
     let lo_at = rec_at + 4;
     numbers::write_u16(d, kind_at, kind);
     numbers::write_u32(d, rec_at, rec);
-    numbers::write_u64(d, lo_at, lo);
-    numbers::write_u64(d, lo_at + 8, hi);
+    numbers::write_u64(d, lo_at, lo.0);
+    numbers::write_u64(d, lo_at + 8, hi.0);
 }
 
 // Writes the request that t waits for, and nothing else.
@@ -106,9 +106,9 @@ pub fn put_ask(d: &mut [u8], t: u16, a: Ask)
     ensures { λ _. ⌜ now (d .exit) ≡ putAsk (now (d .entry)) t (askFields (bookAsk a)) ⌝ }
 {
     match a {
-        Ask::Read(lo, hi) => put_request(d, t, READ, 0, lo.0, hi.0),
-        Ask::Insert(k, r) => put_request(d, t, INSERT, r, k.0, 0),
-        Ask::Delete(k) => put_request(d, t, DELETE, 0, k.0, 0),
+        Ask::Read(lo, hi) => put_request(d, t, READ, 0, lo, hi),
+        Ask::Insert(k, r) => put_request(d, t, INSERT, r, k, Key::LOWEST),
+        Ask::Delete(k) => put_request(d, t, DELETE, 0, k, Key::LOWEST),
     }
 }
 
@@ -118,5 +118,5 @@ pub fn clear_ask(d: &mut [u8], t: u16)
     requires { ⌜ t ≤ transactionsMost ⌝ }
     ensures { λ _. ⌜ now (d .exit) ≡ putAsk (now (d .entry)) t (0 ∷ 0 ∷ 0 ∷ 0 ∷ []) ⌝ }
 {
-    put_request(d, t, 0, 0, 0, 0);
+    put_request(d, t, 0, 0, Key::LOWEST, Key::LOWEST);
 }

@@ -291,7 +291,7 @@ fn pass_all(pages: &[u8], d: &[u8], order: &[u8], m: usize, level: usize, root: 
     let Passage::To(j) = passage else {
         return false;
     };
-    pass_name(d, order, m, j, Key::end()) == m
+    pass_name(d, order, m, j, Key::END) == m
 }
 
 // The same as `stand_in_order`, where the order does not go up at a place: its locks clash, or it is no order.

@@ -6,6 +6,7 @@ ghost use lib.ListN.{length};
 ghost use Rattle.lists.specs.Lists.{tab, all};
 ghost use Rattle.tables.specs.Layout.{queued, recordPlace, recordAt};
 ghost use Rattle.whole_desk.specs.Checks.{headOk, askersIn, formOk, plainOk, recordOk, slotOk, deskOk};
+use entries::Key;
 use tables::transactions;
 use whole_pages::Trail;
 
@@ -44,14 +45,14 @@ fn askers(d: &[u8]) -> Trail
     Trail::Went(m)
 }
 
-// Whether these are the fields of a waiting request, or of none: the waiting kinds are 4, 5 and 6.
-fn is_form(kind: u16, rec: u32, lo: u64, hi: u64) -> bool
-    ensures { λ r. ⌜ r ≡ formOk kind rec lo hi ⌝ }
+// Whether these are the fields of a waiting request, or of none: the waiting kinds are 4, 5 and 6. A field not in use is zero.
+fn is_form(kind: u16, rec: u32, lo: Key, hi: Key) -> bool
+    ensures { λ r. ⌜ r ≡ formOk kind rec (lo .0) (hi .0) ⌝ }
 {
-    ((kind == 0) & (rec == 0) & (lo == 0) & (hi == 0))
+    ((kind == 0) & (rec == 0) & (lo.0 == Key::LOWEST.0) & (hi.0 == Key::LOWEST.0))
         | ((kind == 4) & (rec == 0))
-        | ((kind == 5) & (hi == 0))
-        | ((kind == 6) & (rec == 0) & (hi == 0))
+        | ((kind == 5) & (hi.0 == Key::LOWEST.0))
+        | ((kind == 6) & (rec == 0) & (hi.0 == Key::LOWEST.0))
 }
 
 // Where the record of a transaction stands.
@@ -76,8 +77,8 @@ fn is_plain(d: &[u8], t: u16) -> bool
     let running = numbers::read_u16(d, running_at);
     let kind = numbers::read_u16(d, kind_at);
     let rec = numbers::read_u32(d, rec_at);
-    let lo = numbers::read_u64(d, lo_at);
-    let hi = numbers::read_u64(d, hi_at);
+    let lo = Key(numbers::read_u64(d, lo_at));
+    let hi = Key(numbers::read_u64(d, hi_at));
     let rest = numbers::read_u64(d, hi_at + 8);
     (running <= 1) & is_form(kind, rec, lo, hi) & (rest == 0)
 }
@@ -120,12 +121,12 @@ fn is_slot(d: &[u8], i: usize) -> bool
     let name_at = 576 + 16 * i;
     let holder_at = name_at + 8;
     let mode_at = holder_at + 2;
-    let name = numbers::read_u64(d, name_at);
+    let name = Key(numbers::read_u64(d, name_at));
     let holder = numbers::read_u16(d, holder_at);
     let mode = numbers::read_u16(d, mode_at);
     let rest = numbers::read_u32(d, mode_at + 2);
     if holder == 0 {
-        return (name == 0) & (mode == 0) & (rest == 0);
+        return (name.0 == Key::LOWEST.0) & (mode == 0) & (rest == 0);
     }
     if holder > 16 {
         return false;

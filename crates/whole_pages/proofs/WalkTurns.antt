@@ -14,6 +14,7 @@ use Rattle.lists.proofs.Tests.{and-left, and-right}
 use Rattle.lists.proofs.Tables.{tab-next, tab-done}
 use Rattle.numbers.specs.Numbers.{zeroAt}
 use Rattle.pages.specs.Layout.{countOf, childAt, childrenOf}
+use Rattle.entries.specs.declared.Key.{Key}
 use Rattle.pages.specs.declared.Child.{Child}
 use Rattle.index.specs.Pictures.{pageAt}
 use Rattle.whole_pages.specs.declared.Span.{Span}
@@ -143,24 +144,25 @@ module _ (level least : ℕ) (s : List ℕ) (used : ℕ) (t : Span) (seen n : �
   abbrev hi : ℕ
   hi = t .high .0
 
-  pub walk-next : (lo i m next page : ℕ) (w : Trail) (more : ℕ) → i < n → next ≡ highAt p n i hi → page ≡ childAt p i .page
-      → w ≡ f (spanOf page lo next) m → w ≡ Went more → whole ≡ walkOver f (spans lo hi (tab (n - i) i (childAt p))) m
-      → whole ≡ walkOver f (spans next hi (tab (n - (i + 1)) (i + 1) (childAt p))) more
+  pub walk-next : (lo next : Key) (i m page : ℕ) (w : Trail) (more : ℕ) → i < n → next .0 ≡ highAt p n i hi → page ≡ childAt p i .page
+      → w ≡ f (record { page = page; low = lo; high = next }) m → w ≡ Went more → whole ≡ walkOver f (spans (lo .0) hi (tab (n - i) i (childAt p))) m
+      → whole ≡ walkOver f (spans (next .0) hi (tab (n - (i + 1)) (i + 1) (childAt p))) more
   unfolding walkOver
-  walk-next lo i m next page w more l e g d v h =
+  walk-next lo next i m page w more l e g d v h =
       h
-      ∙ ap (λ ts. walkOver f ts m) (spans-next p hi n lo i l)
-      ∙ ap₂ (λ x y. after (f (spanOf x lo y) m) (walkOver f (spans y hi (tab (n - (i + 1)) (i + 1) (childAt p))))) (sym g) (sym e)
-      ∙ ap (λ x. after x (walkOver f (spans next hi (tab (n - (i + 1)) (i + 1) (childAt p))))) (sym d ∙ v)
+      ∙ ap (λ ts. walkOver f ts m) (spans-next p hi n (lo .0) i l)
+      ∙ ap₂ (λ x y. after (f (spanOf x (lo .0) y) m) (walkOver f (spans y hi (tab (n - (i + 1)) (i + 1) (childAt p))))) (sym g) (sym e)
+      ∙ ap (λ x. after x (walkOver f (spans (next .0) hi (tab (n - (i + 1)) (i + 1) (childAt p))))) (sym d ∙ v)
 
-  pub walk-stop : (lo i m next page : ℕ) (w : Trail) → i < n → next ≡ highAt p n i hi → page ≡ childAt p i .page
-      → w ≡ f (spanOf page lo next) m → w ≡ Bad → whole ≡ walkOver f (spans lo hi (tab (n - i) i (childAt p))) m → Bad ≡ whole
+  pub walk-stop : (lo next : Key) (i m page : ℕ) (w : Trail) → i < n → next .0 ≡ highAt p n i hi → page ≡ childAt p i .page
+      → w ≡ f (record { page = page; low = lo; high = next }) m → w ≡ Bad → whole ≡ walkOver f (spans (lo .0) hi (tab (n - i) i (childAt p))) m
+      → Bad ≡ whole
   unfolding walkOver
-  walk-stop lo i m next page w l e g d v h =
+  walk-stop lo next i m page w l e g d v h =
       sym (h
-      ∙ ap (λ ts. walkOver f ts m) (spans-next p hi n lo i l)
-      ∙ ap₂ (λ x y. after (f (spanOf x lo y) m) (walkOver f (spans y hi (tab (n - (i + 1)) (i + 1) (childAt p))))) (sym g) (sym e)
-      ∙ ap (λ x. after x (walkOver f (spans next hi (tab (n - (i + 1)) (i + 1) (childAt p))))) (sym d ∙ v))
+      ∙ ap (λ ts. walkOver f ts m) (spans-next p hi n (lo .0) i l)
+      ∙ ap₂ (λ x y. after (f (spanOf x (lo .0) y) m) (walkOver f (spans y hi (tab (n - (i + 1)) (i + 1) (childAt p))))) (sym g) (sym e)
+      ∙ ap (λ x. after x (walkOver f (spans (next .0) hi (tab (n - (i + 1)) (i + 1) (childAt p))))) (sym d ∙ v))
 
   pub walk-end : (lo i m : ℕ) → whole ≡ walkOver f (spans lo hi (tab (n - i) i (childAt p))) m → n ≤ i → Went m ≡ whole
   unfolding walkOver spans

@@ -64,18 +64,17 @@ pub fn count_at(pages: &[u8], q: usize) -> usize
 }
 
 // Where the range of child i of page q ends: at the next separator, or where the page's own does.
-fn high_at(pages: &[u8], q: usize, n: usize, i: usize, high: u64) -> u64
+fn high_at(pages: &[u8], q: usize, n: usize, i: usize, high: Key) -> Key
     requires { ⌜ length (now pages) ≡ 32768 ⌝ }
     requires { ⌜ q < 64 ⌝ }
     requires { ⌜ n ≤ 30 ⌝ }
     requires { ⌜ i < n ⌝ }
-    ensures { λ r. ⌜ r ≡ highAt (pageAt (now (pages .entry)) q) n i high ⌝ }
+    ensures { λ r. ⌜ r .0 ≡ highAt (pageAt (now (pages .entry)) q) n i (high .0) ⌝ }
 {
     if i + 1 < n {
         let a = 512 * q;
         let next = pages::inner::child_at(&pages[a..a + 512], i + 1);
-        let low = next.low;
-        return low.0;
+        return next.low;
     }
     high
 }
@@ -113,15 +112,15 @@ fn walk(pages: &[u8], used: usize, level: usize, least: usize, t: Span, seen: u6
     }
     let n = count_at(pages, q);
     let high = t.high;
-    let mut low = t.low.0;
+    let mut low = t.low;
     let mut m = first;
     let mut i: usize = 0;
     while i < n {
-        let next = high_at(pages, q, n, i, high.0);
+        let next = high_at(pages, q, n, i, high);
         let child = Span {
             page: child_at(pages, q, i),
-            low: Key(low),
-            high: Key(next),
+            low: low,
+            high: next,
         };
         let below = walk(pages, used, level - 1, 15, child, m);
         let Trail::Went(more) = below else {
@@ -170,7 +169,7 @@ fn walk_root(pages: &[u8]) -> Trail
     let height = numbers::number_at(pages, 20);
     let t = Span {
         page: root,
-        low: Key(0),
+        low: Key::LOWEST,
         high: Key::END,
     };
     walk(pages, used, height - 1, 2, t, 1)

@@ -45,10 +45,10 @@ fn is_entry(p: &[u8], i: usize) -> bool
 }
 
 // Whether a key lies from low on and below high.
-fn is_in(low: u64, high: u64, key: u64) -> bool
-    ensures { λ r. ⌜ r ≡ inRange low high key ⌝ }
+fn is_in(low: Key, high: Key, key: Key) -> bool
+    ensures { λ r. ⌜ r ≡ inRange (low .0) (high .0) (key .0) ⌝ }
 {
-    (low <= key) & (key < high)
+    (low.0 <= key.0) & (key.0 < high.0)
 }
 
 // Whether it is a leaf with keys from low on and below high.
@@ -60,14 +60,14 @@ pub fn is_leaf(p: &[u8], low: Key, high: Key) -> bool
     if !(has_head(p, 2, 0) & (n <= 24)) {
         return false;
     }
-    let mut least = low.0;
+    let mut least = low;
     let mut i: usize = 0;
     while i < n {
-        let key = numbers::read_u64(p, 16 + 20 * i);
-        if !(is_in(least, high.0, key) & is_entry(p, i)) {
+        let key = Key(numbers::read_u64(p, 16 + 20 * i));
+        if !(is_in(least, high, key) & is_entry(p, i)) {
             return false;
         }
-        least = key + 1;
+        least = Key(key.0 + 1);
         i += 1;
     }
     numbers::is_zero(p, 16 + 20 * n, 496 - 20 * n)
@@ -86,10 +86,10 @@ fn is_child(p: &[u8], i: usize) -> bool
 }
 
 // Whether a key lies above low and below high.
-fn is_between(low: u64, high: u64, key: u64) -> bool
-    ensures { λ r. ⌜ r ≡ between low high key ⌝ }
+fn is_between(low: Key, high: Key, key: Key) -> bool
+    ensures { λ r. ⌜ r ≡ between (low .0) (high .0) (key .0) ⌝ }
 {
-    (low < key) & (key < high)
+    (low.0 < key.0) & (key.0 < high.0)
 }
 
 // Whether the first child is one: "the first separator is 0".
@@ -97,8 +97,8 @@ fn is_first_child(p: &[u8]) -> bool
     requires { ⌜ length (now p) ≡ 512 ⌝ }
     ensures { λ r. ⌜ r ≡ firstOk (childFieldsAt (now (p .entry)) 0) ⌝ }
 {
-    let low = numbers::read_u64(p, 16);
-    (low == 0) & is_child(p, 0)
+    let low = Key(numbers::read_u64(p, 16));
+    (low.0 == Key::LOWEST.0) & is_child(p, 0)
 }
 
 // Whether it is an inner page of a level, with at least so many children, and separators above low and below high.
@@ -111,11 +111,11 @@ pub fn is_inner(p: &[u8], level: usize, least: usize, low: Key, high: Key) -> bo
     if !(has_head(p, 3, level) & ((least <= n) & (n <= 30)) & is_first_child(p)) {
         return false;
     }
-    let mut above = low.0;
+    let mut above = low;
     let mut i: usize = 1;
     while i < n {
-        let key = numbers::read_u64(p, 16 + 16 * i);
-        if !(is_between(above, high.0, key) & is_child(p, i)) {
+        let key = Key(numbers::read_u64(p, 16 + 16 * i));
+        if !(is_between(above, high, key) & is_child(p, i)) {
             return false;
         }
         above = key;

@@ -31,7 +31,7 @@ abbrev walk-below : ℕ → In 1 walk-kinds.ps
 walk-below t = and 1 walk-kinds.ps (falls 1 walk-kinds.ps _<_ μ-walk t) walk.Pre
 
 abbrev walk-Inv-loop : walk-lts.InvT-loop
-walk-Inv-loop pages used level least seen q first n high low₀ m₀ i₀ low m i = (q < 64) × ((n ≤ 30) × ((i ≤ n) × (walkAt level least pages used (spanOf q low₀ (high .0)) seen ≡ walkOver (walkAt (level - 1) 15 pages used) (spans low (high .0) (tab (n - i) i (childAt (pageAt pages q)))) m)))
+walk-Inv-loop pages used level least seen q first n high low₀ m₀ i₀ low m i = (q < 64) × ((n ≤ 30) × ((i ≤ n) × (walkAt level least pages used (spanOf q (low₀ .0) (high .0)) seen ≡ walkOver (walkAt (level - 1) 15 pages used) (spans (low .0) (high .0) (tab (n - i) i (childAt (pageAt pages q)))) m)))
 
 abbrev walk-μ-loop : walk-lts.MeasureT-loop
 walk-μ-loop pages used level least seen q first n high low₀ m₀ i₀ low m i = n - i

@@ -17,9 +17,6 @@ enum-told c = search needs
 returns : tie.Need-returns
 returns c = search (needs, all-stuck)
 
-end-requires : tie.Need-end-requires
-end-requires c κs = search needs
-
 pass-name-requires : tie.Need-pass-name-requires
 pass-name-requires c κs = (search needs, (search needs, (search needs, search (needs, past-to-most))))
 
@@ -34,6 +31,5 @@ pass-all-spec =
     enum-known-passage
     enum-told
     returns
-    end-requires
     pass-name-requires
     returns-2)

@@ -11,7 +11,7 @@ use Rattle.whole_pages.proofs.page.is_leaf.Statement.{statement}
 use Rattle.whole_pages.proofs.page.is_leaf.Tie as tie
 
 abbrev Inv-loop : tie.InvT-loop
-Inv-loop p high n least₀ i₀ least i = (n ≤ 24) × ((i ≤ n) × (entriesOk least₀ (high .0) (tab n 0 (entryFieldsAt p)) ≡ entriesOk least (high .0) (tab (n - i) i (entryFieldsAt p))))
+Inv-loop p high n least₀ i₀ least i = (n ≤ 24) × ((i ≤ n) × (entriesOk (least₀ .0) (high .0) (tab n 0 (entryFieldsAt p)) ≡ entriesOk (least .0) (high .0) (tab (n - i) i (entryFieldsAt p))))
 
 abbrev μ-loop : tie.MeasureT-loop
 μ-loop p high n least₀ i₀ least i = n - i
@@ -46,8 +46,8 @@ is-entry-requires c κs = search needs
 returns-2 : tie.Need-returns-2 Inv-loop μ-loop
 returns-2 c = search (needs, leaf-bad)
 
-add-least : tie.Need-add-least Inv-loop μ-loop
-add-least c = search (needs, next-fits)
+add-t13 : tie.Need-add-t13 Inv-loop μ-loop
+add-t13 c = search (needs, next-fits)
 
 add-i : tie.Need-add-i Inv-loop μ-loop
 add-i c = search needs
@@ -92,7 +92,7 @@ is-leaf-spec =
     is-in-requires
     is-entry-requires
     returns-2
-    add-least
+    add-t13
     add-i
     loop-less
     loop-again
