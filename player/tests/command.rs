@@ -2,11 +2,11 @@
 
 use play::usage::{Command as Asked, HELP, command};
 use std::path::{Path, PathBuf};
-use std::process::{Command, Output};
+use std::process::Output;
 use std::{env, fs, process};
 
 fn play(arguments: &[&str]) -> Output {
-    let mut program = Command::new(env!("CARGO_BIN_EXE_play"));
+    let mut program = linking::started(env!("CARGO_BIN_EXE_play"));
     program.args(arguments).current_dir(env!("CARGO_MANIFEST_DIR")).output().expect("it runs")
 }
 

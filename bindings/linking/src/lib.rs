@@ -1,6 +1,7 @@
 //! For build scripts: builds the static library of a crate, which `rt` proves first, and links it;
-//! or a program.
+//! or a program. For tests: starts a program.
 
+use std::ffi::OsStr;
 use std::fs::{self, File};
 use std::path::{Path, PathBuf};
 use std::process::Command;
@@ -20,6 +21,19 @@ pub fn link(name: &str) -> PathBuf {
 /// Builds a program, and gives the path of a copy.
 pub fn program(name: &str) -> PathBuf {
     build("check", name, &Path::new("target/bin").join(name)).join(name)
+}
+
+/// The command that starts a program for x86-64: itself or, where `.ci/x86` has named an emulator,
+/// that one.
+pub fn started(program: impl AsRef<OsStr>) -> Command {
+    match env::var_os("X86_EMULATOR") {
+        Some(emulator) => {
+            let mut command = Command::new(emulator);
+            command.arg(program);
+            command
+        }
+        None => Command::new(program),
+    }
 }
 
 /// Has `rt` build a crate, and copies the file that it makes into the script's own directory.

@@ -10,11 +10,11 @@ use native.Mathlib.Decide.{decLt}
 use native.Mathlib.Omega.{arith}
 use borrow.Author.Tests.{ltb-true, lt-ltb}
 use lib.Dec.{ltb}
-use lib.ListN.{length, getD, replicate, List·getD-eq-default}
+use lib.ListN.{length, getD, List·getD-eq-default}
 use Rattle.lists.specs.Lists as L
 use Rattle.lists.proofs.Tests.{all-at, all-each}
-use Rattle.numbers.specs.Numbers.{Bytes, numberAt, widthOf}
-use Rattle.numbers.proofs.Kept.{bytes-zeros, bytes-putFields}
+use Rattle.numbers.specs.Numbers.{Bytes, numberAt}
+use Rattle.numbers.proofs.Kept.{bytes-zeros}
 use Rattle.rules.specs.Kinds.{read, insert, Request, begin, commit, rollback, ask, Call}
 use Rattle.rules.specs.Locks as K
 use Rattle.rules.specs.Queue as Q
@@ -29,26 +29,14 @@ use Rattle.calls.specs.Calls as C
 use Rattle.cases.specs.Overs as O
 use Rattle.cases.specs.Idle as I
 use Rattle.cases.proofs.Computing.{the-book, the-pages, the-records}
+use Rattle.cases.proofs.Sending.{space, sent, sent-bytes}
 use Rattle.calls.proofs.Determined.{served-good}
 use Rattle.calls.proofs.Outcomes.{whole-bytes, some-outcome}
 use Rattle.calls.proofs.Runs.{whole-sizes, serve-back, call-legal, after-with}
 
--- ---- calls to send: each as its record, with just enough space
+-- ---- calls to send
 abbrev asks : ℕ → Request ℕ ℕ → Call ℕ ℕ
 asks t r = record { asker = t; request = r }
-
-abbrev space : List ℕ
-space = replicate 320 0
-
-abbrev sent : Call ℕ ℕ → C.Sent
-sent c = record { request = O.requestRecord c; space = space }
-
-sent-bytes : (c : Call ℕ ℕ) → Bytes (O.requestRecord c)
-unfolding O.requestRecord
-sent-bytes c =
-    let r = c .request in
-    let form = W.formOf (O.kindOf r) in
-    bytes-putFields form (replicate (widthOf form) 0) 0 (widthOf form ∷ O.kindOf r ∷ c .asker ∷ 0 ∷ O.followsHead r) (bytes-zeros (widthOf form))
 
 -- 1 begins; then it reads what nobody has inserted, or inserts
 abbrev opening : List (Call ℕ ℕ)

@@ -3,7 +3,6 @@
 
 use examples::{cargo_run, compiled_c, written_by};
 use std::path::Path;
-use std::process::Command;
 
 const COMMIT_WRITES: &str = "\
 14 00 07 00 01 00 00 00 00 00 00 00 00 00 00 00 00 00 00 00
@@ -13,7 +12,7 @@ const COMMIT_WRITES: &str = "\
 #[test]
 fn from_c() {
     let program = compiled_c("first.c", Path::new(env!("CARGO_TARGET_TMPDIR")));
-    assert_eq!(written_by(&mut Command::new(program)), COMMIT_WRITES);
+    assert_eq!(written_by(&mut linking::started(program)), COMMIT_WRITES);
 }
 
 #[test]

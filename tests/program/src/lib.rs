@@ -1,7 +1,7 @@
 //! Runs the program `keydesk` (document 01, Records and pages, last paragraph).
 
 use std::io::{Read, Write};
-use std::process::{Child, ChildStdin, ChildStdout, Command, Stdio};
+use std::process::{Child, ChildStdin, ChildStdout, Stdio};
 use std::thread;
 
 use model::generators::requests::{Bias, Requests};
@@ -16,7 +16,7 @@ pub struct Running {
 
 impl Running {
     pub fn start() -> Running {
-        let mut command = Command::new(env!("KEYDESK"));
+        let mut command = linking::started(env!("KEYDESK"));
         let mut child = command
             .stdin(Stdio::piped())
             .stdout(Stdio::piped())

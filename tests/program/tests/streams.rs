@@ -79,11 +79,20 @@ fn no_input_gives_no_output() {
     assert_eq!(output_of(&[8], 1), []);
 }
 
-/// The stream that `rt check keydesk` runs: its expected output was written by hand from document 01.
+/// The streams that `rt check` runs the program on, one that ends with a good record and one that a
+/// bad record ends: their expected outputs were written by hand from document 01.
 #[test]
-fn the_stream_beside_the_program_is_answered_as_the_model_does() {
-    let input = include_bytes!("../../../crates/keydesk/stdin");
-    let expected = include_bytes!("../../../crates/keydesk/stdout");
-    assert_eq!(program(input), expected);
-    assert_eq!(output_of(input, 5), expected);
+fn the_streams_beside_the_program_are_answered_as_the_model_does() {
+    let ends: (&[u8], &[u8]) = (
+        include_bytes!("../../../crates/keydesk/stdin"),
+        include_bytes!("../../../crates/keydesk/stdout"),
+    );
+    let stops: (&[u8], &[u8]) = (
+        include_bytes!("../../../crates/keydesk_stops/stdin"),
+        include_bytes!("../../../crates/keydesk_stops/stdout"),
+    );
+    for (input, expected) in [ends, stops] {
+        assert_eq!(program(input), expected);
+        assert_eq!(output_of(input, 5), expected);
+    }
 }
