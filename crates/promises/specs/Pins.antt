@@ -10,6 +10,7 @@ use Rattle.rules.specs.Kinds.{Book, Entry, read, insert, delete, Request, begin
 use Rattle.rules.specs.Runs.{Says, done, found, nothing, waiting, waitsAlready, isPresent}
 use Rattle.rules.specs.Desk.{fresh, after}
 use Rattle.rules.specs.Document.{document, endless}
+use Rattle.rules.specs.Cases.{entry}
 use Rattle.promises.specs.Story.{Deed, story, Range, told, within, ends}
 use Rattle.promises.specs.Demand3.{nowAt, changes, ownChange, KnowsOf, leavesAlone}
 
@@ -52,9 +53,6 @@ close = sends 1 commit ∷ []
 -- ---- and as it went: who, what it had asked, what it was told, the index before and after
 abbrev pub deed : ℕ → Request ℕ ℕ → Says ℕ ℕ → List (Entry ℕ ℕ) → List (Entry ℕ ℕ) → Deed plain
 deed t r m es es′ = record { actor = t; request = r; says = m; before = es; after = es′ }
-
-abbrev pub entry : ℕ → ℕ → Option ℕ → Option ℕ → Entry ℕ ℕ
-entry k t now before = record { key = k; owner = t; now = now; before = before }
 
 -- 20 as 16 inserts it, and settled; with 1's 50 beside it, and that settled; 20 as 2's ghost
 abbrev pub made : List (Entry ℕ ℕ)
