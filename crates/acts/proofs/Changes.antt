@@ -34,7 +34,7 @@ use Rattle.index.specs.Searches.{bookFound}
 use Rattle.index.specs.Changes.{replaced, Becomes}
 use Rattle.index.proofs.Entries.{entries-replaced, shape-replaced}
 use Rattle.desks.specs.States.{book, stateOf}
-use Rattle.whole.specs.Whole.{Whole}
+use Rattle.desks.specs.Whole.{Whole}
 use Rattle.desks.specs.Fitting.{NameFits}
 use Rattle.desks.proofs.Values.{name-read}
 use Rattle.acts.specs.Exchanges.{Exchanged}

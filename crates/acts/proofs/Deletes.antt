@@ -20,7 +20,7 @@ use Rattle.index.specs.declared.Found.the-variants as FV
 use Rattle.index.specs.Pictures.{entriesIn}
 use Rattle.index.specs.Searches.{bookFound}
 use Rattle.desks.specs.States.{book, stateOf}
-use Rattle.whole.specs.Whole.{Whole}
+use Rattle.desks.specs.Whole.{Whole}
 use Rattle.acts.specs.Acts.{Clear, Ran}
 use Rattle.acts.specs.Exchanges.{Exchanged}
 use Rattle.acts.proofs.Runs.{Done, only-locked, acted, looked}

@@ -29,7 +29,7 @@ use Rattle.index.specs.Pictures.{indexOf}
 use Rattle.index.specs.Changes.{settledIn, Becomes}
 use Rattle.index.proofs.Entries.{entries-settled, shape-ended}
 use Rattle.desks.specs.States.{book, stateOf}
-use Rattle.whole.specs.Whole.{Whole}
+use Rattle.desks.specs.Whole.{Whole}
 use Rattle.desks.specs.Fitting.{Fitting}
 use Rattle.desks.proofs.Kept.{fit-marked, fit-released, fit-left}
 use Rattle.desks.proofs.Ends.{dropped, desk-ended}

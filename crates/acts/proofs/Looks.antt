@@ -20,7 +20,7 @@ use Rattle.index.specs.declared.Found.the-variants as FV
 use Rattle.index.specs.Pictures.{entriesIn}
 use Rattle.index.specs.Searches.{bookFound}
 use Rattle.desks.specs.States.{book, stateOf}
-use Rattle.whole.specs.Whole.{Whole}
+use Rattle.desks.specs.Whole.{Whole}
 use Rattle.desks.specs.Fitting.{NameFits}
 use Rattle.desks.proofs.Values.{name-read}
 use Rattle.waits.proofs.Wants.{named-fits}

@@ -38,7 +38,7 @@ use Rattle.index.proofs.Entries.{key-missing, entries-added, shape-added}
 use Rattle.desks.specs.States.{book, stateOf}
 use Rattle.desks.specs.Fitting.{AskFits}
 use Rattle.desks.proofs.Values.{name-read}
-use Rattle.whole.specs.Whole.{Whole}
+use Rattle.desks.specs.Whole.{Whole}
 use Rattle.acts.specs.Acts as A
 use Rattle.acts.proofs.Tables.{whole-fits}
 use Rattle.acts.proofs.Runs.{asker-fits, ran-says, goes-if, given-if, refused, granted}

@@ -21,7 +21,7 @@ use Rattle.tables.specs.Layout.{transactionsMost, queued, queuedAt, queueOf, sl
 use Rattle.tables.specs.Moves.{markPut, queueJoined, queueLeft}
 use Rattle.tables.proofs.Queues.{length-queue}
 use Rattle.desks.specs.States.{book, stateOf, deskWith}
-use Rattle.whole.specs.Whole.{Whole}
+use Rattle.desks.specs.Whole.{Whole}
 use Rattle.desks.specs.Fitting.{AskFits, Fitting}
 use Rattle.desks.proofs.Says.{askerIn}
 use Rattle.desks.proofs.Kept.{fit-marked, room-for, fit-joined, fit-left}

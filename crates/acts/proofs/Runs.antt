@@ -20,7 +20,7 @@ use Rattle.tables.specs.Moves.{lockTaken, lockGiven, queueLeft}
 use Rattle.tables.proofs.Queues.{length-queue}
 use Rattle.index.specs.Pictures.{keyOf, indexOf, entriesIn, WholePages}
 use Rattle.desks.specs.States.{book, stateOf, deskWith}
-use Rattle.whole.specs.Whole.{Whole}
+use Rattle.desks.specs.Whole.{Whole}
 use Rattle.desks.specs.Fitting.{NameFits, QueuedFits, Fitting}
 use Rattle.desks.proofs.Kept.{fit-taken, fit-left}
 use Rattle.desks.proofs.Moves.{queue-left, lock-given, lock-taken, lock-refused}

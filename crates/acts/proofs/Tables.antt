@@ -14,7 +14,7 @@ use Rattle.tables.specs.Layout.{transactionsMost, queued, slotsOf, queueOf, mar
 use Rattle.tables.proofs.Queues.{length-queue}
 use Rattle.index.specs.Pictures.{keyOf, indexOf, entriesIn, WholePages}
 use Rattle.desks.specs.States.{book, stateOf, deskWith}
-use Rattle.whole.specs.Whole.{Whole}
+use Rattle.desks.specs.Whole.{Whole}
 use Rattle.desks.specs.Fitting.{Fitting}
 use Rattle.desks.proofs.Reading.{desk-length}
 use Rattle.desks.proofs.Itself.{itself-fits, desk-itself, desk-state}

@@ -11,7 +11,7 @@ use Rattle.entries.specs.Meaning.{bookAnswer}
 use Rattle.tables.specs.Layout.{queued, queuedAt, slotsOf}
 use Rattle.index.specs.Pictures.{entriesIn}
 use Rattle.desks.specs.States.{book, stateOf}
-use Rattle.whole.specs.Whole.{Whole}
+use Rattle.desks.specs.Whole.{Whole}
 
 -- the picture is whole and says s
 pub record Says (p d : List ℕ) (s : St book) : Type 0 where

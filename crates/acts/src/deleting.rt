@@ -7,7 +7,7 @@ ghost use Rattle.rules.specs.Runs.{done, nothing, locksShort};
 ghost use Rattle.entries.specs.Meaning.{bookEntry, bookSays};
 ghost use Rattle.tables.specs.Layout.{queuedAt};
 ghost use Rattle.index.specs.Pictures.{WholePages};
-ghost use Rattle.whole.specs.Whole.{Whole};
+ghost use Rattle.desks.specs.Whole.{Whole};
 ghost use Rattle.acts.specs.Acts.{Clear, Ran};
 ghost use Rattle.acts.specs.Exchanges.{Exchanged};
 use super::locking::lock_and_leave;

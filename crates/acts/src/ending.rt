@@ -8,7 +8,7 @@ ghost use Rattle.pages.specs.Rows.{endOf};
 ghost use Rattle.tables.specs.Layout.{deskSize, transactionsMost, queued};
 ghost use Rattle.tables.specs.Moves.{locksReleased, waitsIn, queueLeft, markPut};
 ghost use Rattle.desks.specs.States.{book, stateOf};
-ghost use Rattle.whole.specs.Whole.{Whole};
+ghost use Rattle.desks.specs.Whole.{Whole};
 ghost use Rattle.acts.specs.Acts.{Says};
 use tables::locks;
 use tables::queue;

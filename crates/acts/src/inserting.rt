@@ -10,7 +10,7 @@ ghost use Rattle.entries.specs.Meaning.{bookValue, bookEntry, bookSays};
 ghost use Rattle.tables.specs.Layout.{locksMost, queuedAt};
 ghost use Rattle.tables.specs.Moves.{freeIn};
 ghost use Rattle.index.specs.Pictures.{keyOf, entriesIn, WholePages};
-ghost use Rattle.whole.specs.Whole.{Whole};
+ghost use Rattle.desks.specs.Whole.{Whole};
 ghost use Rattle.acts.specs.Acts.{Clear, Ran};
 ghost use Rattle.acts.specs.Exchanges.{Exchanged};
 use super::locking::lock_and_leave;

@@ -7,7 +7,7 @@ ghost use Rattle.entries.specs.Meaning.{bookSays};
 ghost use Rattle.tables.specs.Layout.{queuedAt};
 ghost use Rattle.index.specs.Searches.{bookFound};
 ghost use Rattle.desks.specs.States.{book};
-ghost use Rattle.whole.specs.Whole.{Whole};
+ghost use Rattle.desks.specs.Whole.{Whole};
 ghost use Rattle.acts.specs.Acts.{Clear, Ran};
 use super::locking::lock_and_leave;
 use entries::Answer;

@@ -1,5 +1,5 @@
 // The run of a request. (Document 01, "Working the queue".)
-ghost use Rattle.whole.specs.Whole.{Whole};
+ghost use Rattle.desks.specs.Whole.{Whole};
 ghost use Rattle.acts.specs.Acts.{Clear, Ran};
 use super::deleting::run_delete;
 use super::inserting::run_insert;

@@ -7,8 +7,8 @@ use mathlib.Core.List.{List}
 use mathlib.Core.Option.{none, some, Option·none-ne-some, Option·some-injective}
 use Rattle.rules.specs.Kinds.{Call}
 use Rattle.entries.specs.Records.{heard}
-use Rattle.whole.specs.Whole.{Whole}
-use Rattle.whole.proofs.Tell.{whole-inj}
+use Rattle.desks.specs.Whole.{Whole}
+use Rattle.desks.proofs.Tell.{whole-inj}
 use Rattle.calls.specs.Promise.{Lent, lent, wrongSizes, returned, Answered, Served, Freshened}
 
 -- ---- what a call comes to, by its cause

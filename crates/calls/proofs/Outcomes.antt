@@ -1,5 +1,6 @@
--- For any bytes there is an outcome that keeps the promise of a call, and so a run of any calls from fresh. A picture that is whole says a
--- drawable state; the rule book's step leaves one; and that one is written as a whole picture. Assumes nothing.
+-- Where it can be told whether the picture is whole, there is an outcome that keeps the promise of a call; and so a run of any calls from
+-- fresh, whose pictures all are. A picture that is whole says a drawable state; the rule book's step leaves one; and that one is written as a
+-- whole picture. Assumes nothing. (That any bytes can be told is the judge's: crate `outcomes`.)
 use Prim.Native.Nat.{ℕ, _+_, _*_}
 use mathlib.Core.Path.{_≡_, refl, sym, subst}
 use mathlib.Core.Logic.{inl, inr}
@@ -21,17 +22,16 @@ use Rattle.entries.proofs.Number12.{RequestFits, heard-legal, heard-fits}
 use Rattle.desks.specs.States.{book, stateOf}
 use Rattle.desks.specs.Fitting.{AskFits}
 use Rattle.desks.proofs.Desks.{bytes-desk}
-use Rattle.whole.specs.Whole.{Whole, Judged}
-use Rattle.whole.specs.Checks.{wholeOk}
-use Rattle.whole.specs.Fresh.{freshPages, freshDesk}
-use Rattle.whole.proofs.Judging.{judged}
-use Rattle.whole.proofs.Fresh.{fresh-picture}
+use Rattle.desks.specs.Whole.{Whole, Judged}
+use Rattle.desks.specs.Fresh.{freshPages, freshDesk}
+use Rattle.desks.proofs.FreshPicture.{fresh-picture}
 use Rattle.pictures.specs.Drawing.{pagesFor, deskFor, Drawable}
 use Rattle.pictures.proofs.Bytes.{whole-pages-bytes}
 use Rattle.pictures.proofs.Pictures.{pictured}
 use Rattle.pictures.proofs.Drawable.{whole-drawable, step-drawable}
 use Rattle.calls.specs.Promise.{Lent, lent, BytesIn, wrongPicture, shortSpace, wrongSizes, returned, stepOf, Served, Outcome}
 use Rattle.calls.specs.Calls.{Sent, Back, Runs, BytesSent, Led}
+use Rattle.calls.proofs.Runs.{serve-back}
 
 -- ---- bytes
 pub whole-bytes : (p d : List ℕ) → Whole p d → Bytes p × Bytes d
@@ -50,6 +50,23 @@ asked-fits r f a e = go a (subst RequestFits e f)
     go (read lo hi) g = (g .0, g .1 .0)
     go (insert k r) g = g
     go (delete k) g = g
+
+-- ---- a judgement of what is lent, where its sizes are right
+pub record Sized (x : Lent) : Type 0 where
+  pub pages : length (x .pages) ≡ 32768
+  pub desk : length (x .desk) ≡ 4672
+
+abbrev pub Judgement : Lent → Type 0
+Judgement x = Sized x → (v : Bool) × Judged (x .pages) (x .desk) v
+
+right-sizes : (x : Lent) → wrongSizes x ≡ false → Sized x
+right-sizes x e =
+    let wrong = neither (wrongPicture (x .pages) (x .desk)) (shortSpace (x .answers)) e .0 in
+    let sizes = neither (not (eqb (length (x .pages)) 32768)) (not (eqb (length (x .desk)) 4672)) wrong in
+    record {
+      pages = eqb-true (length (x .pages)) 32768 (not-false _ (sizes .0));
+      desk = eqb-true (length (x .desk)) 4672 (not-false _ (sizes .1));
+    }
 
 -- ---- one call
 module _ (q : List ℕ) (x : Lent) (heard-bytes : Bytes q) (b : BytesIn x) where
@@ -93,45 +110,39 @@ module _ (q : List ℕ) (x : Lent) (heard-bytes : Bytes q) (b : BytesIn x) where
   by-whole e true j = by-heard e (j .sound refl) (heard q) refl
   by-whole e false j = as-it-was (returned 11 0) (Served.broken e (λ w. true≢false (sym (j .complete w))) refl refl)
 
-  by-sizes : (v : Bool) → wrongSizes x ≡ v → Outcome q x
-  by-sizes true e = as-it-was (returned 10 0) (Served.sizes e refl refl)
-  by-sizes false e =
-      let wrong = neither (wrongPicture (x .pages) (x .desk)) (shortSpace (x .answers)) e .0 in
-      let sizes = neither (not (eqb (length (x .pages)) 32768)) (not (eqb (length (x .desk)) 4672)) wrong in
-      by-whole e (wholeOk (x .pages) (x .desk))
-      (judged (x .pages) (x .desk) (eqb-true (length (x .pages)) 32768 (not-false _ (sizes .0)))
-      (eqb-true (length (x .desk)) 4672 (not-false _ (sizes .1))) (b .pages) (b .desk) (wholeOk (x .pages) (x .desk)) refl)
+  by-sizes : (v : Bool) → wrongSizes x ≡ v → Judgement x → Outcome q x
+  by-sizes true e j = as-it-was (returned 10 0) (Served.sizes e refl refl)
+  by-sizes false e j = let k = j (right-sizes x e) in by-whole e (k .0) (k .1)
 
--- "for any bytes of any length"
-pub some-outcome : (q : List ℕ) (x : Lent) → Bytes q → BytesIn x → Outcome q x
-some-outcome q x f b = by-sizes q x f b (wrongSizes x) refl
+pub judged-outcome : (q : List ℕ) (x : Lent) → Bytes q → BytesIn x → Judgement x → Outcome q x
+judged-outcome q x f b j = by-sizes q x f b (wrongSizes x) refl j
 
 -- ---- a run of calls
+-- a whole picture is told by itself
+whole-outcome : (q : List ℕ) (x : Lent) → Bytes q → BytesIn x → Whole (x .pages) (x .desk) → Outcome q x
+whole-outcome q x f b w = judged-outcome q x f b (λ z. (true, record { sound = λ e. w; complete = λ v. refl }))
+
 record Onward (p d : List ℕ) (as′ : List Sent) : Type 0 where
   backs : List Back
   pages : List ℕ
   desk : List ℕ
   runs : Runs p d as′ backs pages desk
 
-some-runs : (as′ : List Sent) → BytesSent as′ → (p d : List ℕ) → Bytes p → Bytes d → Onward p d as′
-some-runs [] f p d g h = record { backs = []; pages = p; desk = d; runs = Runs.rest }
-some-runs (a ∷ as′) f p d g h =
-    let o = some-outcome (a .request) (lent p d (a .space)) (f .requests a (inl refl))
-    (record { pages = g; desk = h; answers = f .spaces a (inl refl) }) in
-    let n = some-runs as′ (record { requests = λ c i. f .requests c (inr i); spaces = λ c i. f .spaces c (inr i) }) (o .lent .pages) (o .lent .desk)
-    (o .bytes .pages) (o .bytes .desk) in
-    record {
-      backs = record { result = o .result; space = o .lent .answers } ∷ n .backs;
-      pages = n .pages;
-      desk = n .desk;
-      runs = Runs.next (o .served) (n .runs);
-    }
+some-runs : (as′ : List Sent) → BytesSent as′ → (p d : List ℕ) → Whole p d → Onward p d as′
+some-runs [] f p d w = record { backs = []; pages = p; desk = d; runs = Runs.rest }
+some-runs (a ∷ as′) f p d w =
+    let g = whole-bytes p d w in
+    let o = whole-outcome (a .request) (lent p d (a .space)) (f .requests a (inl refl))
+    (record { pages = g .0; desk = g .1; answers = f .spaces a (inl refl) }) w in
+    let b : Back = record { result = o .result; space = o .lent .answers } in
+    let v = serve-back p d (o .lent .pages) (o .lent .desk) a b w (o .served) .1 in
+    let n = some-runs as′ (record { requests = λ c i. f .requests c (inr i); spaces = λ c i. f .spaces c (inr i) }) (o .lent .pages) (o .lent .desk) v in
+    record { backs = b ∷ n .backs; pages = n .pages; desk = n .desk; runs = Runs.next (o .served) (n .runs) }
 
 pub some-run : (as′ : List Sent) → BytesSent as′ → Led as′
 some-run as′ f =
     let w = fresh-picture in
-    let g = whole-bytes freshPages freshDesk (w .0) in
-    let n = some-runs as′ f freshPages freshDesk (g .0) (g .1) in
+    let n = some-runs as′ f freshPages freshDesk (w .0) in
     record {
       backs = n .backs;
       pages = n .pages;

@@ -18,7 +18,7 @@ use Rattle.rules.proofs.Answers.{few-answers}
 use Rattle.entries.specs.Records.{heard}
 use Rattle.entries.proofs.Number12.{heard-legal}
 use Rattle.desks.specs.States.{book, stateOf}
-use Rattle.whole.specs.Whole.{Whole}
+use Rattle.desks.specs.Whole.{Whole}
 use Rattle.calls.specs.Promise.{Lent, lent, Served, Freshened, wrongSizes, shortSpace, returned}
 use Rattle.calls.specs.Calls.{Sent, Back, Runs, FromFresh, callIn, with, callsIn, refuses, backIf, backOf, onward, backsFrom}
 use Rattle.calls.proofs.Determined.{Refused, Granted, served-ten, served-twelve, served-good}

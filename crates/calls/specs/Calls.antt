@@ -15,7 +15,7 @@ use Rattle.rules.specs.Runs.{Answer}
 use Rattle.rules.specs.Desk.{step, fresh}
 use Rattle.entries.specs.Records.{heard, putAnswer, written}
 use Rattle.desks.specs.States.{book, stateOf}
-use Rattle.whole.specs.Whole.{Whole}
+use Rattle.desks.specs.Whole.{Whole}
 use Rattle.calls.specs.Promise.{Served, lent, shortSpace, returned}
 
 -- a call as it is sent: the request, and the space lent for its answers

@@ -14,7 +14,7 @@ use Rattle.rules.specs.Runs.{Worked}
 use Rattle.rules.specs.Desk.{step, fresh}
 use Rattle.entries.specs.Records.{heard, written}
 use Rattle.desks.specs.States.{book, stateOf}
-use Rattle.whole.specs.Whole.{Whole}
+use Rattle.desks.specs.Whole.{Whole}
 
 -- what a call was lent, and what it leaves
 pub record Lent : Type 0 where

@@ -1,5 +1,6 @@
--- The idle desks are shut out: each breaks the promise at some call on a picture that was fresh; and a desk that keeps it there is. What one
--- that keeps it gives back there is the rule book's, by the laws of runs, and that is computed. Assumes nothing.
+-- The idle desks are shut out: each breaks the promise at some call on a picture that was fresh; and a desk that can judge any bytes keeps it
+-- (crate `outcomes` has such a judge). What one that keeps it gives back there is the rule book's, by the laws of runs, and that is computed.
+-- Assumes nothing.
 use Prim.Native.Nat.{ℕ, zero, suc, _<_}
 use mathlib.Core.Path.{_≡_, refl, sym, ap, subst, _∙_}
 use mathlib.Core.Logic.{_⊎_, inl, inr}
@@ -21,9 +22,9 @@ use Rattle.rules.specs.Queue as Q
 use Rattle.rules.specs.Desk as D
 use Rattle.entries.specs.Records as W
 use Rattle.desks.specs.States.{book, stateOf}
-use Rattle.whole.specs.Whole.{Whole}
-use Rattle.whole.specs.Fresh.{freshPages, freshDesk}
-use Rattle.whole.proofs.Fresh.{fresh-picture}
+use Rattle.desks.specs.Whole.{Whole}
+use Rattle.desks.specs.Fresh.{freshPages, freshDesk}
+use Rattle.desks.proofs.FreshPicture.{fresh-picture}
 use Rattle.calls.specs.Promise.{Lent, BytesIn, Served, lent, returned, shortSpace}
 use Rattle.calls.specs.Calls as C
 use Rattle.cases.specs.Overs as O
@@ -31,7 +32,7 @@ use Rattle.cases.specs.Idle as I
 use Rattle.cases.proofs.Computing.{the-book, the-pages, the-records}
 use Rattle.cases.proofs.Sending.{space, sent, sent-bytes}
 use Rattle.calls.proofs.Determined.{served-good}
-use Rattle.calls.proofs.Outcomes.{whole-bytes, some-outcome}
+use Rattle.calls.proofs.Outcomes.{whole-bytes, Judgement, judged-outcome}
 use Rattle.calls.proofs.Runs.{whole-sizes, serve-back, call-legal, after-with}
 
 -- ---- calls to send
@@ -270,23 +271,21 @@ decLent x = go (decBytes (x .pages)) (decBytes (x .desk)) (decBytes (x .answers)
     go (yes p) (no h) o = no (λ b. h (b .desk))
     go (no h) d o = no (λ b. h (b .pages))
 
-abbrev outcome : (q : List ℕ) (x : Lent) → Dec (Bytes q) → Dec (BytesIn x) → I.Left
-outcome q x (yes h) (yes b) = let o = some-outcome q x h b in record { lent = o .lent; result = o .result }
-outcome q x (yes h) (no b) = record { lent = x; result = 0 }
-outcome q x (no h) b = record { lent = x; result = 0 }
+-- a desk that can judge any bytes lent keeps the promise in some way
+module _ (judge : (x : Lent) → BytesIn x → Judgement x) where
+  abbrev outcome : (q : List ℕ) (x : Lent) → Dec (Bytes q) → Dec (BytesIn x) → I.Left
+  outcome q x (yes h) (yes b) = let o = judged-outcome q x h b (judge x b) in record { lent = o .lent; result = o .result }
+  outcome q x (yes h) (no b) = record { lent = x; result = 0 }
+  outcome q x (no h) b = record { lent = x; result = 0 }
 
-outcome-served : (q : List ℕ) (x : Lent) → Bytes q → BytesIn x → (h : Dec (Bytes q)) (b : Dec (BytesIn x))
-    → Served q x (outcome q x h b .lent) (outcome q x h b .result)
-outcome-served q x g c (yes h) (yes b) = some-outcome q x h b .served
-outcome-served q x g c (yes h) (no b) = absurd (b c)
-outcome-served q x g c (no h) b = absurd (h g)
+  outcome-served : (q : List ℕ) (x : Lent) → Bytes q → BytesIn x → (h : Dec (Bytes q)) (b : Dec (BytesIn x))
+      → Served q x (outcome q x h b .lent) (outcome q x h b .result)
+  outcome-served q x g c (yes h) (yes b) = judged-outcome q x h b (judge x b) .served
+  outcome-served q x g c (yes h) (no b) = absurd (b c)
+  outcome-served q x g c (no h) b = absurd (h g)
 
-pub keeps-some : (f : I.Way) × I.Keeps f
-keeps-some = (
-  λ q x. outcome q x (decBytes q) (decLent x),
-  record { each = λ q x. search (outcome-served q x) },
-)
-
--- so it does not shut out every desk
-pub promise-kept : ((f : I.Way) → I.Keeps f → ⊥) → ⊥
-promise-kept h = h (keeps-some .0) (keeps-some .1)
+  pub judge-keeps : (f : I.Way) × I.Keeps f
+  judge-keeps = (
+    λ q x. outcome q x (decBytes q) (decLent x),
+    record { each = λ q x. search (outcome-served q x) },
+  )

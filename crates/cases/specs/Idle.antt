@@ -11,7 +11,7 @@ use Rattle.numbers.specs.Numbers.{Bytes, numberAt}
 use Rattle.rules.specs.Kinds.{Ask, Request, ask, Call}
 use Rattle.entries.specs.Records.{heard}
 use Rattle.tables.specs.Layout.{slotsOf, queueOf}
-use Rattle.whole.specs.Whole.{Whole}
+use Rattle.desks.specs.Whole.{Whole}
 use Rattle.calls.specs.Promise.{Lent, BytesIn, Served, wrongSizes, returned, stepOf}
 
 pub record Left : Type 0 where

@@ -30,7 +30,7 @@ use Rattle.tables.specs.Layout.{transactionsMost, queued, isWaiting}
 use Rattle.tables.specs.Moves.{markPut, queueJoined}
 use Rattle.desks.specs.States.{book, stateOf}
 use Rattle.desks.specs.Fitting.{AskFits}
-use Rattle.whole.specs.Whole.{Whole}
+use Rattle.desks.specs.Whole.{Whole}
 use Rattle.acts.specs.Acts.{Says}
 use Rattle.acts.proofs.Tables.{whole-few}
 use Rattle.acts.proofs.Moves.{is-transaction, begin-says, join-room, join-says}

@@ -17,9 +17,9 @@ use Rattle.index.specs.Changes.{Becomes}
 use Rattle.desks.specs.States.{stateOf}
 use Rattle.desks.proofs.Says.{headFields}
 use Rattle.desks.proofs.Fresh.{fresh-desk}
-use Rattle.whole.specs.Whole.{Whole}
-use Rattle.whole.specs.Fresh.{freshDesk}
-use Rattle.whole.proofs.Fresh.{fresh-whole, fresh-says}
+use Rattle.desks.specs.Whole.{Whole}
+use Rattle.desks.specs.Fresh.{freshDesk}
+use Rattle.desks.proofs.FreshPicture.{fresh-whole, fresh-says}
 use Rattle.calls.specs.Promise.{wrongPicture, returned, Freshened, sizes, made}
 
 set-zero : (s : List ℕ) (i : ℕ) → getD s i 0 ≡ 0 → set s i 0 ≡ s

@@ -16,7 +16,7 @@ use Rattle.tables.specs.Layout.{transactionsMost, isRunning, isWaiting, queueOf
 use Rattle.tables.proofs.Marks.{running-is}
 use Rattle.desks.specs.States.{book, stateOf}
 use Rattle.desks.proofs.Reading.{desk-waiting}
-use Rattle.whole.specs.Whole.{Whole}
+use Rattle.desks.specs.Whole.{Whole}
 use Rattle.acts.proofs.Tables.{whole-fits}
 use Rattle.desk.specs.declared.Refusal.{Refusal}
 use Rattle.desk.specs.Answering.{bookRefusal}

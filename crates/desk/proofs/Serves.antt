@@ -16,7 +16,7 @@ use Rattle.entries.specs.Meaning.{bookCall, bookHeard}
 use Rattle.entries.specs.Records.{heard}
 use Rattle.entries.proofs.Number12.{heard-legal}
 use Rattle.desks.specs.States.{book}
-use Rattle.whole.specs.Whole.{Whole, Judged}
+use Rattle.desks.specs.Whole.{Whole, Judged}
 use Rattle.calls.specs.Promise.{wrongPicture, shortSpace, wrongSizes, returned, Answered, Served, sizes, broken, bad, good, lent}
 
 -- ---- the sizes

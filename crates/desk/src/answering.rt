@@ -9,7 +9,7 @@ ghost use Rattle.entries.specs.Meaning.{bookAsk, bookCall};
 ghost use Rattle.pages.specs.Rows.{endOf};
 ghost use Rattle.tables.specs.Layout.{transactionsMost};
 ghost use Rattle.desks.specs.States.{book, stateOf};
-ghost use Rattle.whole.specs.Whole.{Whole};
+ghost use Rattle.desks.specs.Whole.{Whole};
 ghost use Rattle.calls.specs.Promise.{Answered, lent};
 ghost use Rattle.turns.specs.Working.{Wrote, workedOf};
 ghost use Rattle.desk.specs.Answering.{LastFits, RoomFor, lastOf};

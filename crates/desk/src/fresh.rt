@@ -1,7 +1,7 @@
 // A fresh desk. (Document 01, **Whole**.)
 ghost use mathlib.Core.Path.{_≡_};
 ghost use lib.ListN.{length};
-ghost use Rattle.whole.specs.Fresh.{freshDesk};
+ghost use Rattle.desks.specs.Fresh.{freshDesk};
 
 // Makes any buffer of the right length that of an empty desk: zeros behind its length and its kind.
 pub fn fresh_desk(desk: &mut [u8])

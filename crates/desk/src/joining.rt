@@ -7,7 +7,7 @@ ghost use Rattle.entries.specs.Meaning.{bookAsk};
 ghost use Rattle.tables.specs.Layout.{transactionsMost};
 ghost use Rattle.desks.specs.States.{book, stateOf};
 ghost use Rattle.desks.specs.Fitting.{AskFits};
-ghost use Rattle.whole.specs.Whole.{Whole};
+ghost use Rattle.desks.specs.Whole.{Whole};
 ghost use Rattle.acts.specs.Acts.{Says};
 use entries::Ask;
 use tables::queue;

@@ -6,7 +6,7 @@ ghost use Rattle.rules.specs.Desk.{ifSo, unlessRuns, refusal};
 ghost use Rattle.entries.specs.Meaning.{bookRequest};
 ghost use Rattle.tables.specs.Layout.{transactionsMost};
 ghost use Rattle.desks.specs.States.{book, stateOf};
-ghost use Rattle.whole.specs.Whole.{Whole};
+ghost use Rattle.desks.specs.Whole.{Whole};
 ghost use Rattle.desk.specs.Answering.{bookRefusal};
 use super::Refusal;
 use entries::Request;

@@ -12,3 +12,5 @@ pub mod Ends
 pub mod Fresh
 pub mod Good
 pub mod Itself
+pub mod Tell
+pub mod FreshPicture

@@ -1,2 +1,4 @@
 pub mod States
 pub mod Fitting
+pub mod Whole
+pub mod Fresh

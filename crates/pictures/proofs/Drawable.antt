@@ -28,7 +28,7 @@ use Rattle.index.specs.Pictures.{Item, indexOf, entriesIn}
 use Rattle.desks.specs.States.{book, stateOf}
 use Rattle.desks.specs.Fitting.{AskFits}
 use Rattle.desks.proofs.Itself.{itself-fits}
-use Rattle.whole.specs.Whole.{Whole}
+use Rattle.desks.specs.Whole.{Whole}
 use Rattle.pictures.specs.Drawing.{RecordsFit, Drawable}
 use Rattle.pictures.proofs.Bytes.{whole-entries-fit}
 use Rattle.pictures.proofs.Shown.{shape-whole, shape-flat, Shown, shown-put, shown-changed, shown-settled}

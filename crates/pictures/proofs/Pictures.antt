@@ -37,7 +37,7 @@ use Rattle.desks.specs.Fitting.{AskFits, Fitting}
 use Rattle.desks.proofs.Desks.{desk-says}
 use Rattle.desks.proofs.Itself.{desk-itself, desk-state}
 use Rattle.desks.proofs.Good.{RecordFits, good-fits}
-use Rattle.whole.specs.Whole.{Whole}
+use Rattle.desks.specs.Whole.{Whole}
 use Rattle.pictures.specs.Drawing.{orAbsent, entryOf, indexWith, pagesFor, deskFor, Drawable}
 use Rattle.pictures.proofs.Pages.{drawn-pages}
 

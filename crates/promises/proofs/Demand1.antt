@@ -13,7 +13,7 @@ use Rattle.rules.specs.Kinds.{Call}
 use Rattle.entries.specs.Records.{heard}
 use Rattle.entries.proofs.Written.{length-written, written-rest}
 use Rattle.desks.specs.States.{stateOf}
-use Rattle.whole.specs.Whole.{Whole}
+use Rattle.desks.specs.Whole.{Whole}
 use Rattle.calls.specs.Promise.{Lent, wrongSizes, returned, stepOf, Answered, Served}
 use Rattle.calls.proofs.Determined.{served-ten, served-eleven, served-twelve}
 use Rattle.calls.proofs.Runs.{few-bytes}

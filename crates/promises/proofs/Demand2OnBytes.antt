@@ -20,8 +20,8 @@ use Rattle.index.specs.Pictures.{keyOf, indexOf}
 use Rattle.entries.specs.Records.{heard, written}
 use Rattle.entries.proofs.Number12.{heard-legal}
 use Rattle.desks.specs.States.{book, stateOf}
-use Rattle.whole.specs.Whole.{Whole}
-use Rattle.whole.proofs.Tell.{whole-inj}
+use Rattle.desks.specs.Whole.{Whole}
+use Rattle.desks.proofs.Tell.{whole-inj}
 use Rattle.calls.specs.Promise.{Lent, lent, returned, stepOf}
 use Rattle.calls.proofs.Determined.{served-good}
 use Rattle.promises.specs.Demand2.{Demand2}

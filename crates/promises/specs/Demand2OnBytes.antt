@@ -13,7 +13,7 @@ use Rattle.trees.specs.Growth.{needed}
 use Rattle.index.specs.Pictures.{keyOf, indexOf}
 use Rattle.entries.specs.Records.{heard, written}
 use Rattle.desks.specs.States.{book, stateOf}
-use Rattle.whole.specs.Whole.{Whole}
+use Rattle.desks.specs.Whole.{Whole}
 use Rattle.calls.specs.Promise.{Lent, wrongSizes, returned, Served}
 use Rattle.promises.specs.Demand2.{Demand2}
 

@@ -13,7 +13,7 @@ use Rattle.rules.specs.Chains.{ChainsEnd}
 use Rattle.tables.specs.Layout.{slotsOf}
 use Rattle.index.specs.Pictures.{entriesIn}
 use Rattle.desks.specs.States.{book, stateOf}
-use Rattle.whole.specs.Whole.{Whole}
+use Rattle.desks.specs.Whole.{Whole}
 use Rattle.calls.specs.Promise.{returned}
 use Rattle.calls.specs.Calls.{Sent, Back, Runs, FromFresh, callsIn, backsFrom, wrote, bytesOf}
 use Rattle.promises.specs.Story.{Deed, story, answerOf, Seamless}

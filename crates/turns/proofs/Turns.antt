@@ -25,7 +25,7 @@ use Rattle.tables.specs.Layout.{queued, inPlace, queuedAt, slotsOf, transaction
 use Rattle.tables.specs.Moves.{queueLeft}
 use Rattle.index.specs.Pictures.{entriesIn}
 use Rattle.desks.specs.States.{book, stateOf}
-use Rattle.whole.specs.Whole.{Whole}
+use Rattle.desks.specs.Whole.{Whole}
 use Rattle.waits.specs.declared.Place.{Place}
 use Rattle.waits.specs.declared.Place.the-variants.{At, Nowhere}
 use Rattle.waits.proofs.Known.{asker-high}

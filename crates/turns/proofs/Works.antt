@@ -15,7 +15,7 @@ use Rattle.entries.proofs.Answers.{length-putAnswer}
 use Rattle.tables.specs.Layout.{queued}
 use Rattle.tables.proofs.Queues.{length-queue}
 use Rattle.desks.specs.States.{book, stateOf}
-use Rattle.whole.specs.Whole.{Whole}
+use Rattle.desks.specs.Whole.{Whole}
 use Rattle.turns.specs.declared.Turned.{Turned}
 use Rattle.turns.specs.declared.Turned.the-variants.{Said, Rest}
 use Rattle.turns.specs.Working.{Wrote, workedOf, bookTurn, StillAt, Turns}

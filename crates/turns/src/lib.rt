@@ -6,7 +6,7 @@ ghost use lib.ListN.{length};
 ghost use Rattle.rules.specs.Queue.{oldest};
 ghost use Rattle.tables.specs.Layout.{queued};
 ghost use Rattle.desks.specs.States.{book, stateOf};
-ghost use Rattle.whole.specs.Whole.{Whole};
+ghost use Rattle.desks.specs.Whole.{Whole};
 ghost use Rattle.turns.specs.Working.{GaveWay, Turns, Wrote, workedOf};
 use entries::Answer;
 use entries::Says;

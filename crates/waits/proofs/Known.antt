@@ -23,7 +23,7 @@ use Rattle.tables.specs.Layout.{transactionsMost, locksMost, queued, inPlace, s
 use Rattle.tables.proofs.Order.{InOrder, in-order}
 use Rattle.index.specs.Pictures.{entriesIn}
 use Rattle.desks.specs.States.{book, stateOf}
-use Rattle.whole.specs.Whole.{Whole}
+use Rattle.desks.specs.Whole.{Whole}
 use Rattle.waits.specs.Blocks.{HoldersKnown}
 
 in-use : {K : Type 0} (l : Lock K) (ls : List (Option (Lock K))) → In (some l) ls → In l (inUse ls)

@@ -20,7 +20,7 @@ use Rattle.rules.specs.Good.{otherAsker}
 use Rattle.tables.specs.Layout.{transactionsMost, queued, inPlace, queuedAt, queueOf, slotsOf}
 use Rattle.index.specs.Pictures.{entriesIn}
 use Rattle.desks.specs.States.{book, stateOf}
-use Rattle.whole.specs.Whole.{Whole}
+use Rattle.desks.specs.Whole.{Whole}
 use Rattle.circles.specs.Sets.{SetOf, RowOf}
 use Rattle.circles.specs.Search.{circleOn}
 use Rattle.circles.proofs.Known.{waits-known}

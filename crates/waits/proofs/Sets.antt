@@ -23,7 +23,7 @@ use Rattle.tables.specs.Moves.{isSlotAgainst, heldIn}
 use Rattle.tables.proofs.Holders as H
 use Rattle.index.specs.Pictures.{entriesIn}
 use Rattle.desks.specs.States.{book}
-use Rattle.whole.specs.Whole.{Whole}
+use Rattle.desks.specs.Whole.{Whole}
 use Rattle.circles.specs.Sets.{has, SetOf}
 use Rattle.circles.specs.Search.{withOne}
 use Rattle.circles.proofs.Bits.{has-union}

@@ -3,7 +3,7 @@ ghost use mathlib.Core.Path.{_≡_};
 ghost use Prim.Native.Nat.{_<_, _≤_};
 ghost use Rattle.tables.specs.Layout.{deskSize, locksMost, queued, queuedAt, slotAt};
 ghost use Rattle.tables.specs.Moves.{isSlotAgainst};
-ghost use Rattle.whole.specs.Whole.{Whole};
+ghost use Rattle.desks.specs.Whole.{Whole};
 ghost use Rattle.waits.specs.Choices.{bookWant, OldestAt};
 ghost use Rattle.waits.specs.Blocks.{isRival, isBehind};
 use super::Place;

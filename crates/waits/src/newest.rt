@@ -5,7 +5,7 @@ ghost use Rattle.rules.specs.Locks.{holders, earlier};
 ghost use Rattle.tables.specs.Layout.{deskSize, locksMost, queued, queuedAt, slotAt, slotsOf};
 ghost use Rattle.index.specs.Pictures.{entriesIn};
 ghost use Rattle.desks.specs.States.{book};
-ghost use Rattle.whole.specs.Whole.{Whole};
+ghost use Rattle.desks.specs.Whole.{Whole};
 ghost use Rattle.circles.specs.Sets.{SetOf};
 ghost use Rattle.waits.specs.Choices.{bookWant, NewestAt};
 ghost use Rattle.waits.specs.Blocks.{ahead, blockersAt, HoldersKnown, holderOf, withHolder, withRival, Rows};

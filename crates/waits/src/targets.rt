@@ -11,7 +11,7 @@ ghost use Rattle.tables.specs.Layout.{queued, queuedAt, nameNumber, bookMode};
 ghost use Rattle.index.specs.Pictures.{entriesIn, WholePages};
 ghost use Rattle.index.specs.Searches.{bookFound};
 ghost use Rattle.desks.specs.States.{book};
-ghost use Rattle.whole.specs.Whole.{Whole};
+ghost use Rattle.desks.specs.Whole.{Whole};
 ghost use Rattle.waits.specs.Choices.{bookWant};
 use super::Want;
 use entries::Ask;

@@ -35,7 +35,7 @@ use Rattle.whole_pages.proofs.Leaves.{is-under}
 use Rattle.whole_pages.proofs.Pages.{PagesFacts, pages-sound, pages-complete}
 use Rattle.desks.specs.States.{book, stateOf, deskWith}
 use Rattle.desks.proofs.Itself.{itself-fits}
-use Rattle.whole.specs.Whole.{Whole, Judged}
+use Rattle.desks.specs.Whole.{Whole, Judged}
 use Rattle.whole.specs.Checks.{slotTogether, slotHolds, entryHeld, hasKey, ownersAt, named, slotNamed, locksOk, wholeOk}
 use Rattle.whole.proofs.Flats.{find-is, owners-is}
 use Rattle.whole_desk.specs.Checks.{deskOk}

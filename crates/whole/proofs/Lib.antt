@@ -6,5 +6,3 @@ pub mod Walks
 pub mod Passing
 pub mod Verdicts
 pub mod Judging
-pub mod Tell
-pub mod Fresh

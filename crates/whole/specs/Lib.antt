@@ -1,4 +1,2 @@
-pub mod Whole
-pub mod Fresh
 pub mod Checks
 pub mod Orders

@@ -6,7 +6,7 @@ ghost use mathlib.Core.Path.{_≡_};
 ghost use Prim.Native.Nat.{_<_};
 ghost use lib.ListN.{length};
 ghost use Rattle.numbers.specs.Numbers.{Bytes};
-ghost use Rattle.whole.specs.Whole.{Judged};
+ghost use Rattle.desks.specs.Whole.{Judged};
 ghost use Rattle.whole.specs.Checks.{wholeOk};
 
 // To which place in the order of the locks the walk over the entries has come, or that it cannot go on.

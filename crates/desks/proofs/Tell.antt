@@ -7,8 +7,8 @@ use Rattle.trees.proofs.Refill.{refill-index}
 use Rattle.index.specs.Pictures.{keyOf, indexOf, entriesIn}
 use Rattle.index.proofs.Same.{pages-inj}
 use Rattle.tables.specs.Layout.{slotsOf, queueOf, marksOf}
 use Rattle.desks.specs.States.{stateOf}
-use Rattle.whole.specs.Whole.{Whole}
+use Rattle.desks.specs.Whole.{Whole}
 
 pub desk-inj : (p d q e : List ℕ) → Whole p d → Whole q e → stateOf p d ≡ stateOf q e → d ≡ e
 unfolding stateOf

@@ -29,12 +29,12 @@ use Rattle.index.proofs.Heads.{length-head}
 use Rattle.index.proofs.Roots.{blank-none}
 use Rattle.index.proofs.Adds.{becomes}
 use Rattle.lists.proofs.Places.{getD-alike}
 use Rattle.desks.specs.States.{book, stateOf, deskWith}
 use Rattle.desks.proofs.Desks.{desk-says}
 use Rattle.desks.proofs.Itself.{desk-itself, desk-state}
 use Rattle.desks.proofs.Fresh.{free, quiet, fresh-fits}
-use Rattle.whole.specs.Whole.{Whole}
-use Rattle.whole.specs.Fresh.{freshPages, freshDesk}
+use Rattle.desks.specs.Whole.{Whole}
+use Rattle.desks.specs.Fresh.{freshPages, freshDesk}
 
 -- ---- any pages of the bare index
 module _ (p : List ℕ) (b : Becomes p bare) where
