@@ -7,10 +7,16 @@ use Rattle.rules.specs.Kinds.{Queued}
 use Rattle.rules.specs.Locks as K
 use Rattle.rules.specs.Queue.{Wait, oldest, newest}
 use Rattle.tables.specs.Layout.{queued, queuedAt, nameIn, bookMode}
+use Rattle.tables.specs.Moves.{heldIn, freeIn}
+use Rattle.index.specs.Pictures.{entriesIn}
+use Rattle.index.specs.Searches.{bookFound}
 use Rattle.desks.specs.States.{book, stateOf}
 use Rattle.waits.specs.declared.Want.{Want}
 use Rattle.waits.specs.declared.Place.{Place}
 use Rattle.waits.specs.declared.Place.the-variants.{At, Nowhere}
+use Rattle.waits.specs.declared.Next.{Next}
+use Rattle.waits.specs.declared.Turn.{Turn}
+use Rattle.waits.specs.declared.Turn.the-variants.{Runs, Nobody}
 
 -- what the code's want means
 abbrev pub bookWant : Want → K.Want book
@@ -40,3 +46,23 @@ OldestAt p d r = Chosen d (oldest book (stateOf p d)) r
 
 abbrev pub NewestAt : List ℕ → List ℕ → Place → Type 0
 NewestAt p d r = Chosen d (newest book (stateOf p d)) r
+
+-- what is known of the request that runs next: its target, and the slots that its lock may take
+pub record Known (p d : List ℕ) (x : Next) : Type 0 where
+  pub inside : x .place < queued d
+  pub target : bookFound (x .target) ≡ K.target book (entriesIn p) (queuedAt d (x .place) .asker) (queuedAt d (x .place) .asks)
+  pub own : x .own ≡ heldIn d (queuedAt d (x .place) .asker) (K.named book (bookFound (x .target)))
+  pub free : x .free ≡ freeIn d
+
+abbrev pub placeIn : Turn → Place
+placeIn (Runs x) = At (x .place)
+placeIn Nobody = Nowhere
+
+abbrev pub KnownIn : List ℕ → List ℕ → Turn → Type 0
+KnownIn p d (Runs x) = Known p d x
+KnownIn p d Nobody = Unit {0}
+
+-- "the oldest such", with what is known of it
+pub record OldestIs (p d : List ℕ) (r : Turn) : Type 0 where
+  pub chosen : OldestAt p d (placeIn r)
+  pub known : KnownIn p d r
