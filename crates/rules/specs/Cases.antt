@@ -8,6 +8,7 @@ use mathlib.Core.Path.{_≡_}
 use mathlib.Core.List.{List, [], _∷_, _++_, map}
 use mathlib.Core.Option.{Option, none, some}
 use lib.ListN.{length}
+use Rattle.limits.specs.Limits.{locksMost}
 use Rattle.rules.specs.Kinds.{Paging, Entry, Mode, S, X, Name, on, end, Lock, read, insert, delete, Request, begin, commit, rollback, ask, Call, Queued, State}
 use Rattle.rules.specs.Locks.{inUse, wanted}
 use Rattle.rules.specs.Runs.{Says, done, found, nothing, waiting, runsAlready, runsNot, waitsAlready, isPresent, locksShort, pagesShort, circle, Answer}
@@ -477,7 +478,7 @@ module _ (P : Paging ℕ) where
       record { answers = session book (fresh book) calls; scene = sceneOf (after book (fresh book) calls) }
 
   abbrev pub played : Case → Outcome
-  played c = playedWith 256 c
+  played c = playedWith locksMost c
 
 unfoldable pub stated : Case → Outcome
 stated c = record { answers = map (λ (o : Over). o .answered) (c .overs); scene = c .scene }

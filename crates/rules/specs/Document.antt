@@ -1,9 +1,10 @@
--- The rule book of document 01: keys of 64 bits below the end, records of 32 bits as numbers, 16 transactions, 256 locks.
+-- The rule book of document 01: keys of 64 bits below the end, records of 32 bits as numbers, its transactions and its locks.
 -- Assumes nothing.
 use Prim.Native.Nat.{ℕ, suc, _-_, compare}
 use mathlib.Core.Bool.{true}
 use lib.Dec.{ltb}
 use lib.ListN.{length}
+use Rattle.limits.specs.Limits.{transactionsMost, locksMost}
 use Rattle.rules.specs.Kinds.{Book, Paging}
 
 -- "2^64-1 names the end of the index and is never a key"
@@ -18,13 +19,13 @@ limited slots pages =
       Rec = ℕ;
       compare = compare;
       legal = λ k. ltb k endMark;
-      transactions = 16;
+      transactions = transactionsMost;
       locks = slots;
       paging = pages;
     }
 
 abbrev pub document : Paging ℕ → Book
-document pages = limited 256 pages
+document pages = limited locksMost pages
 
 -- Pages that never run short, for what is said of locks and waits alone.
 abbrev pub endless : {K : Type 0} → Paging K

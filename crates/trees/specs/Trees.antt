@@ -8,10 +8,11 @@ use mathlib.Core.List.{List, [], _∷_}
 use mathlib.Core.Option.{Option, none, some}
 use lib.Dec.{isLe, isEq, leb, eqb}
 use lib.ListN.{length}
+use Rattle.limits.specs.Limits as L
 use Rattle.lists.specs.Lists.{all, pairs, join}
 
--- "Leaf: up to 24 entries"; "A full leaf with one more (25): the lowest 13 stay"; "Inner: up to 30 children"; "Inner (31): 16 stay";
--- "64 pages". `fewest` is what an inner page other than the root has at least: 15.
+-- How much a leaf and an inner page hold, and how much of one more stays when it is divided; how few children an inner page other than the
+-- root has; how many pages there are.
 pub record Sizes : Type 0 where
   pub leafMost : ℕ
   pub leafStay : ℕ
@@ -21,7 +22,15 @@ pub record Sizes : Type 0 where
   pub pages : ℕ
 
 abbrev pub documentSizes : Sizes
-documentSizes = record { leafMost = 24; leafStay = 13; innerMost = 30; innerStay = 16; fewest = 15; pages = 64 }
+documentSizes =
+    record {
+      leafMost = L.leafMost;
+      leafStay = L.leafStay;
+      innerMost = L.innerMost;
+      innerStay = L.innerStay;
+      fewest = L.innerFewest;
+      pages = L.pagesMost;
+    }
 
 -- a page by its number, with what it holds: entries, or children
 pub record Page (C : Type 0) : Type 0 where
