@@ -10,6 +10,7 @@ use mathlib.Core.Option.{Option, none, some}
 use borrow.Author.Tests.{eqb-true, not-false}
 use lib.Dec.{eqb}
 use lib.ListN.{length}
+use Rattle.limits.specs.Limits.{pagesSize, deskSize, answerSize}
 use Rattle.lists.proofs.Tests.{and-left, and-right, neither}
 use Rattle.numbers.specs.Numbers.{Bytes}
 use Rattle.numbers.proofs.Kept.{bytes-putFields}
@@ -40,7 +41,7 @@ whole-bytes p d w = (whole-pages-bytes p (w .pages), subst Bytes (sym (w .desk))
 answers-bytes : (s : List ℕ) (at : ℕ) (xs : List (Answer ℕ ℕ)) → Bytes s → Bytes (written s at xs)
 unfolding written putAnswer
 answers-bytes s at [] f = f
-answers-bytes s at (x ∷ xs) f = answers-bytes (putAnswer s at x) (at + 20) xs (bytes-putFields answerWidths s at (answerFields x) f)
+answers-bytes s at (x ∷ xs) f = answers-bytes (putAnswer s at x) (at + answerSize) xs (bytes-putFields answerWidths s at (answerFields x) f)
 
 -- ---- what is heard fits
 asked-fits : (r : Request ℕ ℕ) → RequestFits r → (a : Ask ℕ ℕ) → r ≡ ask a → AskFits a
@@ -53,8 +54,8 @@ asked-fits r f a e = go a (subst RequestFits e f)
 
 -- ---- a judgement of what is lent, where its sizes are right
 pub record Sized (x : Lent) : Type 0 where
-  pub pages : length (x .pages) ≡ 32768
-  pub desk : length (x .desk) ≡ 4672
+  pub pages : length (x .pages) ≡ pagesSize
+  pub desk : length (x .desk) ≡ deskSize
 
 abbrev pub Judgement : Lent → Type 0
 Judgement x = Sized x → (v : Bool) × Judged (x .pages) (x .desk) v
@@ -62,10 +63,10 @@ Judgement x = Sized x → (v : Bool) × Judged (x .pages) (x .desk) v
 right-sizes : (x : Lent) → wrongSizes x ≡ false → Sized x
 right-sizes x e =
     let wrong = neither (wrongPicture (x .pages) (x .desk)) (shortSpace (x .answers)) e .0 in
-    let sizes = neither (not (eqb (length (x .pages)) 32768)) (not (eqb (length (x .desk)) 4672)) wrong in
+    let sizes = neither (not (eqb (length (x .pages)) pagesSize)) (not (eqb (length (x .desk)) deskSize)) wrong in
     record {
-      pages = eqb-true (length (x .pages)) 32768 (not-false _ (sizes .0));
-      desk = eqb-true (length (x .desk)) 4672 (not-false _ (sizes .1));
+      pages = eqb-true (length (x .pages)) pagesSize (not-false _ (sizes .0));
+      desk = eqb-true (length (x .desk)) deskSize (not-false _ (sizes .1));
     }
 
 -- ---- one call
@@ -77,9 +78,9 @@ module _ (q : List ℕ) (x : Lent) (heard-bytes : Bytes q) (b : BytesIn x) where
   answered e w c k =
       record {
         lent = y;
-        result = returned 0 (20 * length (stepOf c x .answers));
+        result = returned 0 (answerSize * length (stepOf c x .answers));
         served =
-            Served.good c (20 * length (stepOf c x .answers)) e w k
+            Served.good c (answerSize * length (stepOf c x .answers)) e w k
             (record { whole = drawn .0; state = drawn .1; answers = refl; bytes = refl }) refl;
         bytes =
             let f = whole-bytes (y .pages) (y .desk) (drawn .0) in

@@ -8,6 +8,7 @@ use mathlib.Core.List.{List, _∷_}
 use mathlib.Core.Option.{Option, none, some, Option·none-ne-some}
 use native.Mathlib.Omega.{arith}
 use lib.ListN.{length}
+use Rattle.limits.specs.Limits.{transactionsMost, answerSize, spaceLeast}
 use Rattle.lists.specs.Lists.{In}
 use Rattle.lists.proofs.Tests.{and-left}
 use Rattle.rules.specs.Kinds.{Call}
@@ -115,9 +116,9 @@ run-from-fresh {as′ = as′} f =
 
 -- ---- what comes back is never 11
 -- "A call writes at most 16 answers": so the number of their bytes is never taken for another number
-pub few-bytes : (s : St book) → Good book s → (q : List ℕ) (c : Call ℕ ℕ) → heard q ≡ some c → 20 * length (step book s (c .asker) (c .request) .answers) ≤ 320
+pub few-bytes : (s : St book) → Good book s → (q : List ℕ) (c : Call ℕ ℕ) → heard q ≡ some c → answerSize * length (step book s (c .asker) (c .request) .answers) ≤ spaceLeast
 few-bytes s g q c h =
-    let n : length (step book s (c .asker) (c .request) .answers) ≤ 16 =
+    let n : length (step book s (c .asker) (c .request) .answers) ≤ transactionsMost =
     few-answers book s g (c .asker) (and-left _ _ (heard-legal (book .paging) q c h)) (c .request) in omega arith
 
 back-eleven : (s : St book) → Good book s → (a : Sent) → backOf s a .result ≡ returned 11 0 → ⊥

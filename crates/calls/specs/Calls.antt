@@ -7,6 +7,7 @@ use mathlib.Core.List.{List, [], _∷_}
 use mathlib.Core.Option.{Option, none, some}
 use lib.Dec.{ltb}
 use lib.ListN.{length, take, replicate}
+use Rattle.limits.specs.Limits.{answerSize}
 use Rattle.lists.specs.Lists.{In}
 use Rattle.numbers.specs.Numbers.{Bytes}
 use Rattle.rules.specs.Kinds.{Call}
@@ -69,7 +70,7 @@ callsIn (a ∷ as′) = with (callIn a) (callsIn as′)
 
 -- what comes back of answers given, and of a refusal
 abbrev pub gives : List ℕ → List (Answer ℕ ℕ) → Back
-gives o xs = record { result = returned 0 (20 * length xs); space = written o 0 xs }
+gives o xs = record { result = returned 0 (answerSize * length xs); space = written o 0 xs }
 
 abbrev pub refuses : List ℕ → ℕ → Back
 refuses o number = record { result = returned number 0; space = o }
@@ -94,4 +95,4 @@ abbrev pub wrote : Back → List ℕ
 wrote b = cond (ltb (b .result) 4294967296) (take (b .result) (b .space)) []
 
 abbrev pub bytesOf : Answer ℕ ℕ → List ℕ
-bytesOf a = putAnswer (replicate 20 0) 0 a
+bytesOf a = putAnswer (replicate answerSize 0) 0 a

@@ -8,6 +8,7 @@ use mathlib.Core.List.{List}
 use mathlib.Core.Option.{none, some}
 use lib.Dec.{eqb, ltb}
 use lib.ListN.{length}
+use Rattle.limits.specs.Limits.{pagesSize, deskSize, answerSize, spaceLeast}
 use Rattle.numbers.specs.Numbers.{Bytes}
 use Rattle.rules.specs.Kinds.{Call}
 use Rattle.rules.specs.Runs.{Worked}
@@ -33,10 +34,10 @@ pub record BytesIn (x : Lent) : Type 0 where
 
 -- "10: pages not 32,768 bytes, desk not 4,672, or answers under 320"
 abbrev pub wrongPicture : List ℕ → List ℕ → Bool
-wrongPicture p d = not (eqb (length p) 32768) || not (eqb (length d) 4672)
+wrongPicture p d = not (eqb (length p) pagesSize) || not (eqb (length d) deskSize)
 
 abbrev pub shortSpace : List ℕ → Bool
-shortSpace o = ltb (length o) 320
+shortSpace o = ltb (length o) spaceLeast
 
 abbrev pub wrongSizes : Lent → Bool
 wrongSizes x = wrongPicture (x .pages) (x .desk) || shortSpace (x .answers)
@@ -54,7 +55,7 @@ pub record Answered (c : Call ℕ ℕ) (x y : Lent) (n : ℕ) : Type 0 where
   pub whole : Whole (y .pages) (y .desk)
   pub state : stateOf (y .pages) (y .desk) ≡ stepOf c x .state
   pub answers : y .answers ≡ written (x .answers) 0 (stepOf c x .answers)
-  pub bytes : n ≡ 20 * length (stepOf c x .answers)
+  pub bytes : n ≡ answerSize * length (stepOf c x .answers)
 
 -- the call: "Checks go in the order 10, 11, 12"
 pub data Served (q : List ℕ) (x y : Lent) (r : ℕ) : Type 0 where

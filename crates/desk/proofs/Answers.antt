@@ -9,6 +9,7 @@ use native.Mathlib.Omega.{arith}
 use borrow.Author.Tests.{eqb-true, not-true, not-false, leb-true}
 use lib.Dec.{eqb, leb}
 use lib.ListN.{length, length-append}
+use Rattle.limits.specs.Limits.{transactionsMost, answerSize, spaceLeast}
 use Rattle.lists.proofs.Tests.{and-left, and-right, fails}
 use Rattle.lists.proofs.Elements.{any-in, keep-in}
 use Rattle.rules.specs.Queue.{St, leave}
@@ -26,7 +27,7 @@ use Rattle.entries.specs.Records.{putAnswer, written}
 use Rattle.entries.proofs.Answers.{length-putAnswer}
 use Rattle.entries.proofs.Written.{written-append, length-written}
 use Rattle.pages.specs.Rows.{endOf}
-use Rattle.tables.specs.Layout.{transactionsMost, queued, isWaiting}
+use Rattle.tables.specs.Layout.{queued, isWaiting}
 use Rattle.tables.specs.Moves.{markPut, queueJoined}
 use Rattle.desks.specs.States.{book, stateOf}
 use Rattle.desks.specs.Fitting.{AskFits}
@@ -43,17 +44,17 @@ use Rattle.desk.proofs.Refusals.{waits-is}
 
 -- ---- done first, and then the queue
 module _ (p d o : List ℕ) (t : ℕ) (o₁ : List ℕ) (e : o₁ ≡ putAnswer o 0 (says book t done)) where
-  pub done-room : Whole p d → 320 ≤ length o → 1 ≤ t → t ≤ transactionsMost → waitsNow book (stateOf p d) t ≡ false
-      → 20 + 20 * queued d ≤ length o₁
+  pub done-room : Whole p d → spaceLeast ≤ length o → 1 ≤ t → t ≤ transactionsMost → waitsNow book (stateOf p d) t ≡ false
+      → answerSize + answerSize * queued d ≤ length o₁
   done-room w h low high new =
       omega (arith, join-room p d w t low high new, ap length e ∙ length-putAnswer o 0 (says book t done))
 
-  pub done-wrote : (p′ d′ o′ : List ℕ) (r : ℕ) → Wrote o₁ 20 (workedOf p d) p′ d′ o′ r → Wrote o 0 (afterDone book t (workedOf p d)) p′ d′ o′ r
+  pub done-wrote : (p′ d′ o′ : List ℕ) (r : ℕ) → Wrote o₁ answerSize (workedOf p d) p′ d′ o′ r → Wrote o 0 (afterDone book t (workedOf p d)) p′ d′ o′ r
   unfolding written
   done-wrote p′ d′ o′ r h =
       record {
         says = h .says;
-        answers = h .answers ∙ ap (λ x. written x 20 (workedOf p d .answers)) e;
+        answers = h .answers ∙ ap (λ x. written x answerSize (workedOf p d .answers)) e;
         ends = let m = h .ends in omega arith;
       }
 
@@ -114,18 +115,18 @@ module _ (p d : List ℕ) (w : Whole p d) (t : ℕ) (low : 1 ≤ t) (high : t �
       (record { says = record { whole = w; state = refl }; answers = refl; ends = omega arith })
 
   module _ (h : not b ≡ false) where
-    pub last-room : LastFits p d t end o → end + 20 ≤ length o
+    pub last-room : LastFits p d t end o → end + answerSize ≤ length o
     last-room f = let r = f .room in omega (arith, ap (λ (x : Worked book). length (x .answers)) (last-is true (not-false b h)))
 
-    pub last-said : (o′ : List ℕ) → o′ ≡ putAnswer o end (says book t waiting) → Wrote o end (lastOf p d t) p d o′ (end + 20)
+    pub last-said : (o′ : List ℕ) → o′ ≡ putAnswer o end (says book t waiting) → Wrote o end (lastOf p d t) p d o′ (end + answerSize)
     unfolding written
     last-said o′ k =
-        subst (λ x. Wrote o end x p d o′ (end + 20)) (sym (last-is true (not-false b h)))
+        subst (λ x. Wrote o end x p d o′ (end + answerSize)) (sym (last-is true (not-false b h)))
         (record { says = record { whole = w; state = refl }; answers = k; ends = omega arith })
 
 -- ---- the queue worked, and what is said last of where it came to rest
 module _ (p d : List ℕ) (t : ℕ) (o : List ℕ) where
-  pub work-room : RoomFor p d t o → 0 + 20 * queued d ≤ length o
+  pub work-room : RoomFor p d t o → 0 + answerSize * queued d ≤ length o
   work-room r = let q = r .queue in omega arith
 
   module _ (p₂ d₂ o₂ : List ℕ) (end : ℕ) (wrote : Wrote o 0 (workedOf p d) p₂ d₂ o₂ end) where
@@ -162,7 +163,7 @@ module _ (p d : List ℕ) (t : ℕ) (o : List ℕ) where
 -- ---- with t's request in the queue: no more than sixteen are answered
 module _ (p d : List ℕ) (t : ℕ) (a : Ask) (d₁ : List ℕ) (is : Says p d₁ (joined book (stateOf p d) t (bookAsk a))) where
   pub joined-room : Whole p d → 1 ≤ t → t ≤ transactionsMost → runs book (stateOf p d) t ≡ true → waitsNow book (stateOf p d) t ≡ false
-      → (o : List ℕ) → 320 ≤ length o → RoomFor p d₁ t o
+      → (o : List ℕ) → spaceLeast ≤ length o → RoomFor p d₁ t o
   unfolding step acts refusal
   joined-room w low high goes new o h =
       let s = stateOf p d in
@@ -205,7 +206,7 @@ module _ (p d o : List ℕ) (call : Call) (x : Refusal) (r : bookRefusal x ≡ r
 
   module _ (w : Whole p d) where
     pub refused-answered : (m : D.Says) → x ≡ By m → (o′ : List ℕ) → o′ ≡ putAnswer o 0 (bookAnswer (record { asker = call .asker; says = m }))
-        → Answered (bookCall call) (lent p d o) (lent p d o′) 20
+        → Answered (bookCall call) (lent p d o) (lent p d o′) answerSize
     unfolding step written
     refused-answered m e o′ k =
         let is : step book s t (bookRequest (call .request)) ≡ record { state = s; answers = says book t (bookSays m) ∷ [] } =
@@ -214,7 +215,7 @@ module _ (p d o : List ℕ) (call : Call) (x : Refusal) (r : bookRefusal x ≡ r
           whole = w;
           state = ap (λ (y : Worked book). y .state) (sym is);
           answers = k ∙ ap (λ (y : Worked book). written o 0 (y .answers)) (sym is);
-          bytes = ap (λ (y : Worked book). 20 * length (y .answers)) (sym is);
+          bytes = ap (λ (y : Worked book). answerSize * length (y .answers)) (sym is);
         }
 
   module _ (e : x ≡ Nothing) where

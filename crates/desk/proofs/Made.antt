@@ -8,6 +8,7 @@ use native.Mathlib.Nat.{zero-add}
 use native.Mathlib.Omega.{arith}
 use native.Mathlib.Decide.{decLt}
 use lib.ListN.{length, getD, set, List·getD-eq-default}
+use Rattle.limits.specs.Limits.{deskSize}
 use Rattle.numbers.specs.Numbers.{putNumber, putFields, zeroed}
 use Rattle.numbers.proofs.Numbers.{getD-putNumber-out}
 use Rattle.numbers.proofs.Moves.{length-zeroed, getD-zeroed-in}
@@ -34,26 +35,26 @@ put-zero (suc w) s at h =
     ap (λ x. putNumber w x (at + 1) 0) (set-zero s at (h at (omega arith))) ∙ put-zero w s (at + 1) (λ k l. h k (omega arith))
 
 -- ---- the desk
-module _ (d : List ℕ) (size : length d ≡ 4672) where
+module _ (d : List ℕ) (size : length d ≡ deskSize) where
   abbrev z : List ℕ
-  z = zeroed 4672 0 d
+  z = zeroed deskSize 0 d
 
-  long : length z ≡ 4672
-  long = length-zeroed 4672 0 d (omega arith) ∙ size
+  long : length z ≡ deskSize
+  long = length-zeroed deskSize 0 d (omega arith) ∙ size
 
   zeros : (k : ℕ) → getD z k 0 ≡ 0
-  zeros k = go (decLt k 4672)
+  zeros k = go (decLt k deskSize)
     where
-      go : Dec (k < 4672) → getD z k 0 ≡ 0
-      go (yes l) = subst (λ i. getD z i 0 ≡ 0) (zero-add k) (getD-zeroed-in 4672 0 d (omega arith) k l)
+      go : Dec (k < deskSize) → getD z k 0 ≡ 0
+      go (yes l) = subst (λ i. getD z i 0 ≡ 0) (zero-add k) (getD-zeroed-in deskSize 0 d (omega arith) k l)
       go (no l) = List·getD-eq-default z 0 {n = k} (omega (arith, long))
 
   abbrev headed : List ℕ
-  headed = putNumber 2 (putNumber 2 z 0 4672) 2 8
+  headed = putNumber 2 (putNumber 2 z 0 deskSize) 2 8
 
   behind : (k : ℕ) → 4 ≤ k → getD headed k 0 ≡ 0
   behind k h =
-      getD-putNumber-out 2 (putNumber 2 z 0 4672) 2 8 k (omega arith) ∙ getD-putNumber-out 2 z 0 4672 k (omega arith) ∙ zeros k
+      getD-putNumber-out 2 (putNumber 2 z 0 deskSize) 2 8 k (omega arith) ∙ getD-putNumber-out 2 z 0 deskSize k (omega arith) ∙ zeros k
 
   headed-fields : headed ≡ putFields headWidths z 0 (headFields 0)
   unfolding putFields
@@ -64,10 +65,10 @@ module _ (d : List ℕ) (size : length d ≡ 4672) where
       ∙ ap (λ x. putNumber 8 x 24 0) (put-zero 8 headed 16 (λ k l. behind k (omega arith)))
       ∙ put-zero 8 headed 24 (λ k l. behind k (omega arith)))
 
-  pub desk-fresh : (d₁ d₂ d₃ : List ℕ) → d₁ ≡ zeroed 4672 0 d → d₂ ≡ putNumber 2 d₁ 0 4672 → d₃ ≡ putNumber 2 d₂ 2 8 → d₃ ≡ freshDesk
+  pub desk-fresh : (d₁ d₂ d₃ : List ℕ) → d₁ ≡ zeroed deskSize 0 d → d₂ ≡ putNumber 2 d₁ 0 deskSize → d₃ ≡ putNumber 2 d₂ 2 8 → d₃ ≡ freshDesk
   unfolding freshDesk
   desk-fresh d₁ d₂ d₃ a b c =
-      c ∙ ap (λ x. putNumber 2 x 2 8) b ∙ ap (λ x. putNumber 2 (putNumber 2 x 0 4672) 2 8) a ∙ headed-fields ∙ fresh-desk z long zeros
+      c ∙ ap (λ x. putNumber 2 x 2 8) b ∙ ap (λ x. putNumber 2 (putNumber 2 x 0 deskSize) 2 8) a ∙ headed-fields ∙ fresh-desk z long zeros
 
 -- ---- the picture
 pub freshened-sizes : (p d : List ℕ) → wrongPicture p d ≡ true → Freshened p d p d (returned 10 0)

@@ -6,13 +6,14 @@ use mathlib.Core.Bool.{Bool, true, false, not}
 use mathlib.Core.List.{List}
 use mathlib.Core.Option.{none, some}
 use borrow.Author.Tests.{not-true, not-false}
+use Rattle.limits.specs.Limits.{transactionsMost}
 use Rattle.rules.specs.Runs.{runsAlready, runsNot, waitsAlready}
 use Rattle.rules.specs.Desk.{runs, waitsNow, ifSo, unlessRuns, refusal}
 use Rattle.entries.specs.declared.Ask.{Ask}
 use Rattle.entries.specs.declared.Request.{Request}
 use Rattle.entries.specs.declared.Request.the-variants.{Begin, Commit, Rollback, Asks}
 use Rattle.entries.specs.Meaning.{bookRequest}
-use Rattle.tables.specs.Layout.{transactionsMost, isRunning, isWaiting, queueOf, slotsOf, marksOf}
+use Rattle.tables.specs.Layout.{isRunning, isWaiting, queueOf, slotsOf, marksOf}
 use Rattle.tables.proofs.Marks.{running-is}
 use Rattle.desks.specs.States.{book, stateOf}
 use Rattle.desks.proofs.Reading.{desk-waiting}

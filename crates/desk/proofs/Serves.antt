@@ -7,6 +7,7 @@ use native.Mathlib.Omega.{arith}
 use borrow.Author.Tests.{eqb-true, not-true, not-false, ltb-false}
 use lib.Dec.{eqb}
 use lib.ListN.{length}
+use Rattle.limits.specs.Limits.{pagesSize, deskSize, spaceLeast}
 use Rattle.lists.proofs.Tests.{neither}
 use Rattle.rules.specs.Desk.{legalCall}
 use Rattle.entries.specs.declared.Call.{Call}
@@ -21,12 +22,12 @@ use Rattle.calls.specs.Promise.{wrongPicture, shortSpace, wrongSizes, returned,
 
 -- ---- the sizes
 module _ (p d : List ℕ) (h : wrongPicture p d ≡ false) where
-  pub right-pages : length p ≡ 32768
+  pub right-pages : length p ≡ pagesSize
   right-pages =
-      eqb-true (length p) 32768 (not-false (eqb (length p) 32768) (neither (not (eqb (length p) 32768)) (not (eqb (length d) 4672)) h .0))
+      eqb-true (length p) pagesSize (not-false (eqb (length p) pagesSize) (neither (not (eqb (length p) pagesSize)) (not (eqb (length d) deskSize)) h .0))
 
-  pub right-desk : length d ≡ 4672
-  right-desk = eqb-true (length d) 4672 (not-false (eqb (length d) 4672) (neither (not (eqb (length p) 32768)) (not (eqb (length d) 4672)) h .1))
+  pub right-desk : length d ≡ deskSize
+  right-desk = eqb-true (length d) deskSize (not-false (eqb (length d) deskSize) (neither (not (eqb (length p) pagesSize)) (not (eqb (length d) deskSize)) h .1))
 
 module _ (p d o : List ℕ) where
   pub served-sizes : (q : List ℕ) → wrongSizes (lent p d o) ≡ true → Served q (lent p d o) (lent p d o) (returned 10 0)
@@ -36,14 +37,14 @@ module _ (p d o : List ℕ) where
     picture : wrongPicture p d ≡ false
     picture = neither (wrongPicture p d) (shortSpace o) h .0
 
-    pub size-pages : length p ≡ 32768
+    pub size-pages : length p ≡ pagesSize
     size-pages = right-pages p d picture
 
-    pub size-desk : length d ≡ 4672
+    pub size-desk : length d ≡ deskSize
     size-desk = right-desk p d picture
 
-    pub size-answers : 320 ≤ length o
-    size-answers = ltb-false (length o) 320 (neither (wrongPicture p d) (shortSpace o) h .1)
+    pub size-answers : spaceLeast ≤ length o
+    size-answers = ltb-false (length o) spaceLeast (neither (wrongPicture p d) (shortSpace o) h .1)
 
     -- ---- the picture
     module _ (b : Bool) (j : Judged p d b) where

@@ -5,6 +5,7 @@ use mathlib.Core.Bool.{cond}
 use mathlib.Core.List.{List, [], _∷_}
 use mathlib.Core.Option.{Option, none, some}
 use lib.ListN.{length}
+use Rattle.limits.specs.Limits.{answerSize}
 use Rattle.rules.specs.Desk.{waitsNow, says, waitingLast}
 use Rattle.rules.specs.Runs.{Sy, waiting, Worked}
 use Rattle.entries.specs.Meaning.{bookSays}
@@ -20,12 +21,12 @@ lastOf p d t =
     record { state = stateOf p d; answers = cond (waitsNow book (stateOf p d) t) (says book t waiting ∷ []) [] }
 
 pub record LastFits (p d : List ℕ) (t end : ℕ) (o : List ℕ) : Type 0 where
-  pub room : end + 20 * length (lastOf p d t .answers) ≤ length o
+  pub room : end + answerSize * length (lastOf p d t .answers) ≤ length o
 
 -- room for all that the queue worked may say, and for that
 pub record RoomFor (p d : List ℕ) (t : ℕ) (o : List ℕ) : Type 0 where
-  pub queue : 20 * queued d ≤ length o
-  pub answers : 20 * length (waitingLast book t (workedOf p d) .answers) ≤ length o
+  pub queue : answerSize * queued d ≤ length o
+  pub answers : answerSize * length (waitingLast book t (workedOf p d) .answers) ≤ length o
 
 -- 13 to 15, or no refusal
 abbrev pub bookRefusal : Refusal → Option (Sy book)

@@ -3,11 +3,11 @@ ghost use mathlib.Core.Path.{_≡_};
 ghost use mathlib.Core.Bool.{true, false};
 ghost use Prim.Native.Nat.{_≤_};
 ghost use lib.ListN.{length};
+ghost use Rattle.limits.specs.Limits.{transactionsMost, spaceLeast};
 ghost use Rattle.rules.specs.Runs.{worked};
 ghost use Rattle.rules.specs.Desk.{runs, waitsNow, begun, ended, joined, afterDone, waitingLast, legalAsk, legalCall};
 ghost use Rattle.entries.specs.Meaning.{bookAsk, bookCall};
 ghost use Rattle.pages.specs.Rows.{endOf};
-ghost use Rattle.tables.specs.Layout.{transactionsMost};
 ghost use Rattle.desks.specs.States.{book, stateOf};
 ghost use Rattle.desks.specs.Whole.{Whole};
 ghost use Rattle.calls.specs.Promise.{Answered, lent};
@@ -26,7 +26,7 @@ use tables::transactions;
 // Says done to t, who is not in the queue, and then works the queue.
 fn done_first(pages: &mut [u8], desk: &mut [u8], answers: &mut [u8], t: u16) -> usize
     requires { ⌜ Whole (now pages) (now desk) ⌝ }
-    requires { ⌜ 320 ≤ length (now answers) ⌝ }
+    requires { ⌜ spaceLeast ≤ length (now answers) ⌝ }
     requires { ⌜ 1 ≤ t ⌝ }
     requires { ⌜ t ≤ transactionsMost ⌝ }
     requires { ⌜ waitsNow book (stateOf (now pages) (now desk)) t ≡ false ⌝ }
@@ -40,13 +40,13 @@ fn done_first(pages: &mut [u8], desk: &mut [u8], answers: &mut [u8], t: u16) -> 
             says: Says::Done,
         },
     );
-    turns::work(pages, desk, answers, 20)
+    turns::work(pages, desk, answers, limits::ANSWER_SIZE)
 }
 
 // t, which does not run, begins.
 fn begin(pages: &mut [u8], desk: &mut [u8], answers: &mut [u8], t: u16) -> usize
     requires { ⌜ Whole (now pages) (now desk) ⌝ }
-    requires { ⌜ 320 ≤ length (now answers) ⌝ }
+    requires { ⌜ spaceLeast ≤ length (now answers) ⌝ }
     requires { ⌜ 1 ≤ t ⌝ }
     requires { ⌜ t ≤ transactionsMost ⌝ }
     requires { ⌜ runs book (stateOf (now pages) (now desk)) t ≡ false ⌝ }
@@ -59,7 +59,7 @@ fn begin(pages: &mut [u8], desk: &mut [u8], answers: &mut [u8], t: u16) -> usize
 // t ends, by commit or by rollback.
 fn end(pages: &mut [u8], desk: &mut [u8], answers: &mut [u8], t: u16, commits: bool) -> usize
     requires { ⌜ Whole (now pages) (now desk) ⌝ }
-    requires { ⌜ 320 ≤ length (now answers) ⌝ }
+    requires { ⌜ spaceLeast ≤ length (now answers) ⌝ }
     requires { ⌜ 1 ≤ t ⌝ }
     requires { ⌜ t ≤ transactionsMost ⌝ }
     ensures { λ r. ⌜ Wrote (now (answers .entry)) 0 (afterDone book t (worked book (ended book (endOf commits) (stateOf (now (pages .entry)) (now (desk .entry))) t))) (now (pages .exit)) (now (desk .exit)) (now (answers .exit)) r ⌝ }
@@ -87,7 +87,7 @@ fn say_waiting(pages: &[u8], desk: &[u8], answers: &mut [u8], t: u16, end: usize
             says: Says::Waiting,
         },
     );
-    end + 20
+    end + limits::ANSWER_SIZE
 }
 
 // Works the queue; if t still waits then, that is said last.
@@ -105,7 +105,7 @@ fn work_for(pages: &mut [u8], desk: &mut [u8], answers: &mut [u8], t: u16) -> us
 // t's request joins the queue, and the queue is worked.
 fn queue_up(pages: &mut [u8], desk: &mut [u8], answers: &mut [u8], t: u16, ask: Ask) -> usize
     requires { ⌜ Whole (now pages) (now desk) ⌝ }
-    requires { ⌜ 320 ≤ length (now answers) ⌝ }
+    requires { ⌜ spaceLeast ≤ length (now answers) ⌝ }
     requires { ⌜ 1 ≤ t ⌝ }
     requires { ⌜ t ≤ transactionsMost ⌝ }
     requires { ⌜ runs book (stateOf (now pages) (now desk)) t ≡ true ⌝ }
@@ -120,7 +120,7 @@ fn queue_up(pages: &mut [u8], desk: &mut [u8], answers: &mut [u8], t: u16, ask: 
 // Answers one legal request on a whole picture, and gives how many bytes the answers take: refused with 13 to 15, or as the request asks.
 pub fn answer(pages: &mut [u8], desk: &mut [u8], answers: &mut [u8], call: Call) -> usize
     requires { ⌜ Whole (now pages) (now desk) ⌝ }
-    requires { ⌜ 320 ≤ length (now answers) ⌝ }
+    requires { ⌜ spaceLeast ≤ length (now answers) ⌝ }
     requires { ⌜ legalCall book (bookCall call) ≡ true ⌝ }
     ensures { λ r. ⌜ Answered (bookCall call) (lent (now (pages .entry)) (now (desk .entry)) (now (answers .entry))) (lent (now (pages .exit)) (now (desk .exit)) (now (answers .exit))) r ⌝ }
 {
@@ -136,7 +136,7 @@ pub fn answer(pages: &mut [u8], desk: &mut [u8], answers: &mut [u8], call: Call)
                 says: says,
             },
         );
-        return 20;
+        return limits::ANSWER_SIZE;
     }
     match request {
         Request::Begin => begin(pages, desk, answers, t),

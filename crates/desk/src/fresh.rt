@@ -1,14 +1,15 @@
 // A fresh desk. (Document 01, **Whole**.)
 ghost use mathlib.Core.Path.{_≡_};
 ghost use lib.ListN.{length};
+ghost use Rattle.limits.specs.Limits.{deskSize};
 ghost use Rattle.desks.specs.Fresh.{freshDesk};
 
 // Makes any buffer of the right length that of an empty desk: zeros behind its length and its kind.
 pub fn fresh_desk(desk: &mut [u8])
-    requires { ⌜ length (now desk) ≡ 4672 ⌝ }
+    requires { ⌜ length (now desk) ≡ deskSize ⌝ }
     ensures { λ _. ⌜ now (desk .exit) ≡ freshDesk ⌝ }
 {
-    numbers::zero_bytes(desk, 0, 4672);
-    numbers::write_u16(desk, 0, 4672);
+    numbers::zero_bytes(desk, 0, limits::DESK_SIZE);
+    numbers::write_u16(desk, 0, limits::DESK_SIZE);
     numbers::write_u16(desk, 2, 8);
 }

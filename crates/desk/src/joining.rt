@@ -2,9 +2,9 @@
 ghost use mathlib.Core.Path.{_≡_};
 ghost use mathlib.Core.Bool.{true, false};
 ghost use Prim.Native.Nat.{_<_, _≤_};
+ghost use Rattle.limits.specs.Limits.{transactionsMost};
 ghost use Rattle.rules.specs.Desk.{runs, waitsNow, joined, legalAsk};
 ghost use Rattle.entries.specs.Meaning.{bookAsk};
-ghost use Rattle.tables.specs.Layout.{transactionsMost};
 ghost use Rattle.desks.specs.States.{book, stateOf};
 ghost use Rattle.desks.specs.Fitting.{AskFits};
 ghost use Rattle.desks.specs.Whole.{Whole};

@@ -27,7 +27,7 @@ const BAD_REQUEST: u64 = 12 * 4294967296;
 pub extern "C" fn keydesk_fresh(pages: &mut [u8], desk: &mut [u8]) -> u64
     ensures { λ r. ⌜ Freshened (now (pages .entry)) (now (desk .entry)) (now (pages .exit)) (now (desk .exit)) r ⌝ }
 {
-    if (pages.len() != 32768) | (desk.len() != 4672) {
+    if (pages.len() != limits::PAGES_SIZE) | (desk.len() != limits::DESK_SIZE) {
         return WRONG_SIZES;
     }
     index::fresh_pages(pages);
@@ -46,7 +46,10 @@ pub extern "C" fn keydesk_serve(
 ) -> u64
     ensures { λ r. ⌜ Served (now (request .entry)) (lent (now (pages .entry)) (now (desk .entry)) (now (answers .entry))) (lent (now (pages .exit)) (now (desk .exit)) (now (answers .exit))) r ⌝ }
 {
-    if (pages.len() != 32768) | (desk.len() != 4672) | (answers.len() < 320) {
+    if (pages.len() != limits::PAGES_SIZE)
+        | (desk.len() != limits::DESK_SIZE)
+        | (answers.len() < limits::SPACE_LEAST)
+    {
         return WRONG_SIZES;
     }
     if !whole::is_whole(pages, desk) {

@@ -1,10 +1,10 @@
 // Numbers 13 to 15. (Document 01, "What the desk says".)
 ghost use mathlib.Core.Path.{_≡_};
 ghost use Prim.Native.Nat.{_≤_};
+ghost use Rattle.limits.specs.Limits.{transactionsMost};
 ghost use Rattle.rules.specs.Runs.{runsAlready, waitsAlready};
 ghost use Rattle.rules.specs.Desk.{ifSo, unlessRuns, refusal};
 ghost use Rattle.entries.specs.Meaning.{bookRequest};
-ghost use Rattle.tables.specs.Layout.{transactionsMost};
 ghost use Rattle.desks.specs.States.{book, stateOf};
 ghost use Rattle.desks.specs.Whole.{Whole};
 ghost use Rattle.desk.specs.Answering.{bookRefusal};

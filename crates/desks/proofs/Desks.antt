@@ -8,6 +8,7 @@ use native.Mathlib.Decide.{decLt}
 use native.Mathlib.Omega.{arith}
 use lib.Dec.{lit<}
 use lib.ListN.{length, getD, replicate, length-append, length-replicate, List·getD-eq-default}
+use Rattle.limits.specs.Limits.{transactionsMost, locksMost, deskHeadSize, recordSize, recordsPlace, slotSize, deskSize}
 use Rattle.lists.specs.Lists.{tab, join}
 use Rattle.lists.proofs.Tables.{length-tab, getD-tab}
 use Rattle.lists.proofs.Joins.{length-join}
@@ -20,7 +21,7 @@ use Rattle.numbers.proofs.Fields.{fields-fit}
 use Rattle.numbers.proofs.Splices.{agree-ahead, agree-behind, agree-row}
 use Rattle.numbers.proofs.Kept.{bytes-append, bytes-zeros, bytes-join}
 use Rattle.rules.specs.Kinds.{Lock, Queued, Mark}
-use Rattle.tables.specs.Layout.{deskSize, transactionsMost, locksMost, headWidths, queuePlace, inPlace, recordWidths, recordPlace, recordAt, lockWidths, lockPlace, slotFields}
+use Rattle.tables.specs.Layout.{headWidths, queuePlace, inPlace, recordWidths, recordPlace, recordAt, lockWidths, lockPlace, slotFields}
 use Rattle.desks.specs.States.{written, recordOf, deskWith}
 use Rattle.desks.specs.Fitting.{Fitting}
 use Rattle.desks.proofs.Written.{length-written, bytes-written, fields-written}
@@ -52,7 +53,7 @@ recordPart qs ms = join (recordOf qs ms) everyone
 abbrev lockPart : List (Option (Lock ℕ)) → List ℕ
 lockPart ls = join lockRow ls
 
-length-head : (qs : List (Queued ℕ ℕ)) → length (headPart qs) ≡ 32
+length-head : (qs : List (Queued ℕ ℕ)) → length (headPart qs) ≡ deskHeadSize
 unfolding widthOf
 length-head qs = length-written headWidths (headFields (length qs))
 
@@ -60,11 +61,11 @@ length-place : (q : Queued ℕ ℕ) → length (placeRow q) ≡ 2
 unfolding widthOf
 length-place q = length-written (2 ∷ []) (q .asker ∷ [])
 
-length-record : (qs : List (Queued ℕ ℕ)) (ms : List Mark) (t : ℕ) → length (recordOf qs ms t) ≡ 32
+length-record : (qs : List (Queued ℕ ℕ)) (ms : List Mark) (t : ℕ) → length (recordOf qs ms t) ≡ recordSize
 unfolding widthOf recordOf
 length-record qs ms t = length-written recordWidths (recordFields qs ms t)
 
-length-lock : (x : Option (Lock ℕ)) → length (lockRow x) ≡ 16
+length-lock : (x : Option (Lock ℕ)) → length (lockRow x) ≡ slotSize
 unfolding widthOf
 length-lock x = length-written lockWidths (slotFields x)
 
@@ -77,8 +78,8 @@ length-zeros qs = length-replicate (2 * (transactionsMost - length qs)) 0
 length-everyone : length everyone ≡ transactionsMost
 length-everyone = length-tab transactionsMost 1 (λ t. t)
 
-length-records : (qs : List (Queued ℕ ℕ)) (ms : List Mark) → length (recordPart qs ms) ≡ 512
-length-records qs ms = length-join (recordOf qs ms) 32 everyone (length-record qs ms) ∙ ap (λ n. 32 * n) length-everyone
+length-records : (qs : List (Queued ℕ ℕ)) (ms : List Mark) → length (recordPart qs ms) ≡ recordSize * transactionsMost
+length-records qs ms = length-join (recordOf qs ms) recordSize everyone (length-record qs ms) ∙ ap (λ n. recordSize * n) length-everyone
 
 -- whatever the tables, these are bytes
 module _ (ls : List (Option (Lock ℕ))) (qs : List (Queued ℕ ℕ)) (ms : List Mark) where
@@ -105,7 +106,7 @@ record Room (ls : List (Option (Lock ℕ))) (qs : List (Queued ℕ ℕ)) (ms : L
 
 module _ (ls : List (Option (Lock ℕ))) (qs : List (Queued ℕ ℕ)) (ms : List Mark) (room : Room ls qs ms) where
   length-locks : length (lockPart ls) ≡ 4096
-  length-locks = length-join lockRow 16 ls length-lock ∙ ap (λ n. 16 * n) (room .slots)
+  length-locks = length-join lockRow slotSize ls length-lock ∙ ap (λ n. slotSize * n) (room .slots)
 
   length-room : length (deskWith ls qs ms) ≡ deskSize
   unfolding deskWith
@@ -125,18 +126,18 @@ module _ (ls : List (Option (Lock ℕ))) (qs : List (Queued ℕ ℕ)) (ms : List
       )
 
   -- a part behind the head, behind the queue's numbers, behind its zeros, and behind the records
-  after-head : (p : ℕ) {n k : ℕ} {c : List ℕ} {m : ℕ} → p ≡ 32 + k → Agree n (placePart qs ++ (zeroPart qs ++ (recordPart qs ms ++ lockPart ls))) k c m
+  after-head : (p : ℕ) {n k : ℕ} {c : List ℕ} {m : ℕ} → p ≡ deskHeadSize + k → Agree n (placePart qs ++ (zeroPart qs ++ (recordPart qs ms ++ lockPart ls))) k c m
       → Agree n (deskWith ls qs ms) p c m
   unfolding deskWith
   after-head p e g = agree-behind (headPart qs) (placePart qs ++ (zeroPart qs ++ (recordPart qs ms ++ lockPart ls))) p (omega (arith, length-head qs)) g
 
-  after-places : (p : ℕ) {n k : ℕ} {c : List ℕ} {m : ℕ} → p ≡ 32 + 2 * length qs + k → Agree n (zeroPart qs ++ (recordPart qs ms ++ lockPart ls)) k c m
+  after-places : (p : ℕ) {n k : ℕ} {c : List ℕ} {m : ℕ} → p ≡ deskHeadSize + 2 * length qs + k → Agree n (zeroPart qs ++ (recordPart qs ms ++ lockPart ls)) k c m
       → Agree n (deskWith ls qs ms) p c m
   after-places p {k = k} e g =
       after-head p {k = 2 * length qs + k} (omega arith)
       (agree-behind (placePart qs) (zeroPart qs ++ (recordPart qs ms ++ lockPart ls)) (2 * length qs + k) (omega (arith, length-places qs)) g)
 
-  after-queue : (p : ℕ) {n k : ℕ} {c : List ℕ} {m : ℕ} → p ≡ 64 + k → Agree n (recordPart qs ms ++ lockPart ls) k c m → Agree n (deskWith ls qs ms) p c m
+  after-queue : (p : ℕ) {n k : ℕ} {c : List ℕ} {m : ℕ} → p ≡ recordsPlace + k → Agree n (recordPart qs ms ++ lockPart ls) k c m → Agree n (deskWith ls qs ms) p c m
   after-queue p {k = k} e g =
       let few = room .few in
       after-places p {k = 2 * (transactionsMost - length qs) + k} (omega arith)
@@ -181,14 +182,14 @@ module _ (ls : List (Option (Lock ℕ))) (qs : List (Queued ℕ ℕ)) (ms : List
       fields-written recordWidths (recordFields qs ms t) (room .records t low high)
       (after-queue (recordPlace t) (omega arith)
       (agree-ahead (recordPart qs ms) (lockPart ls) (omega (arith, length-records qs ms))
-      (rw who at (agree-row (recordOf qs ms) 32 (length-record qs ms) everyone (t - 1) 0 (omega (arith, length-everyone))))))
+      (rw who at (agree-row (recordOf qs ms) recordSize (length-record qs ms) everyone (t - 1) 0 (omega (arith, length-everyone))))))
 
   row-there : (i : ℕ) → i < locksMost → fieldsAt lockWidths (deskWith ls qs ms) (lockPlace i) ≡ slotFields (getD ls i none)
   unfolding widthOf
   row-there i h =
       fields-written lockWidths (slotFields (getD ls i none)) (room .rows i h)
-      (after-queue (lockPlace i) {k = 512 + 16 * i} (omega arith)
-      (agree-behind (recordPart qs ms) (lockPart ls) (512 + 16 * i) (omega (arith, length-records qs ms)) (agree-row lockRow 16 length-lock ls i none (omega (arith, room .slots)))))
+      (after-queue (lockPlace i) {k = recordSize * transactionsMost + slotSize * i} (omega arith)
+      (agree-behind (recordPart qs ms) (lockPart ls) (recordSize * transactionsMost + slotSize * i) (omega (arith, length-records qs ms)) (agree-row lockRow slotSize length-lock ls i none (omega (arith, room .slots)))))
 
   room-says : Says (deskWith ls qs ms) ls qs ms
   room-says =

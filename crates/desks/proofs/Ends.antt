@@ -9,11 +9,12 @@ use native.Mathlib.Omega.{arith}
 use borrow.Author.Tests.{ltb-true, ltb-false}
 use lib.Dec.{ltb}
 use lib.ListN.{length, set}
+use Rattle.limits.specs.Limits.{transactionsMost}
 use Rattle.rules.specs.Kinds.{Queued, Mark, idle, Lock, Paging}
 use Rattle.rules.specs.Locks.{released}
 use Rattle.rules.specs.Queue.{leave}
 use Rattle.rules.specs.Document.{document}
-use Rattle.tables.specs.Layout.{transactionsMost, queued, queueOf}
+use Rattle.tables.specs.Layout.{queued, queueOf}
 use Rattle.tables.specs.Moves.{locksReleased, waitsIn, queueLeft, markPut}
 use Rattle.tables.proofs.Queues.{waits-there, leave-none}
 use Rattle.desks.specs.States.{deskWith}

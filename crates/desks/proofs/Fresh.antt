@@ -7,6 +7,7 @@ use mathlib.Core.Option.{Option, none}
 use native.Mathlib.Omega.{arith}
 use lib.Dec.{lit<, lit≤}
 use lib.ListN.{length, getD, replicate, length-replicate, getD-replicate}
+use Rattle.limits.specs.Limits.{transactionsMost, locksMost, deskHeadSize, deskSize}
 use Rattle.lists.specs.Lists.{In, pairs, first}
 use Rattle.numbers.specs.Numbers.{widthOf, fieldsAt, putFields}
 use Rattle.numbers.proofs.Agree.{Agree, Touches}
@@ -15,7 +16,7 @@ use Rattle.numbers.proofs.Fields.{length-putFields, touches-putFields, fields-s
 use Rattle.numbers.proofs.Kept.{bytes-putFields}
 use Rattle.rules.specs.Kinds.{Lock, Mark, idle}
 use Rattle.rules.specs.Locks.{inUse}
-use Rattle.tables.specs.Layout.{deskSize, transactionsMost, locksMost, headWidths, queuePlace, recordWidths, recordPlace, recordAt, lockWidths, lockPlace, slotFields}
+use Rattle.tables.specs.Layout.{headWidths, queuePlace, recordWidths, recordPlace, recordAt, lockWidths, lockPlace, slotFields}
 use Rattle.desks.specs.States.{markNumber, deskWith}
 use Rattle.desks.specs.Fitting.{Fitting}
 use Rattle.desks.proofs.Says.{headFields, recordFields, Says}
@@ -50,14 +51,14 @@ module _ (z : List ℕ) (size : length z ≡ deskSize) (zeros : (k : ℕ) → ge
   abbrev pub fresh : List ℕ
   fresh = putFields headWidths z 0 (headFields 0)
 
-  touched : Touches 0 32 z fresh
+  touched : Touches 0 deskHeadSize z fresh
   unfolding widthOf
   touched = touches-putFields headWidths z 0 (headFields 0)
 
   zero-at : (n at : ℕ) → Agree n z at [] 0
   zero-at n at = record { byte = λ k h. zeros (at + k) }
 
-  behind : (ws : List ℕ) (at : ℕ) → 32 ≤ at → fieldsAt ws fresh at ≡ replicate (length ws) 0
+  behind : (ws : List ℕ) (at : ℕ) → deskHeadSize ≤ at → fieldsAt ws fresh at ≡ replicate (length ws) 0
   behind ws at h = fields-apart ws at touched (omega arith) ∙ fields-zero ws (zero-at (widthOf ws) at)
 
   record-is : (t : ℕ) → 1 ≤ t → t ≤ transactionsMost → recordAt fresh t ≡ recordFields [] quiet t

@@ -8,6 +8,7 @@ use native.Mathlib.Omega.{arith}
 use lib.Dec.{lit<, lit≤}
 use lib.ListN.{length, getD, replicate, length-replicate}
 use lib.Seq.{ext-getD}
+use Rattle.limits.specs.Limits.{pagesMost, pageSize, pagesSize, entrySize}
 use Rattle.numbers.proofs.Parts.{getD-part}
 use Rattle.rules.specs.Queue.{St}
 use Rattle.rules.specs.Desk.{fresh}
@@ -66,20 +67,20 @@ module _ (p : List ℕ) (b : Becomes p bare) where
       }
 
 -- ---- and these are such pages
-module _ (z : List ℕ) (size : length z ≡ 32768) (zeros : (k : ℕ) → getD z k 0 ≡ 0) where
-  zero-page : (q : ℕ) → q < 64 → pageAt z q ≡ replicate 512 0
+module _ (z : List ℕ) (size : length z ≡ pagesSize) (zeros : (k : ℕ) → getD z k 0 ≡ 0) where
+  zero-page : (q : ℕ) → q < pagesMost → pageAt z q ≡ replicate pageSize 0
   unfolding pageAt
   zero-page q h =
       let n = length-page z size q h in
-      ext-getD 0 (pageAt z q) (replicate 512 0) (n ∙ sym (length-replicate {A = ℕ} 512 0))
-      (λ k i. getD-part (512 * q) 512 z k (omega arith) ∙ zeros (512 * q + k) ∙ sym (getD-alike 512 k 0))
+      ext-getD 0 (pageAt z q) (replicate pageSize 0) (n ∙ sym (length-replicate {A = ℕ} pageSize 0))
+      (λ k i. getD-part (pageSize * q) pageSize z k (omega arith) ∙ zeros (pageSize * q + k) ∙ sym (getD-alike pageSize k 0))
 
   bare-is : Becomes (putPage (putPage z 1 (leafPage [])) 0 (headPage 1 2 1)) bare
   unfolding treeOf leafPage
   bare-is =
       let s = putPage z 1 (leafPage []) in
       let h = headPage 1 2 1 in
-      let l : length (leafPage []) ≡ 512 = ap length (sym (blank-none 20 2 0)) ∙ length-blank 2 0 in
+      let l : length (leafPage []) ≡ pageSize = ap length (sym (blank-none entrySize 2 0)) ∙ length-blank 2 0 in
       let k = length-head 1 2 1 in
       let w = length-putPage z size 1 (lit< tt) (leafPage []) l in
       let leaf : pageAt (putPage s 0 h) 1 ≡ leafPage [] = page-other s w 0 (lit< tt) h k 1 (lit< tt) (λ d. omega arith) ∙ page-same z size 1 (lit< tt) (leafPage []) l in
@@ -91,7 +92,7 @@ module _ (z : List ℕ) (size : length z ≡ 32768) (zeros : (k : ℕ) → getD 
 
 pub fresh-becomes : Becomes freshPages bare
 unfolding freshPages
-fresh-becomes = bare-is (replicate 32768 0) (length-replicate {A = ℕ} 32768 0) (λ k. getD-alike 32768 k 0)
+fresh-becomes = bare-is (replicate pagesSize 0) (length-replicate {A = ℕ} pagesSize 0) (λ k. getD-alike pagesSize k 0)
 
 pub fresh-picture : Whole freshPages freshDesk × (stateOf freshPages freshDesk ≡ fresh book)
 unfolding freshDesk

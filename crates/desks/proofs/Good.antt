@@ -8,6 +8,7 @@ use native.Mathlib.Omega.{arith}
 use borrow.Author.Tests.{ltb-true, leb-true}
 use lib.Dec.{eqb, ltb, leb}
 use lib.ListN.{length, getD}
+use Rattle.limits.specs.Limits.{transactionsMost}
 use Rattle.lists.specs.Lists.{In, all, pairs}
 use Rattle.lists.proofs.Tests.{and-left, and-right}
 use Rattle.lists.proofs.Elements.{all-in, any-in, tab-in}
@@ -25,7 +26,7 @@ use Rattle.rules.specs.Document.{document, endMark}
 use Rattle.rules.proofs.Orders.{numbers-ordered}
 use Rattle.rules.proofs.Keys.{same-equal}
 use Rattle.rules.proofs.Waits.{in-everyone, runs-known, queued-runs}
-use Rattle.tables.specs.Layout.{transactionsMost, recordPlace, recordAt, askIn, askAt, inPlace, queued, queuedAt, slotsOf, queueOf, marksOf}
+use Rattle.tables.specs.Layout.{recordPlace, recordAt, askIn, askAt, inPlace, queued, queuedAt, slotsOf, queueOf, marksOf}
 use Rattle.desks.specs.States.{book, stateOf}
 use Rattle.desks.specs.Fitting.{NameFits, AskFits, LockFits, QueuedFits, Fitting}
 

@@ -8,6 +8,7 @@ use native.Mathlib.Nat.{zero-add}
 use native.Mathlib.Decide.{decLt}
 use native.Mathlib.Omega.{arith}
 use lib.ListN.{length, List·getD-eq-default}
+use Rattle.limits.specs.Limits.{transactionsMost, locksMost, deskSize}
 use Rattle.lists.proofs.Tables.{getD-tab}
 use Rattle.numbers.specs.Numbers.{fieldsAt, Bytes}
 use Rattle.rules.specs.Kinds.{Lock, Queued, Mark}
@@ -15,7 +16,7 @@ use Rattle.rules.specs.Queue.{St}
 use Rattle.rules.specs.Good.{Good}
 use Rattle.trees.specs.Shapes.{shape}
 use Rattle.index.specs.Pictures.{keyOf, indexOf, entriesIn}
-use Rattle.tables.specs.Layout.{deskSize, transactionsMost, locksMost, headWidths, queued, inPlace, recordAt, lockWidths, lockPlace, slotFields, slotAt, slotsOf, queuedAt, queueOf, marksOf}
+use Rattle.tables.specs.Layout.{headWidths, queued, inPlace, recordAt, lockWidths, lockPlace, slotFields, slotAt, slotsOf, queuedAt, queueOf, marksOf}
 use Rattle.tables.proofs.Slots.{length-slots, slot-in}
 use Rattle.tables.proofs.Queues.{length-queue}
 use Rattle.desks.specs.States.{book, stateOf, deskWith}

@@ -10,6 +10,7 @@ use native.Mathlib.Omega.{arith}
 use lib.Dec.{eqb}
 use lib.ListN.{length, set, length-append, length-map, length-set}
 use lib.Seq.{getD-set-other}
+use Rattle.limits.specs.Limits.{transactionsMost}
 use Rattle.lists.specs.Lists.{In, any, keep, pairs, tab}
 use Rattle.lists.proofs.Tests.{eqb-turn, not-any}
 use Rattle.lists.proofs.Elements.{none-any, append-in, keep-in, in-tab, in-map, in-all}
@@ -22,7 +23,6 @@ use Rattle.rules.specs.Queue.{leave}
 use Rattle.rules.specs.Document.{document}
 use Rattle.rules.proofs.Orders.{numbers-ordered}
 use Rattle.rules.proofs.LockTable.{taken-took, took-length, took-in, released-length, released-in}
-use Rattle.tables.specs.Layout.{transactionsMost}
 use Rattle.desks.specs.Fitting.{NameFits, AskFits, LockFits, QueuedFits, Fitting}
 
 module _ {ls : List (Option (Lock ℕ))} {qs : List (Queued ℕ ℕ)} {ms : List Mark} (fit : Fitting ls qs ms) where

@@ -12,6 +12,7 @@ use borrow.Author.Tests.{ltb-true}
 use lib.Dec.{eqb, ltb, lit≤}
 use lib.ListN.{getD, set, replicate, List·getD-map}
 use lib.Seq.{getD-set-same, getD-set-other}
+use Rattle.limits.specs.Limits.{locksMost, slotSize, slotsPlace, deskSize}
 use Rattle.numbers.specs.Numbers.{numberAt, widthOf, fieldsAt, part, Bytes}
 use Rattle.numbers.proofs.Fields.{fields-same, fields-other}
 use Rattle.numbers.proofs.Rows.{rows-distinct}
@@ -20,7 +21,7 @@ use Rattle.numbers.proofs.Kept.{bytes-putFields, bytes-part, bytes-zeros}
 use Rattle.rules.specs.Kinds.{Queued, Mark, Lock, Mode, Name, Paging}
 use Rattle.rules.specs.Locks.{freed, released}
 use Rattle.rules.specs.Document.{document}
-use Rattle.tables.specs.Layout.{deskSize, locksMost, lockWidths, lockPlace, slotFields, slotAt, putSlot, slotsOf}
+use Rattle.tables.specs.Layout.{lockWidths, lockPlace, slotFields, slotAt, putSlot, slotsOf}
 use Rattle.tables.specs.Moves.{heldIn, freeIn, strengthened, lockTaken, rowFreed, locksReleased}
 use Rattle.tables.proofs.Slots.{slots-put, slot-in}
 use Rattle.tables.proofs.Releases.{row-released}
@@ -60,7 +61,7 @@ module _ {d : List ℕ} {ls : List (Option (Lock ℕ))} {qs : List (Queued ℕ �
           (fields-same lockWidths d (lockPlace i) (slotFields x) (slot-fits x fits) (let n = f .len in omega arith)
           ∙ ap slotFields (sym (getD-set-same ls i x none (omega (arith, fit .slots)))))
       go k l (no e) =
-          fields-other lockWidths (lockPlace k) lockWidths d (lockPlace i) (slotFields x) (rows-distinct 16 16 576 k i (lit≤ tt) e)
+          fields-other lockWidths (lockPlace k) lockWidths d (lockPlace i) (slotFields x) (rows-distinct slotSize slotSize slotsPlace k i (lit≤ tt) e)
           ∙ f .rows k l
           ∙ ap slotFields (sym (getD-set-other ls i k x none e))
 
@@ -101,7 +102,7 @@ module _ {d : List ℕ} {ls : List (Option (Lock ℕ))} {qs : List (Queued ℕ �
     unfolding fieldsAt numberAt slotFields
     freed-fields r none e = go (eqb (numberAt 2 r 8) t)
       where
-        go : (b : Bool) → fieldsAt lockWidths (cond b (replicate 16 0) r) 0 ≡ 0 ∷ 0 ∷ 0 ∷ 0 ∷ []
+        go : (b : Bool) → fieldsAt lockWidths (cond b (replicate slotSize 0) r) 0 ≡ 0 ∷ 0 ∷ 0 ∷ 0 ∷ []
         go true = refl
         go false = e
     freed-fields r (some l) e = go (eqb (l .holder) t) refl
@@ -118,17 +119,17 @@ module _ {d : List ℕ} {ls : List (Option (Lock ℕ))} {qs : List (Queued ℕ �
     row-is i h =
         sym (fields (locksReleased t d))
         ∙ ap (λ r. fieldsAt lockWidths r 0) (row-released t d (f .len) i h)
-        ∙ freed-fields (part (lockPlace i) 16 d) (getD ls i none) (fields d ∙ f .rows i h)
+        ∙ freed-fields (part (lockPlace i) slotSize d) (getD ls i none) (fields d ∙ f .rows i h)
         ∙ ap slotFields (sym (List·getD-map (freed (document P) t) ls i none))
       where
-        fields : (s : List ℕ) → fieldsAt lockWidths (part (lockPlace i) 16 s) 0 ≡ fieldsAt lockWidths s (lockPlace i)
-        fields s = fieldsAt-part lockWidths (lockPlace i) 16 s 0 (lit≤ tt) ∙ ap (fieldsAt lockWidths s) (add-zero (lockPlace i))
+        fields : (s : List ℕ) → fieldsAt lockWidths (part (lockPlace i) slotSize s) 0 ≡ fieldsAt lockWidths s (lockPlace i)
+        fields s = fieldsAt-part lockWidths (lockPlace i) slotSize s 0 (lit≤ tt) ∙ ap (fieldsAt lockWidths s) (add-zero (lockPlace i))
 
     bytes-freed : (r : List ℕ) → Bytes r → Bytes (rowFreed t r)
     bytes-freed r h = go (eqb (numberAt 2 r 8) t)
       where
-        go : (b : Bool) → Bytes (cond b (replicate 16 0) r)
-        go true = bytes-zeros 16
+        go : (b : Bool) → Bytes (cond b (replicate slotSize 0) r)
+        go true = bytes-zeros slotSize
         go false = h
 
     bytes-released : Bytes (locksReleased t d)
@@ -141,12 +142,12 @@ module _ {d : List ℕ} {ls : List (Option (Lock ℕ))} {qs : List (Queued ℕ �
         at i (yes h) l = omega (arith, only-released t d (f .len) .rest i (omega arith), f .bytes .below i)
         at i (no h) (no l) = omega (arith, only-released t d (f .len) .rest i (omega arith), f .bytes .below i)
         at i (no h) (yes l) =
-            let k : ℕ = (i - 576) / 16 in
-            let j : ℕ = (i - 576) % 16 in
+            let k : ℕ = (i - slotsPlace) / slotSize in
+            let j : ℕ = (i - slotsPlace) % slotSize in
             let e : lockPlace k + j ≡ i = omega arith in
-            let row : Bytes (part (lockPlace k) 16 u) =
-            subst Bytes (sym (row-released t d (f .len) k (omega arith))) (bytes-freed (part (lockPlace k) 16 d) (bytes-part (lockPlace k) 16 d (f .bytes))) in
-            omega (arith, ap (λ x. getD u x 0) e, getD-part (lockPlace k) 16 u j (omega arith), row .below j)
+            let row : Bytes (part (lockPlace k) slotSize u) =
+            subst Bytes (sym (row-released t d (f .len) k (omega arith))) (bytes-freed (part (lockPlace k) slotSize d) (bytes-part (lockPlace k) slotSize d (f .bytes))) in
+            omega (arith, ap (λ x. getD u x 0) e, getD-part (lockPlace k) slotSize u j (omega arith), row .below j)
 
     pub says-released : Says (locksReleased t d) (released (document P) t ls) qs ms
     says-released = says-locks (only-released t d (f .len)) bytes-released row-is

@@ -9,11 +9,12 @@ use native.Mathlib.Decide.{ℕ-discrete}
 use native.Mathlib.Omega.{arith}
 use lib.ListN.{set}
 use lib.Seq.{getD-set-same, getD-set-other}
+use Rattle.limits.specs.Limits.{transactionsMost}
 use Rattle.numbers.specs.Numbers.{widthOf}
 use Rattle.numbers.proofs.Fields.{fields-apart}
 use Rattle.numbers.proofs.Kept.{bytes-putNumber}
 use Rattle.rules.specs.Kinds.{Queued, Mark, idle, running, Lock}
-use Rattle.tables.specs.Layout.{transactionsMost, recordPlace, recordAt, lockWidths, lockPlace}
+use Rattle.tables.specs.Layout.{recordPlace, recordAt, lockWidths, lockPlace}
 use Rattle.tables.specs.Moves as M
 use Rattle.tables.specs.Moves.{markPut}
 use Rattle.tables.proofs.Frames.{place-beside, touches-mark, mark-head}

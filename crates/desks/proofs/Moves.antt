@@ -8,6 +8,7 @@ use mathlib.Core.Option.{Option, none, some}
 use native.Mathlib.Omega.{arith}
 use lib.Dec.{eqb}
 use lib.ListN.{length, set}
+use Rattle.limits.specs.Limits.{transactionsMost}
 use Rattle.lists.specs.Lists.{any, pairs}
 use Rattle.lists.proofs.Tests.{never}
 use Rattle.rules.specs.Kinds.{Ask, Queued, Mark, idle, running, Lock, Mode, Name, Paging}
@@ -16,7 +17,7 @@ use Rattle.rules.specs.Locks.{inUse, taken, released}
 use Rattle.rules.specs.Queue.{leave}
 use Rattle.rules.specs.Good.{together}
 use Rattle.rules.specs.Document.{document}
-use Rattle.tables.specs.Layout.{transactionsMost, nameNumber, slotsOf}
+use Rattle.tables.specs.Layout.{nameNumber, slotsOf}
 use Rattle.tables.specs.Moves.{lockTaken, lockGiven, locksReleased, queueJoined, queueLeft, markPut}
 use Rattle.tables.proofs.Takes.{taken-is, refused-same}
 use Rattle.desks.specs.States.{deskWith}

@@ -12,6 +12,7 @@ use native.Mathlib.Omega.{arith}
 use borrow.Author.Tests.{eqb-true, eq-eqb, ne-eqb, not-true}
 use lib.Dec.{eqb}
 use lib.ListN.{length, getD, set, length-append, List·getD-eq-default}
+use Rattle.limits.specs.Limits.{transactionsMost, deskSize}
 use Rattle.lists.specs.Lists.{orElse, any, first, pairs}
 use Rattle.lists.proofs.Tests.{first-hit, first-miss, first-none, first-passes, first-keep, not-any, all-keep, first-append, first-past}
 use Rattle.lists.proofs.Tables.{getD-tab}
@@ -23,7 +24,7 @@ use Rattle.numbers.proofs.Moves.{length-copied}
 use Rattle.rules.specs.Kinds.{Ask, read, insert, delete, Queued, Mark, idle, Lock, Paging}
 use Rattle.rules.specs.Queue.{leave}
 use Rattle.rules.specs.Document.{document}
-use Rattle.tables.specs.Layout.{deskSize, transactionsMost, queued, queuePlace, inPlace, recordPlace, recordAt, askWidths, askFields, putAsk, lockWidths, lockPlace, queuedAt, queueOf}
+use Rattle.tables.specs.Layout.{queued, queuePlace, inPlace, recordPlace, recordAt, askWidths, askFields, putAsk, lockWidths, lockPlace, queuedAt, queueOf}
 use Rattle.tables.specs.Moves.{queueJoined, queueLeft}
 use Rattle.tables.proofs.Order.{InOrder}
 use Rattle.tables.proofs.Frames.{touches-ask}
@@ -194,7 +195,7 @@ module _ {d : List ℕ} {ls : List (Option (Lock ℕ))} {qs : List (Queued ℕ �
             ∙ ap (λ q. q .asker) (List·getD-eq-default qs nobody {n = k + 1} (omega (arith, fewer)))
             ∙ past (omega arith)
         go (no l) (no m) =
-            let e : k ≡ 15 = omega arith in
+            let e : k ≡ transactionsMost - 1 = omega arith in
             ap (inPlace left) e ∙ place-last d i (f .len) in-order within ∙ past (omega arith)
 
     left-record : (s : ℕ) → 1 ≤ s → s ≤ transactionsMost → recordAt left s ≡ recordFields rest ms s
@@ -231,7 +232,7 @@ module _ {d : List ℕ} {ls : List (Option (Lock ℕ))} {qs : List (Queued ℕ �
     bytes-left : Bytes left
     unfolding queueLeft putAsk
     bytes-left =
-        let n = 2 * (15 - i) in
+        let n = 2 * (transactionsMost - 1 - i) in
         let l : i < transactionsMost = let l = fit .few in omega arith in
         let cleared = putAsk d (inPlace d i) (0 ∷ 0 ∷ 0 ∷ 0 ∷ []) in
         let size : length cleared ≡ deskSize = touches-ask d (inPlace d i) (0 ∷ 0 ∷ 0 ∷ 0 ∷ []) .len ∙ f .len in

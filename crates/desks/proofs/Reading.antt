@@ -8,13 +8,14 @@ use mathlib.Core.Option.{Option, none, some}
 use native.Mathlib.Omega.{arith}
 use lib.Dec.{eqb}
 use lib.ListN.{length, getD}
+use Rattle.limits.specs.Limits.{transactionsMost, locksMost, deskSize}
 use Rattle.lists.specs.Lists.{any, first, tab}
 use Rattle.lists.proofs.Tests.{fails, first-some}
 use Rattle.lists.proofs.Elements.{any-in, none-first, in-place}
 use Rattle.lists.proofs.Tables.{tab-ext, tab-getD, is-tab}
 use Rattle.numbers.specs.Numbers.{numberAt, fieldsAt}
 use Rattle.rules.specs.Kinds.{Ask, read, insert, delete, Lock, Queued, Mark, idle, running}
-use Rattle.tables.specs.Layout.{deskSize, transactionsMost, locksMost, queued, inPlace, recordPlace, recordAt, markIn, isWaiting, askIn, askAt, askFields, slotIn, slotAt, slotsOf, queuedAt, queueOf, marksOf}
+use Rattle.tables.specs.Layout.{queued, inPlace, recordPlace, recordAt, markIn, isWaiting, askIn, askAt, askFields, slotIn, slotAt, slotsOf, queuedAt, queueOf, marksOf}
 use Rattle.tables.proofs.Order.{InOrder}
 use Rattle.desks.specs.States.{waitingFields, markNumber, deskWith}
 use Rattle.desks.specs.Fitting.{Fitting}

@@ -7,6 +7,7 @@ use mathlib.Core.Option.{Option, none}
 use native.Mathlib.Omega.{arith}
 use lib.Dec.{eqb}
 use lib.ListN.{length, getD}
+use Rattle.limits.specs.Limits.{transactionsMost, locksMost, deskHeadSize, queueSize, recordSize, recordsPlace, slotSize, slotsPlace, deskSize}
 use Rattle.lists.specs.Lists.{first}
 use Rattle.lists.proofs.Tables.{tab-ext}
 use Rattle.numbers.specs.Numbers.{widthOf, fieldsAt, rows, Bytes}
@@ -14,12 +15,12 @@ use Rattle.numbers.proofs.Agree.{Agree, agree-front, agree-join, agree-all}
 use Rattle.numbers.proofs.Fields.{fields-inj}
 use Rattle.numbers.proofs.Rows.{rows-inj}
 use Rattle.rules.specs.Kinds.{Lock, Queued, delete, Mark, idle}
-use Rattle.tables.specs.Layout.{deskSize, transactionsMost, locksMost, headWidths, inPlace, recordWidths, recordPlace, recordAt, lockWidths, lockPlace, slotFields}
+use Rattle.tables.specs.Layout.{headWidths, inPlace, recordWidths, recordPlace, recordAt, lockWidths, lockPlace, slotFields}
 use Rattle.desks.specs.States.{waitingFields, markNumber}
 
 -- the numbers of the head, by how many are queued
 abbrev pub headFields : ℕ → List ℕ
-headFields n = 4672 ∷ 8 ∷ n ∷ 0 ∷ 0 ∷ 0 ∷ 0 ∷ []
+headFields n = deskSize ∷ 8 ∷ n ∷ 0 ∷ 0 ∷ 0 ∷ 0 ∷ []
 
 -- who stands at a place of the queue; behind the last, nobody
 abbrev pub nobody : Queued ℕ ℕ
@@ -42,34 +43,34 @@ pub record Says (d : List ℕ) (ls : List (Option (Lock ℕ))) (qs : List (Queue
 
 -- two desks that say the same are the same bytes
 module _ (d u : List ℕ) (ls : List (Option (Lock ℕ))) (qs : List (Queued ℕ ℕ)) (ms : List Mark) (f : Says d ls qs ms) (g : Says u ls qs ms) where
-  same-head : Agree 32 d 0 u 0
+  same-head : Agree deskHeadSize d 0 u 0
   unfolding widthOf
   same-head = fields-inj headWidths (f .bytes) (g .bytes) (f .head ∙ sym (g .head))
 
-  same-queue : Agree 32 d 32 u 32
+  same-queue : Agree queueSize d deskHeadSize u deskHeadSize
   unfolding widthOf fieldsAt rows
   same-queue =
       rows-inj (2 ∷ []) 2 transactionsMost refl (f .bytes) (g .bytes)
-      (tab-ext transactionsMost 0 (λ i. fieldsAt (2 ∷ []) d (32 + 2 * i)) (λ i. fieldsAt (2 ∷ []) u (32 + 2 * i))
+      (tab-ext transactionsMost 0 (λ i. fieldsAt (2 ∷ []) d (deskHeadSize + 2 * i)) (λ i. fieldsAt (2 ∷ []) u (deskHeadSize + 2 * i))
       (λ i _ h. ap (λ v. v ∷ []) (f .places i h ∙ sym (g .places i h))))
 
-  same-records : Agree 512 d 64 u 64
+  same-records : Agree (recordSize * transactionsMost) d recordsPlace u recordsPlace
   unfolding widthOf recordAt rows
   same-records =
-      rows-inj recordWidths 32 transactionsMost refl (f .bytes) (g .bytes)
-      (tab-ext transactionsMost 0 (λ i. fieldsAt recordWidths d (64 + 32 * i)) (λ i. fieldsAt recordWidths u (64 + 32 * i))
+      rows-inj recordWidths recordSize transactionsMost refl (f .bytes) (g .bytes)
+      (tab-ext transactionsMost 0 (λ i. fieldsAt recordWidths d (recordsPlace + recordSize * i)) (λ i. fieldsAt recordWidths u (recordsPlace + recordSize * i))
       (λ i _ h.
-      let e : 64 + 32 * i ≡ recordPlace (i + 1) = omega arith in
+      let e : recordsPlace + recordSize * i ≡ recordPlace (i + 1) = omega arith in
       ap (fieldsAt recordWidths d) e
       ∙ f .records (i + 1) (omega arith) (omega arith)
       ∙ sym (g .records (i + 1) (omega arith) (omega arith))
       ∙ ap (fieldsAt recordWidths u) (sym e)))
 
-  same-locks : Agree 4096 d 576 u 576
+  same-locks : Agree (slotSize * locksMost) d slotsPlace u slotsPlace
   unfolding widthOf rows
   same-locks =
-      rows-inj lockWidths 16 locksMost refl (f .bytes) (g .bytes)
-      (tab-ext locksMost 0 (λ i. fieldsAt lockWidths d (576 + 16 * i)) (λ i. fieldsAt lockWidths u (576 + 16 * i))
+      rows-inj lockWidths slotSize locksMost refl (f .bytes) (g .bytes)
+      (tab-ext locksMost 0 (λ i. fieldsAt lockWidths d (slotsPlace + slotSize * i)) (λ i. fieldsAt lockWidths u (slotsPlace + slotSize * i))
       (λ i _ h. f .rows i h ∙ sym (g .rows i h)))
 
   pub says-once : d ≡ u

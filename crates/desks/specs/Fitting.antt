@@ -7,11 +7,11 @@ use mathlib.Core.List.{List}
 use mathlib.Core.Option.{Option, some}
 use lib.Dec.{eqb}
 use lib.ListN.{length, getD}
+use Rattle.limits.specs.Limits.{transactionsMost, locksMost}
 use Rattle.lists.specs.Lists.{In, pairs}
 use Rattle.rules.specs.Kinds.{Ask, read, insert, delete, Queued, Mark, idle, Lock, Name, on, end}
 use Rattle.rules.specs.Locks.{inUse}
 use Rattle.rules.specs.Document.{endMark}
-use Rattle.tables.specs.Layout.{transactionsMost, locksMost}
 
 abbrev pub NameFits : Name ℕ → Type 0
 NameFits (on k) = k < endMark

@@ -4,6 +4,7 @@ use mathlib.Core.List.{List, [], _∷_, _++_}
 use mathlib.Core.Option.{Option, none, some}
 use lib.Dec.{eqb}
 use lib.ListN.{length, getD, replicate}
+use Rattle.limits.specs.Limits.{transactionsMost, deskSize}
 use Rattle.lists.specs.Lists.{tab, join, first}
 use Rattle.numbers.specs.Numbers.{widthOf, putFields}
 use Rattle.rules.specs.Kinds.{Book, Lock, Queued, Mark, idle, running}
@@ -11,7 +12,7 @@ use Rattle.rules.specs.Queue.{St}
 use Rattle.rules.specs.Document.{document}
 use Rattle.trees.specs.Trees.{documentSizes}
 use Rattle.trees.specs.Shapes.{treePaging, shape}
-use Rattle.tables.specs.Layout.{transactionsMost, headWidths, recordWidths, askFields, lockWidths, slotFields, slotsOf, queueOf, marksOf}
+use Rattle.tables.specs.Layout.{headWidths, recordWidths, askFields, lockWidths, slotFields, slotsOf, queueOf, marksOf}
 use Rattle.index.specs.Pictures.{keyOf, indexOf, entriesIn}
 
 -- the rule book of document 01, with its tree of pages
@@ -48,7 +49,7 @@ recordOf qs ms t =
 
 unfoldable pub deskWith : List (Option (Lock ℕ)) → List (Queued ℕ ℕ) → List Mark → List ℕ
 deskWith ls qs ms =
-    written headWidths (4672 ∷ 8 ∷ length qs ∷ 0 ∷ 0 ∷ 0 ∷ 0 ∷ [])
+    written headWidths (deskSize ∷ 8 ∷ length qs ∷ 0 ∷ 0 ∷ 0 ∷ 0 ∷ [])
     ++ (join (λ q. written (2 ∷ []) (q .asker ∷ [])) qs
     ++ (replicate (2 * (transactionsMost - length qs)) 0
     ++ (join (recordOf qs ms) (tab transactionsMost 1 (λ t. t))

@@ -6,6 +6,7 @@ use mathlib.Core.Path.{_≡_}
 use mathlib.Core.Bool.{Bool, true}
 use mathlib.Core.List.{List}
 use lib.ListN.{length}
+use Rattle.limits.specs.Limits.{deskSize}
 use Rattle.rules.specs.Good.{Good}
 use Rattle.tables.specs.Layout.{slotsOf, queueOf, marksOf}
 use Rattle.index.specs.Pictures.{WholePages}
@@ -13,7 +14,7 @@ use Rattle.desks.specs.States.{book, stateOf, deskWith}
 
 pub record Whole (p d : List ℕ) : Type 0 where
   pub pages : WholePages p
-  pub size : length d ≡ 4672
+  pub size : length d ≡ deskSize
   pub desk : d ≡ deskWith (slotsOf d) (queueOf d) (marksOf d)
   pub values : Good book (stateOf p d)
 

@@ -82,6 +82,20 @@ slotsPlace = recordsPlace + recordSize * transactionsMost
 abbrev pub deskSize : ℕ
 deskSize = slotsPlace + slotSize * locksMost
 
+-- ---- requests: "length, kind, transaction, two zero bytes; then by kind .. 4 read: lo, hi (24); 5 insert: key, record, four zero bytes (24);
+-- 6 delete: key (16)"
+abbrev pub requestHeadSize : ℕ
+requestHeadSize = 8
+
+abbrev pub readSize : ℕ
+readSize = requestHeadSize + 2 * keySize
+
+abbrev pub insertSize : ℕ
+insertSize = requestHeadSize + keySize + 8
+
+abbrev pub deleteSize : ℕ
+deleteSize = requestHeadSize + keySize
+
 -- ---- answers: "Answer: length 20, kind 7, transaction, number, key, record"; space for one to each transaction, 320
 abbrev pub answerSize : ℕ
 answerSize = keySize + 12

@@ -1,6 +1,6 @@
 -- The numbers of Limits, as the code's `Numbers` has them. Assumes nothing.
 use Rattle.limits.specs.declared.Numbers.{Numbers}
-use Rattle.limits.specs.Limits.{transactionsMost, locksMost, pagesMost, keySize, pageSize, headSize, bodySize, pagesSize, entrySize, leafMost, leafStay, leafGo, childSize, innerMost, innerFewest, innerStay, innerGo, deskHeadSize, queueSize, recordSize, recordsPlace, slotSize, slotsPlace, deskSize, answerSize, spaceLeast}
+use Rattle.limits.specs.Limits.{transactionsMost, locksMost, pagesMost, keySize, pageSize, headSize, bodySize, pagesSize, entrySize, leafMost, leafStay, leafGo, childSize, innerMost, innerFewest, innerStay, innerGo, deskHeadSize, queueSize, recordSize, recordsPlace, slotSize, slotsPlace, deskSize, requestHeadSize, readSize, insertSize, deleteSize, answerSize, spaceLeast}
 
 abbrev pub named : Numbers
 named =
@@ -29,6 +29,10 @@ named =
       «slot_size» = slotSize;
       «slots_place» = slotsPlace;
       «desk_size» = deskSize;
+      «request_head_size» = requestHeadSize;
+      «read_size» = readSize;
+      «insert_size» = insertSize;
+      «delete_size» = deleteSize;
       «answer_size» = answerSize;
       «space_least» = spaceLeast;
       «last_transaction» = transactionsMost;

@@ -60,6 +60,15 @@ pub const SLOTS_PLACE: usize = RECORDS_PLACE + RECORD_SIZE * TRANSACTIONS;
 
 pub const DESK_SIZE: usize = SLOTS_PLACE + SLOT_SIZE * LOCKS;
 
+// Requests: what they all begin with; a read, an insert, a delete.
+pub const REQUEST_HEAD_SIZE: usize = 8;
+
+pub const READ_SIZE: usize = REQUEST_HEAD_SIZE + 2 * KEY_SIZE;
+
+pub const INSERT_SIZE: usize = REQUEST_HEAD_SIZE + KEY_SIZE + 8;
+
+pub const DELETE_SIZE: usize = REQUEST_HEAD_SIZE + KEY_SIZE;
+
 // An answer, and the space for one to each transaction.
 pub const ANSWER_SIZE: usize = KEY_SIZE + 12;
 
@@ -91,6 +100,10 @@ pub struct Numbers {
     pub slot_size: usize,
     pub slots_place: usize,
     pub desk_size: usize,
+    pub request_head_size: usize,
+    pub read_size: usize,
+    pub insert_size: usize,
+    pub delete_size: usize,
     pub answer_size: usize,
     pub space_least: usize,
     pub last_transaction: u16,
@@ -125,6 +138,10 @@ pub fn as_named() -> Numbers
         slot_size: SLOT_SIZE,
         slots_place: SLOTS_PLACE,
         desk_size: DESK_SIZE,
+        request_head_size: REQUEST_HEAD_SIZE,
+        read_size: READ_SIZE,
+        insert_size: INSERT_SIZE,
+        delete_size: DELETE_SIZE,
         answer_size: ANSWER_SIZE,
         space_least: SPACE_LEAST,
         last_transaction: LAST_TRANSACTION,

@@ -6,6 +6,7 @@ use mathlib.Core.List.{List, [], _∷_, map}
 use native.Mathlib.Decide.{decLt}
 use native.Mathlib.Omega.{arith}
 use lib.ListN.{length, getD, replicate}
+use Rattle.limits.specs.Limits.{pagesMost, pageSize, headSize, entrySize, leafMost, childSize, innerMost}
 use Rattle.lists.specs.Lists.{In, join}
 use Rattle.lists.proofs.Elements.{map-in}
 use Rattle.lists.proofs.Joins.{join-map}
@@ -33,7 +34,7 @@ use Rattle.pictures.proofs.Once.{join-in}
 
 -- ---- the pages that are written
 bytes-written : {A : Type 0} (z : ℕ) (row : A → List ℕ) → ((x : A) → length (row x) ≡ z) → ((x : A) → Bytes (row x)) → (kind level : ℕ) (xs : List A)
-    → 16 + z * length xs ≤ 512 → length xs < 65536 → Bytes (withRows z (blankPage kind level) (map row xs))
+    → headSize + z * length xs ≤ pageSize → length xs < 65536 → Bytes (withRows z (blankPage kind level) (map row xs))
 unfolding withRows
 bytes-written z row wide each kind level xs h l =
     let p = blankPage kind level in
@@ -43,20 +44,20 @@ bytes-written z row wide each kind level xs h l =
     let b : Bytes (join (λ r. r) rs) = subst Bytes (sym (join-map (λ r. r) row xs)) (bytes-join row each xs) in
     let zeros = replicate {A = ℕ} (z * (countOf p - length rs)) 0 in
     let c : Bytes t = bytes-append (join (λ r. r) rs) zeros b (bytes-zeros (z * (countOf p - length rs))) in
-    bytes-putNumber 2 (putPart 16 t p) 4 (length rs)
-    (bytes-from (touches-putPart 16 t p r) (agree-putPart 16 t p (omega arith)) (bytes-blank kind level) c)
+    bytes-putNumber 2 (putPart headSize t p) 4 (length rs)
+    (bytes-from (touches-putPart headSize t p r) (agree-putPart headSize t p (omega arith)) (bytes-blank kind level) c)
 
-bytes-leaf : (es : List Item) → length es ≤ 24 → Bytes (leafPage es)
+bytes-leaf : (es : List Item) → length es ≤ leafMost → Bytes (leafPage es)
 unfolding leafPage
-bytes-leaf es h = bytes-written 20 entryRow length-entryRow bytes-entryRow 2 0 es (omega arith) (omega arith)
+bytes-leaf es h = bytes-written entrySize entryRow length-entryRow bytes-entryRow 2 0 es (omega arith) (omega arith)
 
-bytes-inner : (level : ℕ) (cs : List P.Child) → length cs ≤ 30 → Bytes (innerPage level cs)
+bytes-inner : (level : ℕ) (cs : List P.Child) → length cs ≤ innerMost → Bytes (innerPage level cs)
 unfolding innerPage
-bytes-inner level cs h = bytes-written 16 childRow length-childRow bytes-childRow 3 level cs (omega arith) (omega arith)
+bytes-inner level cs h = bytes-written childSize childRow length-childRow bytes-childRow 3 level cs (omega arith) (omega arith)
 
 bytes-head : (root used height : ℕ) → Bytes (headPage root used height)
 unfolding headPage putRoot
-bytes-head root used height = bytes-putFields rootWidths (blankPage 1 0) 16 (root ∷ used ∷ height ∷ []) (bytes-blank 1 0)
+bytes-head root used height = bytes-putFields rootWidths (blankPage 1 0) headSize (root ∷ used ∷ height ∷ []) (bytes-blank 1 0)
 
 -- ---- the pages of a tree
 bytes-tree : (s : List ℕ) (n pg u q : ℕ) → Subtree s n pg u → 0 < Times n q s pg → Bytes (pageAt s q)
@@ -78,13 +79,13 @@ bytes-tree s (suc n) pg u q t h = go (isPage q pg) refl (λ c i. bytes-tree s n 
 bytes-page : (s : List ℕ) → WholePages s → (q : ℕ) → Bytes (pageAt s q)
 unfolding indexOf
 bytes-page s w zero = subst Bytes (sym (w .head)) (bytes-head (rootOf (pageAt s 0)) (usedOf (pageAt s 0)) (heightOf (pageAt s 0)))
-bytes-page s w (suc q) = go (decLt (suc q) (usedOf (pageAt s 0))) (decLt (suc q) 64)
+bytes-page s w (suc q) = go (decLt (suc q) (usedOf (pageAt s 0))) (decLt (suc q) pagesMost)
   where
-    go : Dec (suc q < usedOf (pageAt s 0)) → Dec (suc q < 64) → Bytes (pageAt s (suc q))
+    go : Dec (suc q < usedOf (pageAt s 0)) → Dec (suc q < pagesMost) → Bytes (pageAt s (suc q))
     go (yes l) k =
         bytes-tree s (heightOf (pageAt s 0) - 1) (rootOf (pageAt s 0)) (usedOf (pageAt s 0)) (suc q) (subtree-root s w)
         (omega (arith, w .index .pages .once (suc q), above-no (usedOf (pageAt s 0)) (suc q) l, above-yes 1 (suc q) (omega arith)))
-    go (no l) (yes k) = subst Bytes (sym (w .spare (suc q) (omega arith) k)) (bytes-zeros 512)
+    go (no l) (yes k) = subst Bytes (sym (w .spare (suc q) (omega arith) k)) (bytes-zeros pageSize)
     go (no l) (no k) = subst Bytes (sym (page-none s (w .size) (suc q) (omega arith))) bytes-none
 
 pub whole-pages-bytes : (s : List ℕ) → WholePages s → Bytes s
@@ -93,8 +94,8 @@ whole-pages-bytes s w = record { below = at }
   where
     at : (i : ℕ) → getD s i 0 < 256
     at i =
-        let e : 512 * (i / 512) + i % 512 ≡ i = omega arith in
-        omega (arith, bytes-page s w (i / 512) .below (i % 512), getD-part (512 * (i / 512)) 512 s (i % 512) (omega arith), ap (λ k. getD s k 0) e)
+        let e : pageSize * (i / pageSize) + i % pageSize ≡ i = omega arith in
+        omega (arith, bytes-page s w (i / pageSize) .below (i % pageSize), getD-part (pageSize * (i / pageSize)) pageSize s (i % pageSize) (omega arith), ap (λ k. getD s k 0) e)
 
 -- ---- the entries
 tree-fits : (s : List ℕ) (n pg u : ℕ) → Subtree s n pg u → (e : Item) → In e (flat ℕ Item n (treeOf n s pg)) → EntryFits e

@@ -11,6 +11,7 @@ use native.Mathlib.Omega.{arith}
 use lib.Dec.{eqb}
 use lib.ListN.{length, replicate, length-replicate, length-map}
 use borrow.Author.Tests.{eqb-true, eq-eqb, leb-true}
+use Rattle.limits.specs.Limits.{pagesMost, pageSize, pagesSize, leafMost, innerFewest}
 use Rattle.lists.specs.Lists.{In, first, join, tab}
 use Rattle.lists.proofs.Elements.{in-left, in-right, append-in, all-in, first-in}
 use Rattle.lists.proofs.Firsts.{first-only}
@@ -75,28 +76,28 @@ times-drawn (suc n) q t =
 
 -- ---- every drawn page has 512 bytes
 length-drawn : (least n : ℕ) (t : Tree ℕ Item n) → counted ℕ Item documentSizes least n t ≡ true
-    → (g : Drawn) → In g (drawnTree n t) → length (g .bytes) ≡ 512
+    → (g : Drawn) → In g (drawnTree n t) → length (g .bytes) ≡ pageSize
 unfolding drawnTree counted
-length-drawn least zero t h g (inl e) = subst (λ (d : Drawn). length (d .bytes) ≡ 512) e (leaf-length (t .holds) (leb-true (length (t .holds)) 24 h))
+length-drawn least zero t h g (inl e) = subst (λ (d : Drawn). length (d .bytes) ≡ pageSize) e (leaf-length (t .holds) (leb-true (length (t .holds)) leafMost h))
 length-drawn least (suc n) t h g (inl e) =
     let f = counted-filled ℕ Item documentSizes least n t h in
-    subst (λ (d : Drawn). length (d .bytes) ≡ 512) e
+    subst (λ (d : Drawn). length (d .bytes) ≡ pageSize) e
     (inner-length (suc n) (map (childOf n) (t .holds)) (omega (arith, length-map (t .holds) (childOf n), f .many)))
 length-drawn least (suc n) t h g (inr i) =
     let f = counted-filled ℕ Item documentSizes least n t h in
     let c = join-in (λ (c : Child ℕ (Tree ℕ Item n)). drawnTree n (c .tree)) (t .holds) g i in
-    length-drawn 15 n (c .0 .tree) (all-in (λ c. counted ℕ Item documentSizes 15 n (c .tree)) (t .holds) (c .0) (f .each) (c .1)) g (c .2)
+    length-drawn innerFewest n (c .0 .tree) (all-in (λ c. counted ℕ Item documentSizes innerFewest n (c .tree)) (t .holds) (c .0) (f .each) (c .1)) g (c .2)
 
 -- ---- a buffer joined of 64 pages
-joined-page : (f : ℕ → List ℕ) → ((q : ℕ) → length (f q) ≡ 512) → (q : ℕ) → q < 64 → pageAt (join f (tab 64 0 (λ q. q))) q ≡ f q
+joined-page : (f : ℕ → List ℕ) → ((q : ℕ) → length (f q) ≡ pageSize) → (q : ℕ) → q < pagesMost → pageAt (join f (tab pagesMost 0 (λ q. q))) q ≡ f q
 unfolding pageAt
 joined-page f e q h =
-    let qs = tab 64 0 (λ (q : ℕ). q) in
-    let n = length-tab 64 0 (λ (q : ℕ). q) in
-    let l = length-join f 512 qs e in
-    let g : Agree 512 (join f qs) (512 * q) (f q) 0 =
-    subst (λ p. Agree 512 (join f qs) (512 * q) (f p) 0) (getD-tab 64 0 (λ (q : ℕ). q) q 0 h ∙ zero-add q) (agree-row f 512 e qs q 0 (omega arith)) in
-    part-ext 512 (omega arith) (omega (arith, e q)) g ∙ part-all 512 (f q) (e q)
+    let qs = tab pagesMost 0 (λ (q : ℕ). q) in
+    let n = length-tab pagesMost 0 (λ (q : ℕ). q) in
+    let l = length-join f pageSize qs e in
+    let g : Agree pageSize (join f qs) (pageSize * q) (f q) 0 =
+    subst (λ p. Agree pageSize (join f qs) (pageSize * q) (f p) 0) (getD-tab pagesMost 0 (λ (q : ℕ). q) q 0 h ∙ zero-add q) (agree-row f pageSize e qs q 0 (omega arith)) in
+    part-ext pageSize (omega arith) (omega (arith, e q)) g ∙ part-all pageSize (f q) (e q)
 
 module _ (x : Index ℕ Item) (once : EachOnce ℕ Item x) where
   -- every number below `used` stands once, page 0 too
@@ -117,44 +118,44 @@ module _ (x : Index ℕ Item) (once : EachOnce ℕ Item x) where
       (λ d j e. only (numbered q) (drawnIndex x) g d i j (omega (arith, numbered-one q g refl))
       (omega (arith, numbered-one q d (eqb-true (d .number) q e))) (omega (arith, each-drawn q))))
 
-  pub drawn-spare : (q : ℕ) → x .used ≤ q → drawnPage (drawnIndex x) q ≡ replicate 512 0
+  pub drawn-spare : (q : ℕ) → x .used ≤ q → drawnPage (drawnIndex x) q ≡ replicate pageSize 0
   unfolding drawnPage
   drawn-spare q h = go (first (λ (d : Drawn). eqb (d .number) q) (drawnIndex x)) refl
     where
-      go : (o : Option Drawn) → first (λ (d : Drawn). eqb (d .number) q) (drawnIndex x) ≡ o → bytesIf o ≡ replicate 512 0
+      go : (o : Option Drawn) → first (λ (d : Drawn). eqb (d .number) q) (drawnIndex x) ≡ o → bytesIf o ≡ replicate pageSize 0
       go none e = refl
       go (some g) e =
           let w = first-in (λ (d : Drawn). eqb (d .number) q) (drawnIndex x) g e in
           absurd (omega (arith, drawn-used g (w .0), eqb-true (g .number) q (w .1)))
 
   module _ (counts : counted ℕ Item documentSizes 2 (x .level) (x .tree) ≡ true) where
-    length-index : (g : Drawn) → In g (drawnIndex x) → length (g .bytes) ≡ 512
+    length-index : (g : Drawn) → In g (drawnIndex x) → length (g .bytes) ≡ pageSize
     unfolding drawnIndex
     length-index g (inl e) =
-        subst (λ (d : Drawn). length (d .bytes) ≡ 512) e (length-head (topPage (x .level) (x .tree)) (x .used) (suc (x .level)))
+        subst (λ (d : Drawn). length (d .bytes) ≡ pageSize) e (length-head (topPage (x .level) (x .tree)) (x .used) (suc (x .level)))
     length-index g (inr i) = length-drawn 2 (x .level) (x .tree) counts g i
 
-    length-page : (q : ℕ) → length (drawnPage (drawnIndex x) q) ≡ 512
+    length-page : (q : ℕ) → length (drawnPage (drawnIndex x) q) ≡ pageSize
     unfolding drawnPage
     length-page q = go (first (λ (d : Drawn). eqb (d .number) q) (drawnIndex x)) refl
       where
-        go : (o : Option Drawn) → first (λ (d : Drawn). eqb (d .number) q) (drawnIndex x) ≡ o → length (bytesIf o) ≡ 512
-        go none e = length-replicate {A = ℕ} 512 0
+        go : (o : Option Drawn) → first (λ (d : Drawn). eqb (d .number) q) (drawnIndex x) ≡ o → length (bytesIf o) ≡ pageSize
+        go none e = length-replicate {A = ℕ} pageSize 0
         go (some g) e = length-index g (first-in (λ (d : Drawn). eqb (d .number) q) (drawnIndex x) g e .0)
 
     -- ---- the buffer
-    pub length-pages : length (pagesOf x) ≡ 32768
+    pub length-pages : length (pagesOf x) ≡ pagesSize
     unfolding pagesOf
     length-pages =
-        let n = length-tab 64 0 (λ (q : ℕ). q) in
-        let l = length-join (drawnPage (drawnIndex x)) 512 (tab 64 0 (λ q. q)) length-page in
+        let n = length-tab pagesMost 0 (λ (q : ℕ). q) in
+        let l = length-join (drawnPage (drawnIndex x)) pageSize (tab pagesMost 0 (λ q. q)) length-page in
         omega arith
 
-    pub page-drawn : (g : Drawn) → In g (drawnIndex x) → x .used ≤ 64 → pageAt (pagesOf x) (g .number) ≡ g .bytes
+    pub page-drawn : (g : Drawn) → In g (drawnIndex x) → x .used ≤ pagesMost → pageAt (pagesOf x) (g .number) ≡ g .bytes
     unfolding pagesOf
     page-drawn g i h =
         joined-page (drawnPage (drawnIndex x)) length-page (g .number) (omega (arith, drawn-used g i)) ∙ drawn-found g i
 
-    pub page-spare : (q : ℕ) → x .used ≤ q → q < 64 → pageAt (pagesOf x) q ≡ replicate 512 0
+    pub page-spare : (q : ℕ) → x .used ≤ q → q < pagesMost → pageAt (pagesOf x) q ≡ replicate pageSize 0
     unfolding pagesOf
     page-spare q h l = joined-page (drawnPage (drawnIndex x)) length-page q l ∙ drawn-spare q h

@@ -10,6 +10,7 @@ use native.Mathlib.Omega.{arith}
 use lib.Dec.{leb, lit≤}
 use lib.ListN.{length, length-map}
 use borrow.Author.Tests.{leb-true, leb-false, eqb-true}
+use Rattle.limits.specs.Limits.{pagesMost, leafMost, innerFewest}
 use Rattle.lists.specs.Lists.{In}
 use Rattle.lists.proofs.Elements.{all-in, map-in}
 use Rattle.lists.proofs.Joins.{map-same}
@@ -84,9 +85,9 @@ all-kids n lo hi t e h = let r = ranged-in compare keyOf 0 n lo hi t h in go (t 
 -- ---- a drawn page stands in the buffer, within it
 record Stands (s : List ℕ) (g : Drawn) : Type 0 where
   page : pageAt s (g .number) ≡ g .bytes
-  which : g .number < 64
+  which : g .number < pagesMost
 
-top-which : (s : List ℕ) (n : ℕ) (t : Tree ℕ Item n) → ((g : Drawn) → In g (drawnTree n t) → Stands s g) → topPage n t < 64
+top-which : (s : List ℕ) (n : ℕ) (t : Tree ℕ Item n) → ((g : Drawn) → In g (drawnTree n t) → Stands s g) → topPage n t < pagesMost
 unfolding drawnTree
 top-which s zero t d = d (record { number = t .number; bytes = leafPage (t .holds) }) (inl refl) .which
 top-which s (suc n) t d = d (record { number = t .number; bytes = innerPage (suc n) (map (childOf n) (t .holds)) }) (inl refl) .which
@@ -112,7 +113,7 @@ back : (n least lo : ℕ) (hi : Option ℕ) (s : List ℕ) (t : Tree ℕ Item n)
 unfolding treeOf counted flat drawnTree
 back zero least lo hi s t c r e f d =
     let p = d (record { number = t .number; bytes = leafPage (t .holds) }) (inl refl) .page in
-    let es : entriesOf (pageAt s (t .number)) ≡ t .holds = ap entriesOf p ∙ leaf-entries (t .holds) (leb-true (length (t .holds)) 24 c) f in
+    let es : entriesOf (pageAt s (t .number)) ≡ t .holds = ap entriesOf p ∙ leaf-entries (t .holds) (leb-true (length (t .holds)) leafMost c) f in
     record {
       tree = ap (λ xs. record { number = t .number; holds = xs }) es;
       laid = p ∙ ap leafPage (sym es);
@@ -131,7 +132,7 @@ back (suc n) least lo hi s t c r e f d =
     let xs : childrenOf (pageAt s q) ≡ map (childOf n) cs =
     ap childrenOf p ∙ inner-children (suc n) (map (childOf n) cs) (omega (arith, length-map cs (childOf n), m .many)) small in
     let b : (c : Child ℕ (Tree ℕ Item n)) → In c cs → Back n s (c .tree) = λ c i.
-    back n 15 (k c i .low) (k c i .high) s (c .tree) (all-in (λ c. counted ℕ Item documentSizes 15 n (c .tree)) cs c (m .each) i) (k c i .keys)
+    back n innerFewest (k c i .low) (k c i .high) s (c .tree) (all-in (λ c. counted ℕ Item documentSizes innerFewest n (c .tree)) cs c (m .each) i) (k c i .keys)
     (k c i .ends) (λ x j. f x (in-join (λ (c : Child ℕ (Tree ℕ Item n)). flat ℕ Item n (c .tree)) cs c x i j)) (below c i) in
     record {
       tree = inner-back n s q cs xs b;
@@ -161,7 +162,7 @@ module _ (x : Index ℕ Item) (w : WholeIndex compare keyOf 0 (some endMark) doc
       back (x .level) 2 0 (some endMark) (pagesOf x) (x .tree) (w .counts) (w .keys) (λ k i. omega (arith, under-below k endMark i)) f tree-stands
 
   -- so each level has a page of its own
-  low : x .level < 64
+  low : x .level < pagesMost
   low =
       let n = x .level in
       let s = pagesOf x in

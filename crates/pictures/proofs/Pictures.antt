@@ -9,6 +9,7 @@ use mathlib.Core.Option.{Option, none, some}
 use native.Mathlib.Omega.{arith}
 use borrow.Author.Tests.{eqb-true, eq-eqb, leb-true, ltb-true}
 use lib.Dec.{eqb, leb, ltb}
+use Rattle.limits.specs.Limits.{transactionsMost}
 use Rattle.lists.specs.Lists.{In, all, pairs, first}
 use Rattle.lists.proofs.Tests.{and-left, and-right}
 use Rattle.lists.proofs.Elements.{all-in, first-in}
@@ -113,7 +114,7 @@ module _ (s : St book) (d : Drawable s) where
   owner-small e (inl z) = omega arith
   owner-small e (inr w) =
       let k = runs-known book s (d .good) (e .owner) (w .0) in
-      let m = leb-true (e .owner) 16 (and-right (leb 1 (e .owner)) (leb (e .owner) 16) k) in omega arith
+      let m = leb-true (e .owner) transactionsMost (and-right (leb 1 (e .owner)) (leb (e .owner) transactionsMost) k) in omega arith
 
   entry-small : (e : Item) → In e (s .entries) → EntryFits e
   unfolding ascending

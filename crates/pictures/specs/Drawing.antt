@@ -6,6 +6,7 @@ use mathlib.Core.List.{List, [], _∷_, map}
 use mathlib.Core.Option.{Option, none, some}
 use lib.Dec.{eqb}
 use lib.ListN.{replicate}
+use Rattle.limits.specs.Limits.{pagesMost, pageSize}
 use Rattle.lists.specs.Lists.{In, first, join, tab}
 use Rattle.rules.specs.Kinds.{Queued}
 use Rattle.rules.specs.Queue.{St}
@@ -46,7 +47,7 @@ drawnIndex x =
 
 -- page q of these; "Unused bytes are zero", pages that are not used too
 abbrev pub bytesIf : Option Drawn → List ℕ
-bytesIf none = replicate 512 0
+bytesIf none = replicate pageSize 0
 bytesIf (some g) = g .bytes
 
 unfoldable pub drawnPage : List Drawn → ℕ → List ℕ
@@ -54,7 +55,7 @@ drawnPage gs q = bytesIf (first (λ g. eqb (g .number) q) gs)
 
 -- the page buffer
 unfoldable pub pagesOf : Index ℕ Item → List ℕ
-pagesOf x = join (drawnPage (drawnIndex x)) (tab 64 0 (λ q. q))
+pagesOf x = join (drawnPage (drawnIndex x)) (tab pagesMost 0 (λ q. q))
 
 -- ---- the picture of a state
 -- the entry of a key; where the list has none, an absent one stands in

@@ -8,7 +8,7 @@ use libc::STDIN_FILENO;
 use libc::STDOUT_FILENO;
 
 // The longest record that there is. Of one that says to be longer nothing more is waited for: it is bad, whatever follows.
-const LONGEST: usize = 24;
+const LONGEST: usize = limits::READ_SIZE;
 
 // How much of the input is read and not yet answered, less than a record; and whether to go on.
 struct Rest {
@@ -138,9 +138,9 @@ fn go_through(pages: &mut [u8], desk: &mut [u8], answers: &mut [u8], input: &mut
 
 // The whole stream.
 pub fn run() {
-    let mut pages = [0u8; 32768];
-    let mut desk = [0u8; 4672];
-    let mut answers = [0u8; 320];
+    let mut pages = [0u8; limits::PAGES_SIZE];
+    let mut desk = [0u8; limits::DESK_SIZE];
+    let mut answers = [0u8; limits::SPACE_LEAST];
     let mut input = io::large_buffer();
     desk::keydesk_fresh(&mut pages, &mut desk);
     go_through(&mut pages, &mut desk, &mut answers, &mut input);
