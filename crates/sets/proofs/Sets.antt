@@ -66,6 +66,20 @@ has-with s n u = go (decLt n 64) (decLt u 64)
 unfoldable pub timesIn : ℕ → Set → ℕ
 timesIn n s = cond (has s n) 1 0
 
+pub times-of-has : (s : Set) (n : ℕ) (b : Bool) → has s n ≡ b → timesIn n s ≡ cond b 1 0
+unfolding timesIn
+times-of-has s n b e = ap (λ x. cond {A = ℕ} x 1 0) e
+
+pub has-of-times : (s : Set) (n : ℕ) (b : Bool) → timesIn n s ≡ cond b 1 0 → has s n ≡ b
+unfolding timesIn
+has-of-times s n = go (has s n)
+  where
+    go : (a b : Bool) → _≡_ {A = ℕ} (cond a 1 0) (cond b 1 0) → a ≡ b
+    go true true e = refl
+    go false false e = refl
+    go true false e = never (sym e)
+    go false true e = never e
+
 pub in-once : (s : Set) (n : ℕ) → timesIn n s ≤ 1
 unfolding timesIn
 in-once s n = go (has s n)
@@ -83,9 +97,13 @@ in-with s n u z = ap (λ b. cond {A = ℕ} b 1 0) (has-with s n u) ∙ go (has s
     go true e false f = refl
     go true e true f = let q : has s n ≡ true = ap (has s) (eqb-true n u f) ∙ e in never (sym z ∙ ap (λ b. cond {A = ℕ} b 1 0) q)
 
-pub in-alone : (n u : ℕ) → timesIn u (withOne empty n) ≡ cond (eqb n u) 1 0
-unfolding timesIn
-in-alone n u = omega (arith, in-with empty n u (none n), none u)
-  where
-    none : (n : ℕ) → timesIn n empty ≡ 0
-    none n = ap (λ b. cond {A = ℕ} b 1 0) (has-none n)
+-- one alone
+module _ (n u : ℕ) where
+  alone : timesIn u (withOne empty n) ≡ cond (eqb n u) 1 0
+  alone = omega (arith, in-with empty n u (times-of-has empty n false (has-none n)), times-of-has empty u false (has-none u))
+
+  pub alone-one : n ≡ u → timesIn u (withOne empty n) ≡ 1
+  alone-one e = alone ∙ ap (λ b. cond {A = ℕ} b 1 0) (eq-eqb n u e)
+
+  pub alone-none : (n ≡ u → ⊥) → timesIn u (withOne empty n) ≡ 0
+  alone-none e = alone ∙ ap (λ b. cond {A = ℕ} b 1 0) (ne-eqb n u e)

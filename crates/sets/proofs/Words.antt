@@ -3,7 +3,7 @@
 use Prim.Native.Nat.{ℕ, zero, suc, _*_, _/_, _%_, _^_, _<_}
 use mathlib.Core.Path.{_≡_, refl, sym, ap, _∙_}
 use mathlib.Core.Bool.{false, _||_}
-use native.Mathlib.Nat.{mod-lt, zero-div, div-one, div-eq-of-lt, one-mul, pow-succ', mul-div-mul-left}
+use native.Mathlib.Nat.{mod-lt, zero-div, div-eq-of-lt, one-mul, pow-succ', mul-div-mul-left}
 use native.Mathlib.Omega.{arith}
 use lib.Bits.{bitOr, or-shr, or-mod}
 use lib.Dec.{eqb, eqb·zero-suc, eqb·suc-zero, eqb·suc-suc}
