@@ -1,15 +1,16 @@
 -- The search for circles as the code does it, on sets that are numbers: what one link adds, what so many links reach, and whether a chain
 -- comes back. (Document 01, "Working the queue"; the laws tie it to rules/specs/Queue.) Assumes nothing.
-use Prim.Native.Nat.{ℕ, zero, suc, _+_, _-_, _^_}
+use Prim.Native.Nat.{ℕ, zero, suc, _+_, _-_}
 use mathlib.Core.Bool.{Bool, cond}
 use mathlib.Core.List.{List}
 use lib.Bits.{bitOr}
 use lib.ListN.{length, getD}
+use Rattle.sets.specs.Sets.{wordWith}
 use Rattle.circles.specs.Sets.{has}
 
 -- a set with transaction t in it
 unfoldable pub withOne : ℕ → ℕ → ℕ
-withOne m t = bitOr m (2 ^ (t - 1))
+withOne m t = wordWith m (t - 1)
 
 -- a set with those of the row's sets, at n places from t on, whose transaction is in m
 unfoldable pub gathered : List ℕ → ℕ → ℕ → ℕ → ℕ → ℕ

@@ -1,19 +1,20 @@
--- Sets of transactions as numbers, a bit for each; and who waits behind whom as a row of such sets, one for each transaction.
+-- Sets of transactions as words, a bit for each; and who waits behind whom as a row of such sets, one for each transaction.
 -- (Document 01, "Working the queue"; rules/specs/Queue has the same of lists.) Assumes nothing.
-use Prim.Native.Nat.{ℕ, zero, suc, _/_, _%_, _^_}
+use Prim.Native.Nat.{ℕ, zero, suc}
 use mathlib.Core.Path.{_≡_}
 use mathlib.Core.Bool.{Bool, false, _&&_}
 use mathlib.Core.List.{List}
 use lib.Dec.{eqb}
 use lib.ListN.{getD}
 use Rattle.lists.specs.Lists.{member, any}
+use Rattle.sets.specs.Sets.{wordHas}
 use Rattle.rules.specs.Kinds.{Book}
 use Rattle.rules.specs.Queue.{Wait}
 
--- whether transaction t is in a set. Transactions count from 1 and bits from 0, so that 64 transactions fit 64 bits; nobody is transaction 0.
+-- whether transaction t is in a set. Transactions count from 1 and a word's numbers from 0, so that 64 transactions fit; nobody is transaction 0.
 unfoldable pub has : ℕ → ℕ → Bool
 has m zero = false
-has m (suc t) = eqb (m / 2 ^ t % 2) 1
+has m (suc t) = wordHas m t
 
 -- a set has just the members of a list
 pub record SetOf (m : ℕ) (us : List ℕ) : Type 0 where

@@ -1,10 +1,11 @@
 // Circles of waits. (Document 01, "Working the queue".)
-// A set of transactions is a number with a bit for each: bit t - 1 for transaction t, so that sixty-four fit. A row has
+// A set of transactions is a word of `sets`, with number t - 1 for transaction t, so that sixty-four fit. A row has
 // a set for each transaction, at the place of its number: whom its queued request waits behind. Place 0 is not used.
 ghost use mathlib.Core.Path.{_≡_};
 ghost use Prim.Native.Nat.{_≤_, _<_};
 ghost use Rattle.circles.specs.Sets.{has};
 ghost use Rattle.circles.specs.Search.{withOne, furtherOn, reachedOn, circleOn};
+use sets::word;
 
 // The set with t in it.
 pub fn with(m: u64, t: usize) -> u64
@@ -12,7 +13,7 @@ pub fn with(m: u64, t: usize) -> u64
     requires { ⌜ t ≤ 64 ⌝ }
     ensures { λ r. ⌜ r ≡ withOne m t ⌝ }
 {
-    m | (1 << (t - 1))
+    word::with(m, t - 1)
 }
 
 // Whether t is in the set.
@@ -21,7 +22,7 @@ pub fn is_in(m: u64, t: usize) -> bool
     requires { ⌜ t ≤ 64 ⌝ }
     ensures { λ r. ⌜ r ≡ has m t ⌝ }
 {
-    (m >> (t - 1)) % 2 == 1
+    word::has(m, t - 1)
 }
 
 // One link further: those of the set, and whom one of them waits behind.

@@ -16,7 +16,7 @@ use Rattle.lists.proofs.Tables.{tab-next, tab-done}
 use Rattle.rules.specs.Kinds.{Lock, Entry, on, end}
 use Rattle.rules.specs.Document.{endMark}
 use Rattle.numbers.specs.Numbers.{Bytes, numberAt, zeroAt}
-use Rattle.whole_pages.specs.Walks.{spanOf, marks, treeOk, wentOk, frontOk, treeIn, pagesOk}
+use Rattle.whole_pages.specs.Walks.{spanOf, onlyZero, marks, treeOk, wentOk, frontOk, treeIn, pagesOk}
 use Rattle.whole_pages.proofs.Marks.{reached, walk-is}
 use Rattle.whole_pages.proofs.Pages.{guard-went, went-ok}
 use Rattle.whole_pages.proofs.Tops.{read-first, height-some, front-parts}
@@ -147,8 +147,8 @@ unfolding pagesOk treeIn
 pages-tree s h =
     let a = both (frontOk s && wentOk (usedOf (pageAt s 0)) (treeIn s)) (zeroAt (32768 - 512 * usedOf (pageAt s 0)) (512 * usedOf (pageAt s 0)) s) h in
     let w = went-ok (usedOf (pageAt s 0)) (treeIn s) (both (frontOk s) (wentOk (usedOf (pageAt s 0)) (treeIn s)) (a .0) .1) in
-    guard-went (treeOk (heightOf (pageAt s 0) - 1) 2 s (spanOf (rootOf (pageAt s 0)) 0 endMark)) (marks (usedOf (pageAt s 0)) (reached (heightOf (pageAt s 0) - 1) s (rootOf (pageAt s 0))) 1) (w .0)
-    (sym (walk-is (heightOf (pageAt s 0) - 1) 2 s (usedOf (pageAt s 0)) (spanOf (rootOf (pageAt s 0)) 0 endMark) 1) ∙ w .1) .0
+    guard-went (treeOk (heightOf (pageAt s 0) - 1) 2 s (spanOf (rootOf (pageAt s 0)) 0 endMark)) (marks (usedOf (pageAt s 0)) (reached (heightOf (pageAt s 0) - 1) s (rootOf (pageAt s 0))) onlyZero) (w .0)
+    (sym (walk-is (heightOf (pageAt s 0) - 1) 2 s (usedOf (pageAt s 0)) (spanOf (rootOf (pageAt s 0)) 0 endMark) onlyZero) ∙ w .1) .0
 
 -- ---- the whole
 module _ (n : ℕ) (s d : List ℕ) (q : ℕ) (a : Bool) (e : a ≡ pairs slotTogether (slotsOf d)) where

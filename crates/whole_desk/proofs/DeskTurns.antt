@@ -13,10 +13,11 @@ use Rattle.lists.specs.Lists.{tab, all}
 use Rattle.lists.proofs.Tests.{and-left, and-right}
 use Rattle.lists.proofs.Tables.{tab-next, tab-done}
 use Rattle.numbers.specs.Numbers.{numberAt, fieldsAt, zeroAt}
+use Rattle.sets.specs.declared.Set.{Set}
 use Rattle.tables.specs.Layout.{queued, inPlace, isRunning}
 use Rattle.whole_pages.specs.declared.Trail.{Trail}
 use Rattle.whole_pages.specs.declared.Trail.the-variants.{Went, Bad}
-use Rattle.whole_pages.specs.Walks.{markAt, marks, after}
+use Rattle.whole_pages.specs.Walks.{onlyZero, markAt, marks, after}
 use Rattle.whole_desk.specs.Checks.{headOk, askersIn, recordOk, recordsOk, fieldsOk, slotOk, deskOk}
 
 -- ---- the head
@@ -59,11 +60,11 @@ module _ (d : List ℕ) (n : ℕ) (c : n ≡ numberAt 2 d 4) where
   pub askers-few : queued d ≤ 16 → n ≤ 16
   askers-few h = omega arith
 
-  pub askers-start : askersIn d ≡ marks 17 (tab (n - 0) 0 (inPlace d)) 1
+  pub askers-start : (m : Set) → m ≡ onlyZero → askersIn d ≡ marks 17 (tab (n - 0) 0 (inPlace d)) m
   unfolding askersIn
-  askers-start = ap (λ k. marks 17 (tab k 0 (inPlace d)) 1) (sym c ∙ sym (sub-zero n))
+  askers-start m e = ap₂ (λ k o. marks 17 (tab k 0 (inPlace d)) o) (sym c ∙ sym (sub-zero n)) (sym e)
 
-  module _ (m i t : ℕ) (w : Trail) (inv : askersIn d ≡ marks 17 (tab (n - i) i (inPlace d)) m) (l : i < n) (e : t ≡ numberAt 2 d (32 + 2 * i)) (f : w ≡ markAt 17 m t) where
+  module _ (m : Set) (i t : ℕ) (w : Trail) (inv : askersIn d ≡ marks 17 (tab (n - i) i (inPlace d)) m) (l : i < n) (e : t ≡ numberAt 2 d (32 + 2 * i)) (f : w ≡ markAt 17 m t) where
     step : askersIn d ≡ after w (marks 17 (tab (n - (i + 1)) (i + 1) (inPlace d)))
     unfolding marks
     step =
@@ -74,10 +75,10 @@ module _ (d : List ℕ) (n : ℕ) (c : n ≡ numberAt 2 d 4) where
     pub askers-twice : w ≡ Bad → Bad ≡ askersIn d
     askers-twice b = sym (step ∙ ap (λ x. after x (marks 17 (tab (n - (i + 1)) (i + 1) (inPlace d)))) b)
 
-    pub askers-next : (more : ℕ) → w ≡ Went more → askersIn d ≡ marks 17 (tab (n - (i + 1)) (i + 1) (inPlace d)) more
+    pub askers-next : (more : Set) → w ≡ Went more → askersIn d ≡ marks 17 (tab (n - (i + 1)) (i + 1) (inPlace d)) more
     askers-next more b = step ∙ ap (λ x. after x (marks 17 (tab (n - (i + 1)) (i + 1) (inPlace d)))) b
 
-  pub askers-end : (m i : ℕ) → askersIn d ≡ marks 17 (tab (n - i) i (inPlace d)) m → n ≤ i → Went m ≡ askersIn d
+  pub askers-end : (m : Set) (i : ℕ) → askersIn d ≡ marks 17 (tab (n - i) i (inPlace d)) m → n ≤ i → Went m ≡ askersIn d
   unfolding marks
   askers-end m i inv l = sym (inv ∙ ap (λ ts. marks 17 ts m) (tab-done n i (inPlace d) l))
 
@@ -118,7 +119,7 @@ module _ (d : List ℕ) (h : Bool) (e : h ≡ headOk d) where
       unfolding deskOk
       desk-lost b = sym (ap₂ (λ x y. (x && recordsOk d y) && all (slotOk d) (tab 256 0 (λ i. i))) (sym e ∙ not-false h t) (sym f ∙ b))
 
-      pub desk-done : (m : ℕ) (r s : Bool) → w ≡ Went m → r ≡ all (recordOk d m) (tab 16 1 (λ t. t)) → s ≡ all (slotOk d) (tab 256 0 (λ i. i)) → (r && s) ≡ deskOk d
+      pub desk-done : (m : Set) (r s : Bool) → w ≡ Went m → r ≡ all (recordOk d m) (tab 16 1 (λ t. t)) → s ≡ all (slotOk d) (tab 256 0 (λ i. i)) → (r && s) ≡ deskOk d
       unfolding deskOk
       desk-done m r s b a c =
           ap₂ (λ x y. x && y) a c

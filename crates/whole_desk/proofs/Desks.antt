@@ -1,13 +1,13 @@
 -- The desk passes its own test exactly where its bytes are those that its tables write, the queue is without repeats and of running ones
--- with legal requests, and every lock is held by one that runs. The askers are counted by the bits that the code sets. Assumes nothing.
+-- with legal requests, and every lock is held by one that runs. The askers are counted by the set that the code makes. Assumes nothing.
 use mathlib.Core.Path.{_≡_, refl, sym, ap, subst, _∙_}
 use mathlib.Core.Logic.{_⊎_, inl, inr}
 use mathlib.Core.Bool.{Bool, true, false, not, _&&_, false≢true}
 use mathlib.Core.List.{List, [], _∷_}
-use Prim.Native.Nat.{ℕ, zero, suc, _+_, _*_, _-_, _/_, _%_, _^_, _≤_, _<_}
+use Prim.Native.Nat.{ℕ, zero, suc, _+_, _*_, _-_, _/_, _%_, _≤_, _<_}
 use native.Mathlib.Decide.{decLt, ℕ-discrete}
 use native.Mathlib.Omega.{arith}
-use borrow.Author.Tests.{eqb-true, eq-eqb, ne-eqb, eqb-false, leb-true, le-leb}
+use borrow.Author.Tests.{eqb-true, eq-eqb, leb-true, le-leb}
 use lib.Dec.{eqb, leb, lit≤}
 use lib.ListN.{length, getD}
 use Rattle.lists.specs.Lists.{tab, all, pairs, times, In}
@@ -20,6 +20,8 @@ use Rattle.numbers.proofs.Numbers.{numberAt-ext, number-none}
 use Rattle.numbers.proofs.Moves.{zeroAt-true, zeroAt-is}
 use Rattle.numbers.proofs.Fields.{fields-inj, fields-none}
 use Rattle.numbers.proofs.Kept.{bytes-none}
+use Rattle.sets.specs.declared.Set.{Set}
+use Rattle.sets.proofs.Sets.{timesIn, times-of-has, has-of-times, in-once, alone-one, alone-none}
 use Rattle.rules.specs.Kinds.{Lock, Queued, Ask, read, insert, delete, idle}
 use Rattle.rules.specs.Locks.{inUse}
 use Rattle.rules.specs.Desk as D
@@ -29,10 +31,8 @@ use Rattle.tables.proofs.Marks.{running-is}
 use Rattle.tables.proofs.Queues.{length-queue}
 use Rattle.whole_pages.specs.declared.Trail.{Trail}
 use Rattle.whole_pages.specs.declared.Trail.the-variants.{Went, Bad}
-use Rattle.whole_pages.specs.Walks.{marks}
-use Rattle.whole_pages.proofs.Bits.{bit, bit-is}
+use Rattle.whole_pages.specs.Walks.{onlyZero, marks}
 use Rattle.whole_pages.proofs.Marks.{marks-went, marks-used, marks-go}
-use Rattle.whole_pages.proofs.Pages.{one-at, one-past}
 use Rattle.desks.specs.States.{book, deskWith}
 use Rattle.desks.specs.Fitting.{Fitting}
 use Rattle.desks.proofs.Itself.{reads-desk, itself-reads}
@@ -57,11 +57,6 @@ unfolding D.legalAsk
 legal-same (read lo hi) = refl
 legal-same (insert k r) = refl
 legal-same (delete k) = refl
-
-bit-small : (m q : ℕ) → bit m q ≤ 1
-unfolding bit
-bit-small m zero = omega arith
-bit-small m (suc q) = bit-small (m / 2) q
 
 -- ---- the head
 module _ (d : List ℕ) where
@@ -106,7 +101,7 @@ module _ (d : List ℕ) (g : Bytes d) (size : length d ≡ 4672) where
   abbrev queue : List ℕ
   queue = tab (queued d) 0 (inPlace d)
 
-  went : (w : Trail) → recordsOk d w ≡ true → (m : ℕ) × (w ≡ Went m) × (all (recordOk d m) (tab 16 1 (λ t. t)) ≡ true)
+  went : (w : Trail) → recordsOk d w ≡ true → (m : Set) × (w ≡ Went m) × (all (recordOk d m) (tab 16 1 (λ t. t)) ≡ true)
   went (Went m) h = (m, refl, h)
   went Bad h = absurd (false≢true h)
 
@@ -119,40 +114,30 @@ module _ (d : List ℕ) (g : Bytes d) (size : length d ≡ 4672) where
   unfolding queuedAt
   stands-at i a b = and-both (D.isRunning (getD (marksOf d) (inPlace d i) idle)) (D.legalAsk book (askAt d (inPlace d i))) a b
 
-  -- a bit that is set is a transaction in the queue
-  module _ (m : ℕ) (w : marks 17 (tab (queued d) 0 (inPlace d)) 1 ≡ Went m) where
-    bit-times : (t : ℕ) → 1 ≤ t → bit m t ≡ times t queue
-    bit-times t h = let a = marks-went 17 queue 1 m w t in let b = one-past t h in omega arith
+  -- whoever is in the set is a transaction in the queue
+  module _ (m : Set) (w : marks 17 (tab (queued d) 0 (inPlace d)) onlyZero ≡ Went m) where
+    set-times : (t : ℕ) → 1 ≤ t → timesIn t m ≡ times t queue
+    set-times t h = let a = marks-went 17 queue onlyZero m w t in let b = alone-none 0 t (λ e. omega arith) in omega arith
 
     nobody-waits : times 0 queue ≡ 0
-    nobody-waits = let a = marks-went 17 queue 1 m w 0 in let b = one-at in omega (arith, bit-small m 0)
+    nobody-waits = let a = marks-went 17 queue onlyZero m w 0 in let b = alone-one 0 0 refl in omega (arith, in-once m 0)
 
     listed-there : (t : ℕ) → 1 ≤ t → listed m t ≡ true → 0 < times t queue
-    listed-there t h e = let a = bit-times t h in let b : bit m t ≡ 1 = bit-is m t ∙ eqb-true (m / 2 ^ t % 2) 1 e in omega arith
+    listed-there t h e = let a = set-times t h in let b = times-of-has m t true e in omega arith
 
     there-listed : (t : ℕ) → 1 ≤ t → 0 < times t queue → listed m t ≡ true
-    there-listed t h l =
-        let a = bit-times t h in
-        let b = bit-is m t in
-        eq-eqb (m / 2 ^ t % 2) 1 (omega (arith, bit-small m t))
+    there-listed t h l = let a = set-times t h in has-of-times m t true (omega (arith, in-once m t))
 
     unlisted-none : (t : ℕ) → 1 ≤ t → listed m t ≡ false → times t queue ≡ 0
-    unlisted-none t h e =
-        let a = bit-times t h in
-        let b : m / 2 ^ t % 2 ≡ 1 → ⊥ = eqb-false (m / 2 ^ t % 2) 1 e in
-        let c = bit-is m t in
-        omega (arith, bit-small m t)
+    unlisted-none t h e = sym (set-times t h) ∙ times-of-has m t false e
 
     none-unlisted : (t : ℕ) → 1 ≤ t → times t queue ≡ 0 → listed m t ≡ false
-    none-unlisted t h e =
-        let a = bit-times t h in
-        let b = bit-is m t in
-        ne-eqb (m / 2 ^ t % 2) 1 (λ q. omega arith)
+    none-unlisted t h e = has-of-times m t false (set-times t h ∙ e)
 
     asker-range : (t : ℕ) → 0 < times t queue → (1 ≤ t) × (t ≤ 16)
     asker-range t h = (
       elim (ℕ-discrete t 0) [ yes e ↦ absurd (let z : times t queue ≡ 0 = subst (λ x. times x queue ≡ 0) (sym e) nobody-waits in omega arith) | no e ↦ omega arith ],
-      elim (decLt t 17) [ yes l ↦ omega arith | no l ↦ absurd (let z = marks-used 17 queue 1 m w t (omega arith) in omega arith) ],
+      elim (decLt t 17) [ yes l ↦ omega arith | no l ↦ absurd (let z = marks-used 17 queue onlyZero m w t (omega arith) in omega arith) ],
     )
 
   pub desk-sound : deskOk d ≡ true → DeskGood d
@@ -188,16 +173,16 @@ module _ (d : List ℕ) (g : Bytes d) (size : length d ≡ 4672) where
           → fieldsAt headWidths d 0 ≡ 4672 ∷ 8 ∷ queued d ∷ 0 ∷ 0 ∷ 0 ∷ 0 ∷ []
       fields f z = head-fields (f .0) (f .1) z
 
-      one : (i : ℕ) → 0 ≤ i → i < 0 + queued d → (m : ℕ) → marks 17 (tab (queued d) 0 (inPlace d)) 1 ≡ Went m → ((t : ℕ) → 1 ≤ t → t ≤ 16 → recordOk d m t ≡ true) → stands d (queuedAt d i) ≡ true
+      one : (i : ℕ) → 0 ≤ i → i < 0 + queued d → (m : Set) → marks 17 (tab (queued d) 0 (inPlace d)) onlyZero ≡ Went m → ((t : ℕ) → 1 ≤ t → t ≤ 16 → recordOk d m t ≡ true) → stands d (queuedAt d i) ≡ true
       one i a b m w each =
           let c = there-counts d (queued d) 0 i a b in
           let r = asker-range m w (inPlace d i) c in
           let e = record-stands d (inPlace d i) (r .0) (r .1) m (each (inPlace d i) (r .0) (r .1)) (there-listed m w (inPlace d i) (r .0) c) in
           stands-at i (running-is d (inPlace d i) (r .0) (r .1) ∙ e .0) (legal-same (askAt d (inPlace d i)) ∙ e .1)
 
-      once : (m : ℕ) → marks 17 (tab (queued d) 0 (inPlace d)) 1 ≡ Went m → (q : ℕ) → Dec (q ≡ 0) → times q (tab (queued d) 0 (inPlace d)) ≤ 1
+      once : (m : Set) → marks 17 (tab (queued d) 0 (inPlace d)) onlyZero ≡ Went m → (q : ℕ) → Dec (q ≡ 0) → times q (tab (queued d) 0 (inPlace d)) ≤ 1
       once m w q (yes e) = let z : times q queue ≡ 0 = subst (λ x. times x queue ≡ 0) (sym e) (nobody-waits m w) in omega arith
-      once m w q (no e) = let a = bit-times m w q (omega arith) in omega (arith, bit-small m q)
+      once m w q (no e) = let a = set-times m w q (omega arith) in omega (arith, in-once m q)
 
   fields-head : fieldsAt headWidths d 0 ≡ 4672 ∷ 8 ∷ queued d ∷ 0 ∷ 0 ∷ 0 ∷ 0 ∷ [] → (numberAt 2 d 0 ≡ 4672) × (numberAt 2 d 2 ≡ 8) × Agree 26 d 6 [] 0
   unfolding fieldsAt widthOf
@@ -214,14 +199,14 @@ module _ (d : List ℕ) (g : Bytes d) (size : length d ≡ 4672) where
       let own : (t : ℕ) → 0 < times t queue → (D.isRunning (getD (marksOf d) t idle) ≡ true) × (D.legalAsk book (askAt d t) ≡ true) =
       (λ t l. both (D.isRunning (getD (marksOf d) t idle)) (D.legalAsk book (askAt d t)) (all-in (stands d) (tab (queued d) 0 (queuedAt d)) (record { asker = t; asks = askAt d t }) (k .queue) (counts-there d t (queued d) 0 l))) in
       let one = apart-once d (queued d) 0 (k .askers) in
-      let w = marks-go 17 queue 1
+      let w = marks-go 17 queue onlyZero
       (λ q l. let r = mark-only d q (own q l .0) in let s = r .1 in omega arith)
       (λ q. elim (ℕ-discrete q 0) [
         | yes e ↦ elim (ℕ-discrete (times q queue) 0) [
-          | yes z ↦ let b : bit 1 q ≡ 1 = ap (bit 1) e ∙ one-at in omega arith
+          | yes z ↦ let b = alone-one 0 q (sym e) in omega arith
           | no z ↦ absurd (let r = mark-only d q (own q (omega arith) .0) in let s = r .0 in omega arith)
         ]
-        | no e ↦ let b = one-past q (omega arith) in omega (arith, one q)
+        | no e ↦ let b = alone-none 0 q (λ z. e (sym z)) in omega (arith, one q)
       ]) in
       and-both (headOk d && recordsOk d (askersIn d)) (all (slotOk d) (tab 256 0 (λ i. i)))
       (and-both (headOk d) (recordsOk d (askersIn d))
@@ -237,7 +222,7 @@ module _ (d : List ℕ) (g : Bytes d) (size : length d ≡ 4672) where
       let m = mark-only d (l .holder) r in
       (m .1, sym (running-is d (l .holder) (m .0) (m .1)) ∙ r))))
     where
-      way : (m : ℕ) → marks 17 (tab (queued d) 0 (inPlace d)) 1 ≡ Went m → (t : ℕ) → 1 ≤ t → t ≤ 16
+      way : (m : Set) → marks 17 (tab (queued d) 0 (inPlace d)) onlyZero ≡ Went m → (t : ℕ) → 1 ≤ t → t ≤ 16
           → ((t : ℕ) → 0 < times t (tab (queued d) 0 (inPlace d)) → (D.isRunning (getD (marksOf d) t idle) ≡ true) × (D.legalAsk book (askAt d t) ≡ true))
           → (n : ℕ) → times t (tab (queued d) 0 (inPlace d)) ≡ n
           → ((listed m t ≡ true) × (0 < times t (tab (queued d) 0 (inPlace d))) × (isRunning d t ≡ true) × (D.legalAsk (document endless) (askAt d t) ≡ true))

@@ -15,6 +15,7 @@ use Rattle.lists.specs.Lists.{tab, first, times}
 use Rattle.lists.proofs.Tests.{both, and-both, either, or-left, or-right}
 use Rattle.lists.proofs.Tables.{getD-tab}
 use Rattle.numbers.specs.Numbers.{numberAt, fieldsAt}
+use Rattle.sets.specs.declared.Set.{Set}
 use Rattle.rules.specs.Kinds.{Ask, read, insert, delete, Queued, Mark, idle, running}
 use Rattle.rules.specs.Desk as D
 use Rattle.rules.specs.Document.{document, endless}
@@ -141,7 +142,7 @@ module _ (d : List ℕ) (t : ℕ) (low : 1 ≤ t) (high : t ≤ 16) where
   unfolding queueOf
   own-some h = first-own d t (queued d) 0 h
 
-  pub record-told : (m : ℕ) → recordOk d m t ≡ true → (listed m t ≡ true → 0 < times t (tab (queued d) 0 (inPlace d))) → (listed m t ≡ false → times t (tab (queued d) 0 (inPlace d)) ≡ 0)
+  pub record-told : (m : Set) → recordOk d m t ≡ true → (listed m t ≡ true → 0 < times t (tab (queued d) 0 (inPlace d))) → (listed m t ≡ false → times t (tab (queued d) 0 (inPlace d)) ≡ 0)
       → recordAt d t ≡ told
   unfolding recordOk plainOk recordAt fieldsAt askIn
   record-told m h yes′ no′ =
@@ -173,7 +174,7 @@ module _ (d : List ℕ) (t : ℕ) (low : 1 ≤ t) (high : t ≤ 16) where
       twice true h = refl
       twice false h = h
 
-  pub record-stands : (m : ℕ) → recordOk d m t ≡ true → listed m t ≡ true → (isRunning d t ≡ true) × (D.legalAsk (document endless) (askAt d t) ≡ true)
+  pub record-stands : (m : Set) → recordOk d m t ≡ true → listed m t ≡ true → (isRunning d t ≡ true) × (D.legalAsk (document endless) (askAt d t) ≡ true)
   unfolding recordOk
   record-stands m h l =
       let a = both (plainOk (recordAt d t)) ((((listed m t && isWaiting d t) && isRunning d t) && D.legalAsk (document endless) (askAt d t)) || (not (listed m t) && not (isWaiting d t))) h in
@@ -203,7 +204,7 @@ module _ (d : List ℕ) (t : ℕ) (low : 1 ≤ t) (high : t ≤ 16) where
       (and-both (leb (numberAt 2 d at) 1) (formOk (numberAt 2 d (at + 2)) (numberAt 4 d (at + 2 + 2)) (numberAt 8 d (at + 2 + 2 + 4)) (numberAt 8 d (at + 2 + 2 + 4 + 8)))
       (le-leb (numberAt 2 d at) 1 (omega (arith, number-small (getD (marksOf d) t idle)))) f) (eq-eqb (numberAt 8 d (at + 2 + 2 + 4 + 8 + 8)) 0 z)
 
-  pub told-record : (m : ℕ) → recordAt d t ≡ told
+  pub told-record : (m : Set) → recordAt d t ≡ told
       → ((listed m t ≡ true) × (0 < times t (tab (queued d) 0 (inPlace d))) × (isRunning d t ≡ true) × (D.legalAsk (document endless) (askAt d t) ≡ true))
       ⊎ ((listed m t ≡ false) × (times t (tab (queued d) 0 (inPlace d)) ≡ 0)) → recordOk d m t ≡ true
   unfolding recordOk recordAt fieldsAt askIn

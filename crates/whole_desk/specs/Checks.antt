@@ -1,18 +1,20 @@
 -- The tests that the code makes of the desk's bytes, in the order in which it makes them. They are not for readers: what they come to is
 -- shown in ../proofs. Assumes nothing.
-use Prim.Native.Nat.{ℕ, _+_, _*_, _-_, _/_, _%_, _^_}
+use Prim.Native.Nat.{ℕ, _+_, _*_, _-_}
 use mathlib.Core.Bool.{Bool, false, cond, not, _&&_, _||_}
 use mathlib.Core.List.{List}
 use lib.Dec.{eqb, leb}
 use lib.ListN.{getD}
 use Rattle.lists.specs.Lists.{tab, all}
 use Rattle.numbers.specs.Numbers.{numberAt, fieldsAt, zeroAt}
+use Rattle.sets.specs.declared.Set.{Set}
+use Rattle.sets.specs.Sets.{has}
 use Rattle.rules.specs.Desk.{legalAsk}
 use Rattle.rules.specs.Document.{document, endless}
 use Rattle.tables.specs.Layout.{queued, inPlace, recordAt, isRunning, isWaiting, askAt, lockWidths, lockPlace}
 use Rattle.whole_pages.specs.declared.Trail.{Trail}
 use Rattle.whole_pages.specs.declared.Trail.the-variants.{Went, Bad}
-use Rattle.whole_pages.specs.Walks.{marks}
+use Rattle.whole_pages.specs.Walks.{onlyZero, marks}
 
 -- the head: length, kind, count, the 26 zeros, and nothing in the places of the queue that are not used
 unfoldable pub headOk : List ℕ → Bool
@@ -22,7 +24,7 @@ headOk d =
 
 -- the askers, each seen once; nobody, number 0, is set down beforehand, and there is no transaction from 17 on
 unfoldable pub askersIn : List ℕ → Trail
-askersIn d = marks 17 (tab (queued d) 0 (inPlace d)) 1
+askersIn d = marks 17 (tab (queued d) 0 (inPlace d)) onlyZero
 
 -- a waiting request by its fields, kind, record, lo and hi: none, a read, an insert or a delete, each with what it does not use zero
 abbrev pub formOk : ℕ → ℕ → ℕ → ℕ → Bool
@@ -34,10 +36,10 @@ unfoldable pub plainOk : List ℕ → Bool
 plainOk vs = (leb (getD vs 0 0) 1 && formOk (getD vs 1 0) (getD vs 2 0) (getD vs 3 0) (getD vs 4 0)) && eqb (getD vs 5 0) 0
 
 -- a transaction's record: it waits if it is in the queue, and then it runs and its request is legal
-abbrev pub listed : ℕ → ℕ → Bool
-listed m t = eqb (m / 2 ^ t % 2) 1
+abbrev pub listed : Set → ℕ → Bool
+listed m t = has m t
 
-unfoldable pub recordOk : List ℕ → ℕ → ℕ → Bool
+unfoldable pub recordOk : List ℕ → Set → ℕ → Bool
 recordOk d m t =
     plainOk (recordAt d t)
     && ((((listed m t && isWaiting d t) && isRunning d t) && legalAsk (document endless) (askAt d t)) || (not (listed m t) && not (isWaiting d t)))

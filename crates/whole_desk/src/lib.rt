@@ -7,6 +7,7 @@ ghost use Rattle.lists.specs.Lists.{tab, all};
 ghost use Rattle.tables.specs.Layout.{queued, recordPlace, recordAt};
 ghost use Rattle.whole_desk.specs.Checks.{headOk, askersIn, formOk, plainOk, recordOk, slotOk, deskOk};
 use entries::Key;
+use sets::Set;
 use tables::transactions;
 use whole_pages::Trail;
 
@@ -24,14 +25,14 @@ fn has_head(d: &[u8]) -> bool
     numbers::is_zero(d, 32 + 2 * n, 32 - 2 * n)
 }
 
-// The transactions in the queue, as bits: "queue without repeats". Bit 0, nobody's, is set.
+// The transactions in the queue: "queue without repeats". Number 0, nobody's, is set down beforehand.
 fn askers(d: &[u8]) -> Trail
     requires { ⌜ length (now d) ≡ 4672 ⌝ }
     requires { ⌜ queued (now d) ≤ 16 ⌝ }
     ensures { λ r. ⌜ r ≡ askersIn (now (d .entry)) ⌝ }
 {
     let n = numbers::number_at(d, 4);
-    let mut m: u64 = 1;
+    let mut m = Set::NONE.with(0);
     let mut i: usize = 0;
     while i < n {
         let t = numbers::number_at(d, 32 + 2 * i);
@@ -84,12 +85,12 @@ fn is_plain(d: &[u8], t: u16) -> bool
 }
 
 // Whether a transaction's record is in order: one that is in the queue waits, runs, and its request is legal; any other does not wait.
-fn is_record(d: &[u8], seen: u64, t: u16) -> bool
+fn is_record(d: &[u8], seen: Set, t: u16) -> bool
     requires { ⌜ length (now d) ≡ 4672 ⌝ }
     requires { ⌜ t ≤ 16 ⌝ }
     ensures { λ r. ⌜ r ≡ recordOk (now (d .entry)) seen t ⌝ }
 {
-    let listed = (seen >> t) % 2 == 1;
+    let listed = seen.has(t as usize);
     let waits = transactions::is_waiting(d, t);
     let ask = transactions::ask_at(d, t);
     let runs = transactions::is_running(d, t);
@@ -98,7 +99,7 @@ fn is_record(d: &[u8], seen: u64, t: u16) -> bool
 }
 
 // Whether every transaction's record is in order.
-fn are_records(d: &[u8], seen: u64) -> bool
+fn are_records(d: &[u8], seen: Set) -> bool
     requires { ⌜ length (now d) ≡ 4672 ⌝ }
     ensures { λ r. ⌜ r ≡ all (recordOk (now (d .entry)) seen) (tab 16 1 (λ t. t)) ⌝ }
 {

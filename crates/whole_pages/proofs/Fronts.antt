@@ -1,17 +1,17 @@
 -- What the functions around the walk come to: a part that is lent is a page, the pages seen, page 0.
 -- Each in the very facts that the code has there. Assumes nothing.
 use mathlib.Core.Path.{_≡_, refl, sym, ap, _∙_}
-use mathlib.Core.Bool.{Bool, true, false, _&&_}
+use mathlib.Core.Bool.{Bool, _&&_}
 use mathlib.Core.List.{List}
-use Prim.Native.Nat.{ℕ, _+_, _*_, _-_, _/_, _%_, _^_, _≤_, _<_}
+use Prim.Native.Nat.{ℕ, _+_, _*_, _-_, _<_}
 use native.Mathlib.Nat.{sub-zero}
 use native.Mathlib.Omega.{arith}
-use borrow.Author.Tests.{eq-eqb, ne-eqb}
-use lib.Dec.{eqb, leb, ltb}
+use lib.Dec.{leb, ltb}
 use lib.ListN.{length, take, drop}
 use Rattle.lists.specs.Lists.{tab, all}
-use Rattle.lists.proofs.Tables.{all-next, all-done}
 use Rattle.numbers.proofs.Parts.{lent, length-part}
+use Rattle.sets.specs.declared.Set.{Set}
+use Rattle.sets.specs.Sets.{has}
 use Rattle.pages.specs.Layout.{countOf, usedOf, heightOf, childAt}
 use Rattle.pages.specs.declared.Child.{Child}
 use Rattle.index.specs.Pictures.{pageAt}
@@ -43,25 +43,9 @@ module _ (level least : ℕ) (s : List ℕ) (t : Span) (b : Bool) where
   inner-lent e z = e ∙ ap (innerOk level least (t .low .0) (t .high .0)) (page-lent s (t .page)) ∙ inner-page level least s t z
 
 -- ---- the pages seen
-module _ (used seen : ℕ) where
-  abbrev isSeen : ℕ → Bool
-  isSeen k = eqb (seen / 2 ^ k % 2) 1
-
-  pub seen-start : seenOk used seen ≡ all (λ k. eqb (seen / 2 ^ k % 2) 1) (tab (used - 0) 0 (λ k. k))
-  unfolding seenOk
-  seen-start = simp sub-zero
-
-  module _ (q : ℕ) (l : q < used) (w : seenOk used seen ≡ all (λ k. eqb (seen / 2 ^ k % 2) 1) (tab (used - q) q (λ k. k))) where
-    pub seen-bad : (seen / 2 ^ q % 2 ≡ 1 → ⊥) → false ≡ seenOk used seen
-    seen-bad h =
-        sym (w ∙ all-next isSeen used q (λ k. k) l ∙ ap (λ b. b && all isSeen (tab (used - (q + 1)) (q + 1) (λ k. k))) (ne-eqb (seen / 2 ^ q % 2) 1 h))
-
-    pub seen-next : seen / 2 ^ q % 2 ≡ 1 → seenOk used seen ≡ all (λ k. eqb (seen / 2 ^ k % 2) 1) (tab (used - (q + 1)) (q + 1) (λ k. k))
-    seen-next h =
-        w ∙ all-next isSeen used q (λ k. k) l ∙ ap (λ b. b && all isSeen (tab (used - (q + 1)) (q + 1) (λ k. k))) (eq-eqb (seen / 2 ^ q % 2) 1 h)
-
-  pub seen-end : (q : ℕ) → used ≤ q → seenOk used seen ≡ all (λ k. eqb (seen / 2 ^ k % 2) 1) (tab (used - q) q (λ k. k)) → true ≡ seenOk used seen
-  seen-end q l w = sym (w ∙ all-done isSeen used q (λ k. k) l)
+pub seen-start : (used : ℕ) (seen : Set) → seenOk used seen ≡ all (has seen) (tab (used - 0) 0 (λ q. q))
+unfolding seenOk
+seen-start used seen = simp sub-zero
 
 -- ---- page 0
 pub front-lent : (s : List ℕ) (a : Bool) (u h : ℕ) → a ≡ firstPageOk (take (512 - 0) (drop 0 s)) → u ≡ usedOf (take (512 - 0) (drop 0 s)) → h ≡ heightOf (take (512 - 0) (drop 0 s))

@@ -3,7 +3,6 @@ pub mod Layouts
 pub mod Entries
 pub mod Leaves
 pub mod Inners
-pub mod Bits
 pub mod WalkTurns
 pub mod Fronts
 pub mod Tops

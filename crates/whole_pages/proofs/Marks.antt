@@ -1,15 +1,18 @@
 -- The walk is the test of every page of the tree, and the setting down of the pages in their order: each page once, and only used ones.
--- The walk by induction on the level and the children; the pages by the bits, which count how often a page stands in the list.
+-- The walk by induction on the level and the children; the pages by the set, which counts how often a page stands in the list.
 -- Assumes nothing.
 use mathlib.Core.Path.{_≡_, refl, sym, ap, ap₂, _∙_}
-use mathlib.Core.Bool.{Bool, true, false, cond, _&&_}
+use mathlib.Core.Bool.{Bool, true, false, cond, not, _&&_}
 use mathlib.Core.List.{List, [], _∷_, _++_}
-use Prim.Native.Nat.{ℕ, zero, suc, _+_, _/_, _%_, _^_, _≤_, _<_}
+use Prim.Native.Nat.{ℕ, zero, suc, _+_, _≤_, _<_}
 use native.Mathlib.Nat.{add-zero}
 use native.Mathlib.Omega.{arith}
-use borrow.Author.Tests.{ltb-true, lt-ltb, eqb-true, eq-eqb, ne-eqb}
+use borrow.Author.Tests.{ltb-true, lt-ltb, eq-eqb, ne-eqb}
 use lib.Dec.{eqb, ltb}
 use Rattle.lists.specs.Lists.{all, join, times}
+use Rattle.sets.specs.declared.Set.{Set}
+use Rattle.sets.specs.Sets.{has, withOne}
+use Rattle.sets.proofs.Sets.{timesIn, times-of-has, has-of-times, in-with}
 use Rattle.pages.specs.Layout.{childrenOf}
 use Rattle.pages.specs.declared.Child.{Child}
 use Rattle.index.specs.Pictures.{pageAt}
@@ -17,7 +20,6 @@ use Rattle.whole_pages.specs.declared.Span.{Span}
 use Rattle.whole_pages.specs.declared.Trail.{Trail}
 use Rattle.whole_pages.specs.declared.Trail.the-variants.{Went, Bad}
 use Rattle.whole_pages.specs.Walks.{spans, after, guard, markAt, marks, pageOk, treeOk, walkOver, walkAt}
-use Rattle.whole_pages.proofs.Bits.{bit, bit-is, bit-add}
 
 -- the pages of the tree, in the order of the walk
 unfoldable pub reached : ℕ → List ℕ → ℕ → List ℕ
@@ -25,16 +27,16 @@ reached zero s q = q ∷ []
 reached (suc n) s q = q ∷ join (λ c. reached n s (c .page)) (childrenOf (pageAt s q))
 
 -- ---- trails
-after-ext : (w : Trail) (f g : ℕ → Trail) → ((k : ℕ) → f k ≡ g k) → after w f ≡ after w g
+after-ext : (w : Trail) (f g : Set → Trail) → ((k : Set) → f k ≡ g k) → after w f ≡ after w g
 after-ext (Went m) f g h = h m
 after-ext Bad f g h = refl
 
-after-guard : (w : Trail) (b : Bool) (f : ℕ → Trail) → after w (λ k. guard b (f k)) ≡ guard b (after w f)
+after-guard : (w : Trail) (b : Bool) (f : Set → Trail) → after w (λ k. guard b (f k)) ≡ guard b (after w f)
 after-guard (Went m) b f = refl
 after-guard Bad true f = refl
 after-guard Bad false f = refl
 
-guard-after : (b : Bool) (w : Trail) (f : ℕ → Trail) → after (guard b w) f ≡ guard b (after w f)
+guard-after : (b : Bool) (w : Trail) (f : Set → Trail) → after (guard b w) f ≡ guard b (after w f)
 guard-after true w f = refl
 guard-after false w f = refl
 
@@ -42,12 +44,12 @@ guard-both : (a b : Bool) (w : Trail) → guard a (guard b w) ≡ guard (a && b)
 guard-both true b w = refl
 guard-both false b w = refl
 
-marks-append : (used : ℕ) (ps qs : List ℕ) (m : ℕ) → marks used (ps ++ qs) m ≡ after (marks used ps m) (marks used qs)
+marks-append : (used : ℕ) (ps qs : List ℕ) (m : Set) → marks used (ps ++ qs) m ≡ after (marks used ps m) (marks used qs)
 unfolding marks
 marks-append used [] qs m = refl
 marks-append used (p ∷ ps) qs m = go (markAt used m p) (marks-append used ps qs)
   where
-    go : (w : Trail) → ((k : ℕ) → marks used (ps ++ qs) k ≡ after (marks used ps k) (marks used qs)) → after w (marks used (ps ++ qs)) ≡ after (after w (marks used ps)) (marks used qs)
+    go : (w : Trail) → ((k : Set) → marks used (ps ++ qs) k ≡ after (marks used ps k) (marks used qs)) → after w (marks used (ps ++ qs)) ≡ after (after w (marks used ps)) (marks used qs)
     go (Went k) more = more k
     go Bad more = refl
 
@@ -58,8 +60,8 @@ spans-join g lo hi (c ∷ []) = refl
 spans-join g lo hi (c ∷ d ∷ cs) = ap (λ xs. g (c .page) ++ xs) (spans-join g (d .low .0) hi (d ∷ cs))
 
 -- ---- the walk
-over-is : (used : ℕ) (f : Span → ℕ → Trail) (ok : Span → Bool) (r : Span → List ℕ) → ((t : Span) (m : ℕ) → f t m ≡ guard (ok t) (marks used (r t) m))
-    → (ts : List Span) (m : ℕ) → walkOver f ts m ≡ guard (all ok ts) (marks used (join r ts) m)
+over-is : (used : ℕ) (f : Span → Set → Trail) (ok : Span → Bool) (r : Span → List ℕ) → ((t : Span) (m : Set) → f t m ≡ guard (ok t) (marks used (r t) m))
+    → (ts : List Span) (m : Set) → walkOver f ts m ≡ guard (all ok ts) (marks used (join r ts) m)
 unfolding walkOver all join marks
 over-is used f ok r h [] m = refl
 over-is used f ok r h (t ∷ ts) m =
@@ -70,7 +72,7 @@ over-is used f ok r h (t ∷ ts) m =
     ∙ guard-both (ok t) (all ok ts) (after (marks used (r t) m) (marks used (join r ts)))
     ∙ ap (guard (ok t && all ok ts)) (sym (marks-append used (r t) (join r ts) m))
 
-pub walk-is : (n least : ℕ) (s : List ℕ) (used : ℕ) (t : Span) (m : ℕ) → walkAt n least s used t m ≡ guard (treeOk n least s t) (marks used (reached n s (t .page)) m)
+pub walk-is : (n least : ℕ) (s : List ℕ) (used : ℕ) (t : Span) (m : Set) → walkAt n least s used t m ≡ guard (treeOk n least s t) (marks used (reached n s (t .page)) m)
 unfolding walkAt treeOk reached marks
 walk-is zero least s used t m = after-guard (markAt used m (t .page)) (pageOk zero least s t) (λ k. Went k)
 walk-is (suc n) least s used t m =
@@ -85,40 +87,40 @@ walk-is (suc n) least s used t m =
     (spans-join (reached n s) (t .low .0) (t .high .0) (childrenOf (pageAt s (t .page))))
 
 -- ---- the pages set down
-module _ (used m q : ℕ) where
-  pub mark-is : q < used → bit m q ≡ 0 → markAt used m q ≡ Went (m + 2 ^ q)
+module _ (used : ℕ) (m : Set) (q : ℕ) where
+  pub mark-is : q < used → timesIn q m ≡ 0 → markAt used m q ≡ Went (withOne m q)
   unfolding markAt
-  mark-is h e = ap₂ (λ a b. cond (a && b) (Went (m + 2 ^ q)) Bad) (lt-ltb q used h) (eq-eqb (m / 2 ^ q % 2) 0 (sym (bit-is m q) ∙ e))
+  mark-is h e = ap₂ (λ a b. cond (a && not b) (Went (withOne m q)) Bad) (lt-ltb q used h) (has-of-times m q false e)
 
-  pub mark-went : (k : ℕ) → markAt used m q ≡ Went k → (q < used) × (bit m q ≡ 0) × (k ≡ m + 2 ^ q)
+  pub mark-went : (k : Set) → markAt used m q ≡ Went k → (q < used) × (timesIn q m ≡ 0) × (k ≡ withOne m q)
   unfolding markAt
-  mark-went k h = go (ltb q used) refl (eqb (m / 2 ^ q % 2) 0) refl h
+  mark-went k h = go (ltb q used) refl (has m q) refl h
     where
-      go : (a : Bool) → ltb q used ≡ a → (b : Bool) → eqb (m / 2 ^ q % 2) 0 ≡ b → cond (a && b) (Went (m + 2 ^ q)) Bad ≡ Went k → (q < used) × (bit m q ≡ 0) × (k ≡ m + 2 ^ q)
-      go true a true b h = (ltb-true q used a, bit-is m q ∙ eqb-true (m / 2 ^ q % 2) 0 b, cc)
-      go true a false b h = absurd (let z : _≡_ {A = ℕ} 0 1 = cc in omega arith)
+      go : (a : Bool) → ltb q used ≡ a → (b : Bool) → has m q ≡ b → cond (a && not b) (Went (withOne m q)) Bad ≡ Went k → (q < used) × (timesIn q m ≡ 0) × (k ≡ withOne m q)
+      go true a false b h = (ltb-true q used a, times-of-has m q false b, cc)
+      go true a true b h = absurd (let z : _≡_ {A = ℕ} 0 1 = cc in omega arith)
       go false a b c h = absurd (let z : _≡_ {A = ℕ} 0 1 = cc in omega arith)
 
-pub marks-went : (used : ℕ) (qs : List ℕ) (m k : ℕ) → marks used qs m ≡ Went k → (q : ℕ) → bit k q ≡ bit m q + times q qs
+pub marks-went : (used : ℕ) (qs : List ℕ) (m k : Set) → marks used qs m ≡ Went k → (q : ℕ) → timesIn q k ≡ timesIn q m + times q qs
 unfolding marks times
-marks-went used [] m k h q = let e : m ≡ k = cc in ap (λ x. bit x q) (sym e) ∙ sym (add-zero (bit m q))
+marks-went used [] m k h q = let e : m ≡ k = cc in ap (timesIn q) (sym e) ∙ sym (add-zero (timesIn q m))
 marks-went used (p ∷ ps) m k h q = go (markAt used m p) refl h (λ j f. marks-went used ps j k f q)
   where
-    go : (w : Trail) → markAt used m p ≡ w → after w (marks used ps) ≡ Went k → ((j : ℕ) → marks used ps j ≡ Went k → bit k q ≡ bit j q + times q ps)
-        → bit k q ≡ bit m q + (cond (eqb p q) 1 0 + times q ps)
+    go : (w : Trail) → markAt used m p ≡ w → after w (marks used ps) ≡ Went k → ((j : Set) → marks used ps j ≡ Went k → timesIn q k ≡ timesIn q j + times q ps)
+        → timesIn q k ≡ timesIn q m + (cond (eqb p q) 1 0 + times q ps)
     go (Went j) e f more =
         let a = mark-went used m p j e in
-        let b : bit k q ≡ bit j q + times q ps = more j f in
-        let c : bit j q ≡ bit m q + cond (eqb p q) 1 0 = ap (λ x. bit x q) (a .2) ∙ bit-add m p q (a .1) in
+        let b : timesIn q k ≡ timesIn q j + times q ps = more j f in
+        let c : timesIn q j ≡ timesIn q m + cond (eqb p q) 1 0 = ap (timesIn q) (a .2) ∙ in-with m p q (a .1) in
         omega arith
     go Bad e f more = absurd (let z : _≡_ {A = ℕ} 0 1 = cc in omega arith)
 
-pub marks-used : (used : ℕ) (qs : List ℕ) (m k : ℕ) → marks used qs m ≡ Went k → (q : ℕ) → used ≤ q → times q qs ≡ 0
+pub marks-used : (used : ℕ) (qs : List ℕ) (m k : Set) → marks used qs m ≡ Went k → (q : ℕ) → used ≤ q → times q qs ≡ 0
 unfolding marks times
 marks-used used [] m k h q l = refl
 marks-used used (p ∷ ps) m k h q l = go (markAt used m p) refl h (λ j f. marks-used used ps j k f q l)
   where
-    go : (w : Trail) → markAt used m p ≡ w → after w (marks used ps) ≡ Went k → ((j : ℕ) → marks used ps j ≡ Went k → times q ps ≡ 0)
+    go : (w : Trail) → markAt used m p ≡ w → after w (marks used ps) ≡ Went k → ((j : Set) → marks used ps j ≡ Went k → times q ps ≡ 0)
         → cond (eqb p q) 1 0 + times q ps ≡ 0
     go (Went j) e f more =
         let a : p < used = mark-went used m p j e .0 in
@@ -127,13 +129,13 @@ marks-used used (p ∷ ps) m k h q l = go (markAt used m p) refl h (λ j f. mark
         rw (c, b) refl
     go Bad e f more = absurd (let z : _≡_ {A = ℕ} 0 1 = cc in omega arith)
 
-pub marks-go : (used : ℕ) (qs : List ℕ) (m : ℕ) → ((q : ℕ) → 0 < times q qs → q < used) → ((q : ℕ) → bit m q + times q qs ≤ 1) → (k : ℕ) × (marks used qs m ≡ Went k)
+pub marks-go : (used : ℕ) (qs : List ℕ) (m : Set) → ((q : ℕ) → 0 < times q qs → q < used) → ((q : ℕ) → timesIn q m + times q qs ≤ 1) → (k : Set) × (marks used qs m ≡ Went k)
 unfolding marks times
 marks-go used [] m f g = (m, refl)
 marks-go used (p ∷ ps) m f g =
     let itself : eqb p p ≡ true = eq-eqb p p refl in
     let one : _≡_ {A = ℕ} (cond (eqb p p) 1 0) 1 = ap (λ b. cond {A = ℕ} b 1 0) itself in
-    let z : bit m p ≡ 0 = omega (arith, g p) in
+    let z : timesIn p m ≡ 0 = omega (arith, g p) in
     let l : p < used = f p (omega arith) in
-    let t = marks-go used ps (m + 2 ^ p) (λ q h. f q (omega arith)) (λ q. omega (arith, g q, bit-add m p q z)) in
+    let t = marks-go used ps (withOne m p) (λ q h. f q (omega arith)) (λ q. omega (arith, g q, in-with m p q z)) in
     (t .0, ap (λ w. after w (marks used ps)) (mark-is used m p l z) ∙ t .1)

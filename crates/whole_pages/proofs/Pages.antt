@@ -3,10 +3,10 @@
 use mathlib.Core.Path.{_≡_, refl, sym, ap, ap₂, _∙_}
 use mathlib.Core.Bool.{Bool, true, false, cond, _&&_, false≢true}
 use mathlib.Core.List.{List}
-use Prim.Native.Nat.{ℕ, zero, suc, _+_, _*_, _-_, _/_, _%_, _^_, _≤_, _<_}
+use Prim.Native.Nat.{ℕ, zero, suc, _+_, _*_, _-_, _≤_, _<_}
 use native.Mathlib.Decide.{decLt, ℕ-discrete}
 use native.Mathlib.Omega.{arith}
-use borrow.Author.Tests.{eqb-true, eq-eqb, le-leb, lt-ltb}
+use borrow.Author.Tests.{eq-eqb, le-leb, lt-ltb}
 use lib.Dec.{eqb, leb, ltb, lit≤}
 use lib.ListN.{length}
 use Rattle.lists.specs.Lists.{In}
@@ -17,6 +17,9 @@ use Rattle.numbers.specs.Numbers.{zeroAt, Bytes}
 use Rattle.numbers.proofs.Numbers.{number-below}
 use Rattle.numbers.proofs.Parts.{length-part}
 use Rattle.numbers.proofs.Kept.{bytes-part}
+use Rattle.sets.specs.declared.Set.{Set}
+use Rattle.sets.specs.Sets.{has}
+use Rattle.sets.proofs.Sets.{timesIn, times-of-has, has-of-times, alone-one, alone-none}
 use Rattle.rules.specs.Document.{endMark}
 use Rattle.trees.specs.Trees.{times, above}
 use Rattle.trees.proofs.Pages.{above-yes, above-no}
@@ -26,9 +29,8 @@ use Rattle.whole_pages.specs.declared.Span.{Span}
 use Rattle.whole_pages.specs.declared.Trail.{Trail}
 use Rattle.whole_pages.specs.declared.Trail.the-variants.{Went, Bad}
 use Rattle.whole_pages.specs.Checks.{firstPageOk}
-use Rattle.whole_pages.specs.Walks.{spanOf, guard, marks, treeOk, seenOk, wentOk, frontOk, treeIn, pagesOk}
+use Rattle.whole_pages.specs.Walks.{spanOf, onlyZero, guard, marks, treeOk, seenOk, wentOk, frontOk, treeIn, pagesOk}
 use Rattle.whole_pages.proofs.Entries.{Rests}
-use Rattle.whole_pages.proofs.Bits.{bit, bit-is, zero-bit}
 use Rattle.whole_pages.proofs.Marks.{reached, walk-is, marks-went, marks-used, marks-go}
 use Rattle.whole_pages.proofs.Trees.{times-reached, tree-facts, facts-tree}
 use Rattle.whole_pages.proofs.Firsts.{first-laid, laid-first, spare-zero, zero-spare}
@@ -38,21 +40,11 @@ pub record PagesFacts (s : List ℕ) : Type 0 where
   pub whole : WholePages s
   pub rests : (e : Item) → In e (entriesIn s) → e .owner ≡ 0 → Rests e
 
--- ---- page 0 is set down before the walk: the bits of 1
-pub one-at : bit 1 0 ≡ 1
-unfolding bit
-one-at = refl
-
-pub one-past : (q : ℕ) → 1 ≤ q → bit 1 q ≡ 0
-unfolding bit
-one-past zero h = absurd (omega arith)
-one-past (suc q) h = zero-bit q
-
-pub guard-went : (b : Bool) (w : Trail) (m : ℕ) → guard b w ≡ Went m → (b ≡ true) × (w ≡ Went m)
+pub guard-went : (b : Bool) (w : Trail) (m : Set) → guard b w ≡ Went m → (b ≡ true) × (w ≡ Went m)
 guard-went true w m h = (refl, h)
 guard-went false w m h = absurd (let z : _≡_ {A = ℕ} 0 1 = cc in omega arith)
 
-pub went-ok : (used : ℕ) (w : Trail) → wentOk used w ≡ true → (m : ℕ) × (w ≡ Went m) × (seenOk used m ≡ true)
+pub went-ok : (used : ℕ) (w : Trail) → wentOk used w ≡ true → (m : Set) × (w ≡ Went m) × (seenOk used m ≡ true)
 went-ok used (Went m) h = (m, refl, h)
 went-ok used Bad h = absurd (false≢true h)
 
@@ -72,61 +64,61 @@ module _ (used n : ℕ) (s : List ℕ) (root : ℕ) where
       go zero = omega (arith, itself)
       go (suc n) = omega (arith, itself)
 
-  seen-at : (m q : ℕ) → seenOk used m ≡ true → q < used → bit m q ≡ 1
+  seen-at : (m : Set) (q : ℕ) → seenOk used m ≡ true → q < used → timesIn q m ≡ 1
   unfolding seenOk
-  seen-at m q h l = bit-is m q ∙ eqb-true (m / 2 ^ q % 2) 1 (all-tab (λ k. eqb (m / 2 ^ k % 2) 1) used 0 (λ k. k) q h (omega arith) (omega arith))
+  seen-at m q h l = times-of-has m q true (all-tab (has m) used 0 (λ k. k) q h (omega arith) (omega arith))
 
-  at-seen : (m : ℕ) → ((q : ℕ) → q < used → bit m q ≡ 1) → seenOk used m ≡ true
+  at-seen : (m : Set) → ((q : ℕ) → q < used → timesIn q m ≡ 1) → seenOk used m ≡ true
   unfolding seenOk
-  at-seen m h = all-of-tab (λ k. eqb (m / 2 ^ k % 2) 1) used 0 (λ k. k) (λ q a b. eq-eqb (m / 2 ^ q % 2) 1 (sym (bit-is m q) ∙ h q (omega arith)))
+  at-seen m h = all-of-tab (has m) used 0 (λ k. k) (λ q a b. has-of-times m q true (h q (omega arith)))
 
-  pub once-each : (m : ℕ) → marks used (reached n s root) 1 ≡ Went m → seenOk used m ≡ true → (q : ℕ) → L.times q (reached n s root) + above used q ≡ above 1 q
+  pub once-each : (m : Set) → marks used (reached n s root) onlyZero ≡ Went m → seenOk used m ≡ true → (q : ℕ) → L.times q (reached n s root) + above used q ≡ above 1 q
   once-each m w h q =
       let any : 1 ≤ used =
       elim (decLt root used) [
         | yes l ↦ omega arith
-        | no l ↦ absurd (let z = marks-used used ps 1 m w root (omega arith) in let r = root-there in omega arith)
+        | no l ↦ absurd (let z = marks-used used ps onlyZero m w root (omega arith) in let r = root-there in omega arith)
       ] in
       at any (decLt q used) (ℕ-discrete q 0)
     where
       at : 1 ≤ used → Dec (q < used) → Dec (q ≡ 0) → L.times q (reached n s root) + above used q ≡ above 1 q
       at i (yes l) (yes z) =
-          let b = marks-went used ps 1 m w q in
+          let b = marks-went used ps onlyZero m w q in
           let e = seen-at m q h l in
-          let o : bit 1 q ≡ 1 = ap (bit 1) z ∙ one-at in
+          let o = alone-one 0 q (sym z) in
           omega (arith, above-no used q l, above-no 1 q (omega arith))
       at i (yes l) (no z) =
-          let b = marks-went used ps 1 m w q in
+          let b = marks-went used ps onlyZero m w q in
           let e = seen-at m q h l in
-          let o : bit 1 q ≡ 0 = one-past q (omega arith) in
+          let o = alone-none 0 q (λ e. z (sym e)) in
           omega (arith, above-no used q l, above-yes 1 q (omega arith))
       at i (no l) z =
-          let t = marks-used used ps 1 m w q (omega arith) in
+          let t = marks-used used ps onlyZero m w q (omega arith) in
           omega (arith, above-yes used q (omega arith), above-yes 1 q (omega arith))
 
   module _ (h : (q : ℕ) → L.times q (reached n s root) + above used q ≡ above 1 q) where
     small : (q : ℕ) → above 1 q ≤ 1
     small q = elim (decLt q 1) [ yes l ↦ omega (arith, above-no 1 q l) | no l ↦ omega (arith, above-yes 1 q (omega arith)) ]
 
-    pub each-once : (m : ℕ) × (marks used (reached n s root) 1 ≡ Went m) × (seenOk used m ≡ true)
+    pub each-once : (m : Set) × (marks used (reached n s root) onlyZero ≡ Went m) × (seenOk used m ≡ true)
     each-once =
-        let w = marks-go used ps 1
+        let w = marks-go used ps onlyZero
         (λ q l. elim (decLt q used) [
           | yes i ↦ i
           | no i ↦ absurd (omega (arith, h q, small q, above-yes used q (omega arith)))
         ])
         (λ q. elim (ℕ-discrete q 0) [
-          | yes z ↦ let o : bit 1 q ≡ 1 = ap (bit 1) z ∙ one-at in omega (arith, h q, above-no 1 q (omega arith))
-          | no z ↦ let o : bit 1 q ≡ 0 = one-past q (omega arith) in omega (arith, h q, small q)
+          | yes z ↦ let o = alone-one 0 q (sym z) in omega (arith, h q, above-no 1 q (omega arith))
+          | no z ↦ let o = alone-none 0 q (λ e. z (sym e)) in omega (arith, h q, small q)
         ]) in (
           w .0,
           w .1,
           at-seen (w .0)
               (λ q l.
-              let b = marks-went used ps 1 (w .0) (w .1) q in
+              let b = marks-went used ps onlyZero (w .0) (w .1) q in
               elim (ℕ-discrete q 0) [
-                | yes z ↦ let o : bit 1 q ≡ 1 = ap (bit 1) z ∙ one-at in omega (arith, h q, above-no 1 q (omega arith))
-                | no z ↦ let o : bit 1 q ≡ 0 = one-past q (omega arith) in omega (arith, h q, above-no used q l, above-yes 1 q (omega arith))
+                | yes z ↦ let o = alone-one 0 q (sym z) in omega (arith, h q, above-no 1 q (omega arith))
+                | no z ↦ let o = alone-none 0 q (λ e. z (sym e)) in omega (arith, h q, above-no used q l, above-yes 1 q (omega arith))
               ]),
         )
 
@@ -152,9 +144,9 @@ module _ (s : List ℕ) (g : Bytes s) where
   abbrev top : Span
   top = spanOf root 0 endMark
 
-  tree-is : treeIn s ≡ guard (treeOk level 2 s top) (marks used (reached level s root) 1)
+  tree-is : treeIn s ≡ guard (treeOk level 2 s top) (marks used (reached level s root) onlyZero)
   unfolding treeIn
-  tree-is = walk-is level 2 s used top 1
+  tree-is = walk-is level 2 s used top onlyZero
 
   pub pages-sound : length s ≡ 32768 → pagesOk s ≡ true → PagesFacts s
   unfolding pagesOk indexOf entriesIn
@@ -163,7 +155,7 @@ module _ (s : List ℕ) (g : Bytes s) where
       let b = both (frontOk s) (wentOk used (treeIn s)) (a .0) in
       let f = front-parts s (b .0) in
       let w = went-ok used (treeIn s) (b .1) in
-      let d = guard-went (treeOk level 2 s top) (marks used (reached level s root) 1) (w .0) (sym tree-is ∙ w .1) in
+      let d = guard-went (treeOk level 2 s top) (marks used (reached level s root) onlyZero) (w .0) (sym tree-is ∙ w .1) in
       let t = tree-facts s g size level 2 top (lit≤ tt) (d .0) in
       record {
         whole = record {

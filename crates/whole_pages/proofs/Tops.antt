@@ -11,13 +11,14 @@ use lib.ListN.{length}
 use Rattle.lists.proofs.Tests.{both}
 use Rattle.numbers.specs.Numbers.{numberAt, zeroAt}
 use Rattle.numbers.proofs.Parts.{numberAt-part}
+use Rattle.sets.specs.declared.Set.{Set}
 use Rattle.rules.specs.Document.{endMark}
 use Rattle.pages.specs.Layout.{rootOf, usedOf, heightOf}
 use Rattle.index.specs.Pictures.{pageAt}
 use Rattle.whole_pages.specs.declared.Trail.{Trail}
 use Rattle.whole_pages.specs.declared.Trail.the-variants.{Went, Bad}
 use Rattle.whole_pages.specs.Checks.{firstPageOk}
-use Rattle.whole_pages.specs.Walks.{spanOf, walkAt, seenOk, wentOk, frontOk, treeIn, pagesOk}
+use Rattle.whole_pages.specs.Walks.{spanOf, onlyZero, walkAt, seenOk, wentOk, frontOk, treeIn, pagesOk}
 
 pub read-first : (s : List ℕ) (at : ℕ) → at + 2 ≤ 512 → numberAt 2 s at ≡ numberAt 2 (pageAt s 0) at
 unfolding pageAt
@@ -33,14 +34,15 @@ module _ (s : List ℕ) (u : ℕ) (e : u ≡ numberAt 2 s 18) where
 pub height-some : (s : List ℕ) (h : ℕ) → h ≡ numberAt 2 s 20 → 0 < heightOf (pageAt s 0) → 1 ≤ h
 height-some s h e l = let q : h ≡ heightOf (pageAt s 0) = e ∙ read-first s 20 (lit≤ tt) in omega arith
 
-pub walk-top : (s : List ℕ) (r u h : ℕ) (w : Trail) → r ≡ numberAt 2 s 16 → u ≡ numberAt 2 s 18 → h ≡ numberAt 2 s 20
-    → w ≡ walkAt (h - 1) 2 s u (spanOf r 0 endMark) 1 → w ≡ treeIn s
+pub walk-top : (s : List ℕ) (r u h : ℕ) (o : Set) (w : Trail) → o ≡ onlyZero → r ≡ numberAt 2 s 16 → u ≡ numberAt 2 s 18 → h ≡ numberAt 2 s 20
+    → w ≡ walkAt (h - 1) 2 s u (spanOf r 0 endMark) o → w ≡ treeIn s
 unfolding treeIn
-walk-top s r u h w a b c e =
+walk-top s r u h o w f a b c e =
     let x : r ≡ rootOf (pageAt s 0) = a ∙ read-first s 16 (lit≤ tt) in
     let y : u ≡ usedOf (pageAt s 0) = b ∙ read-first s 18 (lit≤ tt) in
     let z : h ≡ heightOf (pageAt s 0) = c ∙ read-first s 20 (lit≤ tt) in
-    e ∙ ap₂ (λ k q. walkAt (k - 1) 2 s u (spanOf q 0 endMark) 1) z x ∙ ap (λ v. walkAt (heightOf (pageAt s 0) - 1) 2 s v (spanOf (rootOf (pageAt s 0)) 0 endMark) 1) y
+    e ∙ ap (walkAt (h - 1) 2 s u (spanOf r 0 endMark)) f
+    ∙ ap₂ (λ k q. walkAt (k - 1) 2 s u (spanOf q 0 endMark) onlyZero) z x ∙ ap (λ v. walkAt (heightOf (pageAt s 0) - 1) 2 s v (spanOf (rootOf (pageAt s 0)) 0 endMark) onlyZero) y
 
 pub front-parts : (s : List ℕ) → frontOk s ≡ true → (firstPageOk (pageAt s 0) ≡ true) × (usedOf (pageAt s 0) ≤ 64) × (0 < heightOf (pageAt s 0))
 unfolding frontOk
@@ -80,7 +82,7 @@ module _ (s : List ℕ) (f : Bool) (e : f ≡ frontOk s) where
       lost b =
           sym (ap₂ (λ x y. (x && wentOk (usedOf (pageAt s 0)) y) && zeroAt (32768 - 512 * usedOf (pageAt s 0)) (512 * usedOf (pageAt s 0)) s) front (sym g ∙ b))
 
-      pub pages-done : (m u : ℕ) (a z : Bool) → w ≡ Went m → u ≡ numberAt 2 s 18 → a ≡ seenOk u m → z ≡ zeroAt (32768 - 512 * u) (512 * u) s → (a && z) ≡ pagesOk s
+      pub pages-done : (m : Set) (u : ℕ) (a z : Bool) → w ≡ Went m → u ≡ numberAt 2 s 18 → a ≡ seenOk u m → z ≡ zeroAt (32768 - 512 * u) (512 * u) s → (a && z) ≡ pagesOk s
       unfolding pagesOk
       pages-done m u a z b d c k =
           let y = used-read s u d in

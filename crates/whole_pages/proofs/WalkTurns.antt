@@ -3,16 +3,18 @@
 use mathlib.Core.Path.{_≡_, refl, sym, ap, ap₂, subst, _∙_}
 use mathlib.Core.Bool.{Bool, true, false, not, cond, _&&_}
 use mathlib.Core.List.{List, _∷_}
-use Prim.Native.Nat.{ℕ, zero, suc, _+_, _*_, _-_, _/_, _%_, _^_, _≤_, _<_}
+use Prim.Native.Nat.{ℕ, zero, suc, _+_, _*_, _-_, _≤_, _<_}
 use native.Mathlib.Nat.{sub-zero}
 use native.Mathlib.Decide.{decLt}
 use native.Mathlib.Omega.{arith}
 use borrow.Author.Tests.{ltb-true, leb-true, lt-ltb, le-ltb, not-true, not-false}
-use lib.Dec.{eqb, leb, ltb}
+use lib.Dec.{leb, ltb}
 use Rattle.lists.specs.Lists.{tab}
 use Rattle.lists.proofs.Tests.{and-left, and-right}
 use Rattle.lists.proofs.Tables.{tab-next, tab-done}
 use Rattle.numbers.specs.Numbers.{zeroAt}
+use Rattle.sets.specs.declared.Set.{Set}
+use Rattle.sets.specs.Sets.{has, withOne}
 use Rattle.pages.specs.Layout.{countOf, childAt, childrenOf}
 use Rattle.entries.specs.declared.Key.{Key}
 use Rattle.pages.specs.declared.Child.{Child}
@@ -47,6 +49,21 @@ pub high-last : (p : List ℕ) (n i hi : ℕ) → n ≤ i + 1 → hi ≡ highAt 
 unfolding highAt
 high-last p n i hi h = sym (ap (λ b. cond b (childAt p (i + 1) .low .0) hi) (le-ltb (i + 1) n h))
 
+-- ---- a page set down as seen
+module _ (used : ℕ) (m : Set) (q : ℕ) where
+  pub mark-unused : used ≤ q → Bad ≡ markAt used m q
+  unfolding markAt
+  mark-unused h = sym (ap (λ a. cond (a && not (has m q)) (Went (withOne m q)) Bad) (le-ltb q used h))
+
+  module _ (l : q < used) (b : Bool) (e : b ≡ has m q) where
+    pub mark-again : b ≡ true → Bad ≡ markAt used m q
+    unfolding markAt
+    mark-again h = sym (ap₂ (λ x y. cond (x && not y) (Went (withOne m q)) Bad) (lt-ltb q used l) (sym e ∙ h))
+
+    pub mark-done : b ≡ false → (k : Set) → k ≡ withOne m q → Went k ≡ markAt used m q
+    unfolding markAt
+    mark-done h k f = ap Went f ∙ sym (ap₂ (λ x y. cond (x && not y) (Went (withOne m q)) Bad) (lt-ltb q used l) (sym e ∙ h))
+
 -- ---- by the level
 one-more : (level : ℕ) → (level ≡ 0 → ⊥) → level ≡ suc (level - 1)
 one-more level h = omega arith
@@ -56,7 +73,7 @@ unfolding pageOk
 inner-page level least s t z =
     ap (λ x. innerOk x least (t .low .0) (t .high .0) (pageAt s (t .page))) (one-more level z) ∙ ap (λ x. pageOk x least s t) (sym (one-more level z))
 
-walked : (level least : ℕ) (s : List ℕ) (used : ℕ) (t : Span) (m : ℕ) → (level ≡ 0 → ⊥)
+walked : (level least : ℕ) (s : List ℕ) (used : ℕ) (t : Span) (m : Set) → (level ≡ 0 → ⊥)
     → walkAt level least s used t m ≡ after (markAt used m (t .page)) (λ k. guard (pageOk level least s t) (walkOver (walkAt (level - 1) 15 s used) (spans (t .low .0) (t .high .0) (childrenOf (pageAt s (t .page)))) k))
 unfolding walkAt
 walked level least s used t m z =
@@ -65,7 +82,7 @@ walked level least s used t m z =
     ∙ ap (λ x. after (markAt used m (t .page)) (λ k. guard (pageOk x least s t) (walkOver (walkAt (level - 1) 15 s used) (spans (t .low .0) (t .high .0) (childrenOf (pageAt s (t .page)))) k))) (sym e)
 
 -- ---- the walk
-module _ (level least : ℕ) (s : List ℕ) (used : ℕ) (t : Span) (m : ℕ) (w : Trail) (e : w ≡ markAt used m (t .page)) where
+module _ (level least : ℕ) (s : List ℕ) (used : ℕ) (t : Span) (m : Set) (w : Trail) (e : w ≡ markAt used m (t .page)) where
   pub walk-unmarked : w ≡ Bad → Bad ≡ walkAt level least s used t m
   unfolding walkAt
   walk-unmarked b = go level
@@ -77,15 +94,15 @@ module _ (level least : ℕ) (s : List ℕ) (used : ℕ) (t : Span) (m : ℕ) (w
       go zero = sym (ap (λ x. after x (λ k. guard (pageOk zero least s t) (Went k))) q)
       go (suc n) = sym (ap (λ x. after x (λ k. guard (pageOk (suc n) least s t) (walkOver (walkAt n 15 s used) (spans (t .low .0) (t .high .0) (childrenOf (pageAt s (t .page)))) k))) q)
 
-  module _ (k : ℕ) (g : w ≡ Went k) where
+  module _ (k : Set) (g : w ≡ Went k) where
     marked : markAt used m (t .page) ≡ Went k
     marked = sym e ∙ g
 
     pub marked-page : used ≤ 64 → t .page < 64
     unfolding markAt
-    marked-page h = go (ltb (t .page) used) refl (eqb (m / 2 ^ t .page % 2) 0) marked
+    marked-page h = go (ltb (t .page) used) refl (not (has m (t .page))) marked
       where
-        go : (a : Bool) → ltb (t .page) used ≡ a → (b : Bool) → cond (a && b) (Went (m + 2 ^ t .page)) Bad ≡ Went k → t .page < 64
+        go : (a : Bool) → ltb (t .page) used ≡ a → (b : Bool) → cond (a && b) (Went (withOne m (t .page))) Bad ≡ Went k → t .page < 64
         go true c b f = let l = ltb-true (t .page) used c in omega arith
         go false c b f = absurd (let z : _≡_ {A = ℕ} 0 1 = cc in omega arith)
 
@@ -120,31 +137,27 @@ module _ (level least : ℕ) (s : List ℕ) (used : ℕ) (t : Span) (m : ℕ) (w
           few x y n u v r a =
               leb-true n 30 (and-right y (leb n 30) (and-right x (y && leb n 30) (and-left (x && (y && leb n 30)) u (and-left ((x && (y && leb n 30)) && u) v (and-left (((x && (y && leb n 30)) && u) && v) r a)))))
 
-      pub walk-start : not b ≡ false → (level ≡ 0 → ⊥) → (n : ℕ) → n ≡ countOf (pageAt s (t .page))
-          → walkAt level least s used t m ≡ walkOver (walkAt (level - 1) 15 s used) (spans (t .low .0) (t .high .0) (tab (n - 0) 0 (childAt (pageAt s (t .page))))) k
+      pub walk-over : not b ≡ false → (level ≡ 0 → ⊥) → (n : ℕ) → n ≡ countOf (pageAt s (t .page)) → (v : Trail)
+          → v ≡ walkOver (walkAt (level - 1) 15 s used) (spans (t .low .0) (t .high .0) (tab n 0 (childAt (pageAt s (t .page))))) k
+          → v ≡ walkAt level least s used t m
       unfolding childrenOf
-      walk-start h z n c =
+      walk-over h z n c v o =
           let d : pageOk level least s t ≡ true = sym f ∙ not-false b h in
-          walked level least s used t m z
+          o
+          ∙ sym (walked level least s used t m z
           ∙ ap (λ x. after x (λ j. guard (pageOk level least s t) (walkOver (walkAt (level - 1) 15 s used) (spans (t .low .0) (t .high .0) (childrenOf (pageAt s (t .page)))) j))) marked
           ∙ ap (λ x. guard x (walkOver (walkAt (level - 1) 15 s used) (spans (t .low .0) (t .high .0) (childrenOf (pageAt s (t .page)))) k)) d
-          ∙ ap (λ x. walkOver (walkAt (level - 1) 15 s used) (spans (t .low .0) (t .high .0) (tab x 0 (childAt (pageAt s (t .page))))) k) (sym c ∙ sym (sub-zero n))
+          ∙ ap (λ x. walkOver (walkAt (level - 1) 15 s used) (spans (t .low .0) (t .high .0) (tab x 0 (childAt (pageAt s (t .page))))) k) (sym c))
 
 -- ---- over the children
-module _ (level least : ℕ) (s : List ℕ) (used : ℕ) (t : Span) (seen n : ℕ) where
-  abbrev f : Span → ℕ → Trail
-  f = walkAt (level - 1) 15 s used
-
+module _ (f : Span → Set → Trail) (p : List ℕ) (first hi n : ℕ) (k : Set) where
   abbrev whole : Trail
-  whole = walkAt level least s used t seen
+  whole = walkOver f (spans first hi (tab n 0 (childAt p))) k
 
-  abbrev p : List ℕ
-  p = pageAt s (t .page)
+  pub walk-start : whole ≡ walkOver f (spans first hi (tab (n - 0) 0 (childAt p))) k
+  walk-start = ap (λ x. walkOver f (spans first hi (tab x 0 (childAt p))) k) (sym (sub-zero n))
 
-  abbrev hi : ℕ
-  hi = t .high .0
-
-  pub walk-next : (lo next : Key) (i m page : ℕ) (w : Trail) (more : ℕ) → i < n → next .0 ≡ highAt p n i hi → page ≡ childAt p i .page
+  pub walk-next : (lo next : Key) (i : ℕ) (m : Set) (page : ℕ) (w : Trail) (more : Set) → i < n → next .0 ≡ highAt p n i hi → page ≡ childAt p i .page
       → w ≡ f (record { page = page; low = lo; high = next }) m → w ≡ Went more → whole ≡ walkOver f (spans (lo .0) hi (tab (n - i) i (childAt p))) m
       → whole ≡ walkOver f (spans (next .0) hi (tab (n - (i + 1)) (i + 1) (childAt p))) more
   unfolding walkOver
@@ -154,7 +167,7 @@ module _ (level least : ℕ) (s : List ℕ) (used : ℕ) (t : Span) (seen n : �
       ∙ ap₂ (λ x y. after (f (spanOf x (lo .0) y) m) (walkOver f (spans y hi (tab (n - (i + 1)) (i + 1) (childAt p))))) (sym g) (sym e)
       ∙ ap (λ x. after x (walkOver f (spans (next .0) hi (tab (n - (i + 1)) (i + 1) (childAt p))))) (sym d ∙ v)
 
-  pub walk-stop : (lo next : Key) (i m page : ℕ) (w : Trail) → i < n → next .0 ≡ highAt p n i hi → page ≡ childAt p i .page
+  pub walk-stop : (lo next : Key) (i : ℕ) (m : Set) (page : ℕ) (w : Trail) → i < n → next .0 ≡ highAt p n i hi → page ≡ childAt p i .page
       → w ≡ f (record { page = page; low = lo; high = next }) m → w ≡ Bad → whole ≡ walkOver f (spans (lo .0) hi (tab (n - i) i (childAt p))) m
       → Bad ≡ whole
   unfolding walkOver
@@ -164,6 +177,6 @@ module _ (level least : ℕ) (s : List ℕ) (used : ℕ) (t : Span) (seen n : �
       ∙ ap₂ (λ x y. after (f (spanOf x (lo .0) y) m) (walkOver f (spans y hi (tab (n - (i + 1)) (i + 1) (childAt p))))) (sym g) (sym e)
       ∙ ap (λ x. after x (walkOver f (spans (next .0) hi (tab (n - (i + 1)) (i + 1) (childAt p))))) (sym d ∙ v))
 
-  pub walk-end : (lo i m : ℕ) → whole ≡ walkOver f (spans lo hi (tab (n - i) i (childAt p))) m → n ≤ i → Went m ≡ whole
+  pub walk-end : (lo i : ℕ) (m : Set) → whole ≡ walkOver f (spans lo hi (tab (n - i) i (childAt p))) m → n ≤ i → Went m ≡ whole
   unfolding walkOver spans
   walk-end lo i m h l = sym (h ∙ ap (λ cs. walkOver f (spans lo hi cs) m) (tab-done n i (childAt p) l))

@@ -1,11 +1,13 @@
--- The walk over the pages of a tree as the code makes it: each page's own test, the pages seen as bits of a number, the children one after
--- the other. It is not for readers: what it comes to is shown in ../proofs. Assumes nothing.
-use Prim.Native.Nat.{ℕ, zero, suc, _+_, _*_, _-_, _/_, _%_, _^_}
-use mathlib.Core.Bool.{Bool, false, cond, _&&_}
+-- The walk over the pages of a tree as the code makes it: each page's own test, the pages seen as a set, the children one after the other.
+-- It is not for readers: what it comes to is shown in ../proofs. Assumes nothing.
+use Prim.Native.Nat.{ℕ, zero, suc, _+_, _*_, _-_}
+use mathlib.Core.Bool.{Bool, false, cond, not, _&&_}
 use mathlib.Core.List.{List, [], _∷_}
-use lib.Dec.{eqb, leb, ltb}
+use lib.Dec.{leb, ltb}
 use Rattle.lists.specs.Lists.{tab, all}
 use Rattle.numbers.specs.Numbers.{zeroAt}
+use Rattle.sets.specs.declared.Set.{Set}
+use Rattle.sets.specs.Sets.{empty, has, withOne}
 use Rattle.rules.specs.Document.{endMark}
 use Rattle.pages.specs.Layout.{rootOf, usedOf, heightOf, childAt, childrenOf}
 use Rattle.pages.specs.declared.Child.{Child}
@@ -27,18 +29,22 @@ spans lo hi (c ∷ d ∷ cs) = spanOf (c .page) lo (d .low .0) ∷ spans (d .low
 unfoldable pub highAt : List ℕ → ℕ → ℕ → ℕ → ℕ
 highAt p n i hi = cond (ltb (i + 1) n) (childAt p (i + 1) .low .0) hi
 
-abbrev pub after : Trail → (ℕ → Trail) → Trail
+abbrev pub after : Trail → (Set → Trail) → Trail
 after (Went m) f = f m
 after Bad f = Bad
+
+-- what is set down beforehand: number 0, which no child's page is, and no asker
+abbrev pub onlyZero : Set
+onlyZero = withOne empty 0
 
 abbrev pub guard : Bool → Trail → Trail
 guard b w = cond b w Bad
 
 -- page q seen for the first time
-unfoldable pub markAt : ℕ → ℕ → ℕ → Trail
-markAt used m q = cond (ltb q used && eqb (m / 2 ^ q % 2) 0) (Went (m + 2 ^ q)) Bad
+unfoldable pub markAt : ℕ → Set → ℕ → Trail
+markAt used m q = cond (ltb q used && not (has m q)) (Went (withOne m q)) Bad
 
-unfoldable pub marks : ℕ → List ℕ → ℕ → Trail
+unfoldable pub marks : ℕ → List ℕ → Set → Trail
 marks used [] m = Went m
 marks used (q ∷ qs) m = after (markAt used m q) (marks used qs)
 
@@ -46,11 +52,11 @@ unfoldable pub pageOk : ℕ → ℕ → List ℕ → Span → Bool
 pageOk zero least s t = leafOk (t .low .0) (t .high .0) (pageAt s (t .page))
 pageOk (suc n) least s t = innerOk (suc n) least (t .low .0) (t .high .0) (pageAt s (t .page))
 
-unfoldable pub walkOver : (Span → ℕ → Trail) → List Span → ℕ → Trail
+unfoldable pub walkOver : (Span → Set → Trail) → List Span → Set → Trail
 walkOver f [] m = Went m
 walkOver f (t ∷ ts) m = after (f t m) (walkOver f ts)
 
-unfoldable pub walkAt : ℕ → ℕ → List ℕ → ℕ → Span → ℕ → Trail
+unfoldable pub walkAt : ℕ → ℕ → List ℕ → ℕ → Span → Set → Trail
 walkAt zero least s used t m = after (markAt used m (t .page)) (λ k. guard (pageOk zero least s t) (Went k))
 walkAt (suc n) least s used t m =
     after (markAt used m (t .page))
@@ -63,8 +69,8 @@ treeOk (suc n) least s t =
     pageOk (suc n) least s t && all (treeOk n 15 s) (spans (t .low .0) (t .high .0) (childrenOf (pageAt s (t .page))))
 
 -- every page below `used` is seen
-unfoldable pub seenOk : ℕ → ℕ → Bool
-seenOk used m = all (λ q. eqb (m / 2 ^ q % 2) 1) (tab used 0 (λ q. q))
+unfoldable pub seenOk : ℕ → Set → Bool
+seenOk used m = all (has m) (tab used 0 (λ q. q))
 
 abbrev pub wentOk : ℕ → Trail → Bool
 wentOk used (Went m) = seenOk used m
@@ -76,7 +82,7 @@ frontOk s = firstPageOk (pageAt s 0) && (leb (usedOf (pageAt s 0)) 64 && ltb 0 (
 
 unfoldable pub treeIn : List ℕ → Trail
 treeIn s =
-    let p = pageAt s 0 in walkAt (heightOf p - 1) 2 s (usedOf p) (spanOf (rootOf p) 0 endMark) 1
+    let p = pageAt s 0 in walkAt (heightOf p - 1) 2 s (usedOf p) (spanOf (rootOf p) 0 endMark) onlyZero
 
 unfoldable pub pagesOk : List ℕ → Bool
 pagesOk s =

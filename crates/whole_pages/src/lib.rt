@@ -9,6 +9,7 @@ ghost use Rattle.index.specs.Pictures.{pageAt};
 ghost use Rattle.whole_pages.specs.Walks.{highAt, markAt, pageOk, walkAt, seenOk, frontOk, treeIn, pagesOk};
 use entries::Key;
 use pages::head;
+use sets::Set;
 
 // A page with the range of its keys: from low on, below high.
 pub struct Span {
@@ -17,24 +18,24 @@ pub struct Span {
     pub high: Key,
 }
 
-// The pages seen so far, as bits; or a page that is not in order, or not there, or seen before.
+// The pages seen so far; or a page that is not in order, or not there, or seen before.
 pub enum Trail {
-    Went(u64),
+    Went(Set),
     Bad,
 }
 
 // Sets page q down as seen, if it is used and was not seen before: "each reached once".
-pub fn mark(seen: u64, q: usize, used: usize) -> Trail
+pub fn mark(seen: Set, q: usize, used: usize) -> Trail
     requires { ⌜ used ≤ 64 ⌝ }
     ensures { λ r. ⌜ r ≡ markAt used seen q ⌝ }
 {
     if q >= used {
         return Trail::Bad;
     }
-    if (seen >> q) % 2 != 0 {
+    if seen.has(q) {
         return Trail::Bad;
     }
-    Trail::Went(seen + (1 << q))
+    Trail::Went(seen.with(q))
 }
 
 // Whether the page is in order, by its level: "leaves all at level 0, an inner page one above its children".
@@ -93,7 +94,7 @@ pub fn child_at(pages: &[u8], q: usize, i: usize) -> usize
 
 // Walks the tree of a level from its page down, the level falling by one at each step, so that it ends whatever the bytes say. Gives the
 // pages seen then, or Bad where some page is not in order or is seen twice.
-fn walk(pages: &[u8], used: usize, level: usize, least: usize, t: Span, seen: u64) -> Trail
+fn walk(pages: &[u8], used: usize, level: usize, least: usize, t: Span, seen: Set) -> Trail
     requires { ⌜ length (now pages) ≡ 32768 ⌝ }
     requires { ⌜ used ≤ 64 ⌝ }
     requires { ⌜ 1 ≤ least ⌝ }
@@ -134,13 +135,13 @@ fn walk(pages: &[u8], used: usize, level: usize, least: usize, t: Span, seen: u6
 }
 
 // Whether every page below `used` is seen.
-fn are_seen(seen: u64, used: usize) -> bool
+fn are_seen(seen: Set, used: usize) -> bool
     requires { ⌜ used ≤ 64 ⌝ }
     ensures { λ r. ⌜ r ≡ seenOk used seen ⌝ }
 {
     let mut q: usize = 0;
     while q < used {
-        if (seen >> q) % 2 != 1 {
+        if !seen.has(q) {
             return false;
         }
         q += 1;
@@ -172,7 +173,7 @@ fn walk_root(pages: &[u8]) -> Trail
         low: Key::LOWEST,
         high: Key::END,
     };
-    walk(pages, used, height - 1, 2, t, 1)
+    walk(pages, used, height - 1, 2, t, Set::NONE.with(0))
 }
 
 // Whether the page buffer is whole, with every entry in order: page 0, the tree with each used page once, and nothing in the others.

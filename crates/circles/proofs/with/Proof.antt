@@ -1,18 +1,19 @@
--- `circles::with` meets its contract: 1 << (t - 1) shifts nothing out.
+-- `circles::with` meets its contract, which is its body in the words of the specification.
 -- Assumes nothing.
 use borrow.Author.Needs.{needs}
-use Rattle.circles.proofs.Bits.{one-shifted}
+use Rattle.circles.specs.Search.{withOne}
 use Rattle.circles.proofs.with.Statement.{statement}
 use Rattle.circles.proofs.with.Tie as tie
 
-sub-result : tie.Need-sub-result
-sub-result c = search needs
+sub-with : tie.Need-sub-with
+sub-with c = search needs
 
-shl-result : tie.Need-shl-result
-shl-result c = search needs
+with-requires : tie.Need-with-requires
+with-requires c κs = search needs
 
 returns : tie.Need-returns
-returns c = search (needs, one-shifted)
+unfolding withOne
+returns c = search needs
 
 pub with-spec : {M : Type 1} → statement M
-with-spec = tie.close (tie.spec sub-result shl-result returns)
+with-spec = tie.close (tie.spec sub-with with-requires returns)

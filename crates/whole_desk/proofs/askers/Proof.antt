@@ -20,6 +20,9 @@ abbrev μ-loop : tie.MeasureT-loop
 number-at-requires : tie.Need-number-at-requires Inv-loop μ-loop
 number-at-requires c κs = search needs
 
+with-requires : tie.Need-with-requires Inv-loop μ-loop
+with-requires c κs = search needs
+
 loop-holds : tie.Need-loop-holds Inv-loop μ-loop
 loop-holds c = (search (needs, askers-few), (search needs, search (needs, askers-start)))
 
@@ -63,6 +66,7 @@ askers-spec =
     Inv-loop
     μ-loop
     number-at-requires
+    with-requires
     loop-holds
     mul-number-at
     add-number-at

@@ -6,8 +6,8 @@ use borrow.Author.Needs.{needs}
 use Rattle.whole_desk.proofs.is_record.Statement.{statement}
 use Rattle.whole_desk.proofs.is_record.Tie as tie
 
-shr-listed : tie.Need-shr-listed
-shr-listed c = search needs
+has-requires : tie.Need-has-requires
+has-requires c κs = search needs
 
 is-waiting-requires : tie.Need-is-waiting-requires
 is-waiting-requires c κs = search needs
@@ -32,7 +32,7 @@ pub is-record-spec : {M : Type 1} → statement M
 is-record-spec =
     tie.close
     (tie.spec
-    shr-listed
+    has-requires
     is-waiting-requires
     ask-at-requires
     is-running-requires

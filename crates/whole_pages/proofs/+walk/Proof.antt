@@ -1,4 +1,5 @@
--- `whole_pages::walk` meets its contract. Measure: the level. The invariant: the walk is the walk over the children that are left.
+-- `whole_pages::walk` meets its contract. Measure: the level. The invariant: the walk over the children is the walk over those
+-- that are left.
 -- Assumes nothing.
 use borrow.Author.Needs.{needs}
 use mathlib.Core.Path.{_≡_}
@@ -6,8 +7,8 @@ use Prim.Native.Nat.{_-_, _≤_, ℕ, _<_}
 use Rattle.lists.specs.Lists.{tab}
 use Rattle.pages.specs.Layout.{childAt}
 use Rattle.index.specs.Pictures.{pageAt}
-use Rattle.whole_pages.specs.Walks.{spanOf, spans, walkOver, walkAt}
-use Rattle.whole_pages.proofs.WalkTurns.{walk-unmarked, marked-page, walk-page-bad, walk-leaf, walk-few, walk-start, walk-next, walk-stop, walk-end}
+use Rattle.whole_pages.specs.Walks.{spans, walkOver, walkAt}
+use Rattle.whole_pages.proofs.WalkTurns.{walk-unmarked, marked-page, walk-page-bad, walk-leaf, walk-few, walk-over, walk-start, walk-next, walk-stop, walk-end}
 use borrow.Fn.Kinds.{In}
 use borrow.Fn.PlainCycle.{Measures, is, falls, and}
 use Rattle.whole_pages.proofs.walk.Reads as walk
@@ -31,10 +32,10 @@ abbrev walk-below : ℕ → In 1 walk-kinds.ps
 walk-below t = and 1 walk-kinds.ps (falls 1 walk-kinds.ps _<_ μ-walk t) walk.Pre
 
 abbrev walk-Inv-loop : walk-lts.InvT-loop
-walk-Inv-loop pages used level least seen q first n high low₀ m₀ i₀ low m i = (q < 64) × ((n ≤ 30) × ((i ≤ n) × (walkAt level least pages used (spanOf q (low₀ .0) (high .0)) seen ≡ walkOver (walkAt (level - 1) 15 pages used) (spans (low .0) (high .0) (tab (n - i) i (childAt (pageAt pages q)))) m)))
+walk-Inv-loop pages used level least q n high low₀ m₀ i₀ low m i = (q < 64) × ((n ≤ 30) × ((i ≤ n) × (walkOver (walkAt (level - 1) 15 pages used) (spans (low₀ .0) (high .0) (tab n 0 (childAt (pageAt pages q)))) m₀ ≡ walkOver (walkAt (level - 1) 15 pages used) (spans (low .0) (high .0) (tab (n - i) i (childAt (pageAt pages q)))) m)))
 
 abbrev walk-μ-loop : walk-lts.MeasureT-loop
-walk-μ-loop pages used level least seen q first n high low₀ m₀ i₀ low m i = n - i
+walk-μ-loop pages used level least q n high low₀ m₀ i₀ low m i = n - i
 
 walk-mark-requires : (t : ℕ) → walk-lts.Need-mark-requires (
   mark-reads.Asked,
@@ -290,7 +291,7 @@ walk-returns-4 : (t : ℕ) → walk-lts.Need-returns-4 (
   walk-below t,
   walk.Post,
 ) (walk-at t) walk.Post walk-Inv-loop walk-μ-loop
-walk-returns-4 t c = search (needs, walk-stop)
+walk-returns-4 t c = search (needs, walk-over, walk-stop)
 
 walk-add-i : (t : ℕ) → walk-lts.Need-add-i (
   mark-reads.Asked,
@@ -354,7 +355,7 @@ walk-returns-5 : (t : ℕ) → walk-lts.Need-returns-5 (
   walk-below t,
   walk.Post,
 ) (walk-at t) walk.Post walk-Inv-loop walk-μ-loop
-walk-returns-5 t c = walk-end _ _ _ _ _ _ _ _ _ _ (c .before .loop .inv .1 .1 .1) (c .loop-test .left)
+walk-returns-5 t c = search (needs, walk-over, walk-end)
 
 pub +walk-spec : {M : Type 1} → statement M
 +walk-spec = close μ-walk λ t. walk-lts.spec (

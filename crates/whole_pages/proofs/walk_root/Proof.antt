@@ -17,6 +17,9 @@ number-at-requires-3 c κs = search needs
 sub-walk : tie.Need-sub-walk
 sub-walk c = search (needs, height-some)
 
+with-requires : tie.Need-with-requires
+with-requires c κs = search needs
+
 walk-requires : tie.Need-walk-requires
 walk-requires c κs = search (needs, used-few)
 
@@ -31,5 +34,6 @@ walk-root-spec =
     number-at-requires-2
     number-at-requires-3
     sub-walk
+    with-requires
     walk-requires
     returns)
