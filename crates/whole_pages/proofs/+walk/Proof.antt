@@ -13,8 +13,8 @@ use borrow.Fn.PlainCycle.{Measures, is, falls, and}
 use Rattle.whole_pages.proofs.walk.Reads as walk
 use Rattle.whole_pages.proofs.walk.Kinds as walk-kinds
 use Rattle.whole_pages.proofs.+walk.Lts-walk as walk-lts
-use Rattle.whole_pages.proofs.child_at.Reads as child-at-reads
-use Rattle.whole_pages.proofs.count_at.Reads as count-at-reads
+use Rattle.index.proofs.child_page.Reads as child-page-reads
+use Rattle.index.proofs.count_at.Reads as count-at-reads
 use Rattle.whole_pages.proofs.high_at.Reads as high-at-reads
 use Rattle.whole_pages.proofs.is_page.Reads as is-page-reads
 use Rattle.whole_pages.proofs.mark.Reads as mark-reads
@@ -45,8 +45,8 @@ walk-mark-requires : (t : ℕ) → walk-lts.Need-mark-requires (
   count-at-reads.Learnt,
   high-at-reads.Asked,
   high-at-reads.Learnt,
-  child-at-reads.Asked,
-  child-at-reads.Learnt,
+  child-page-reads.Asked,
+  child-page-reads.Learnt,
   walk-below t,
   walk.Post,
 ) (walk-at t) walk.Post walk-Inv-loop walk-μ-loop
@@ -61,8 +61,8 @@ walk-enum-known-marked : (t : ℕ) → walk-lts.Need-enum-known-marked (
   count-at-reads.Learnt,
   high-at-reads.Asked,
   high-at-reads.Learnt,
-  child-at-reads.Asked,
-  child-at-reads.Learnt,
+  child-page-reads.Asked,
+  child-page-reads.Learnt,
   walk-below t,
   walk.Post,
 ) (walk-at t) walk.Post walk-Inv-loop walk-μ-loop
@@ -77,8 +77,8 @@ walk-enum-told : (t : ℕ) → walk-lts.Need-enum-told (
   count-at-reads.Learnt,
   high-at-reads.Asked,
   high-at-reads.Learnt,
-  child-at-reads.Asked,
-  child-at-reads.Learnt,
+  child-page-reads.Asked,
+  child-page-reads.Learnt,
   walk-below t,
   walk.Post,
 ) (walk-at t) walk.Post walk-Inv-loop walk-μ-loop
@@ -93,8 +93,8 @@ walk-returns : (t : ℕ) → walk-lts.Need-returns (
   count-at-reads.Learnt,
   high-at-reads.Asked,
   high-at-reads.Learnt,
-  child-at-reads.Asked,
-  child-at-reads.Learnt,
+  child-page-reads.Asked,
+  child-page-reads.Learnt,
   walk-below t,
   walk.Post,
 ) (walk-at t) walk.Post walk-Inv-loop walk-μ-loop
@@ -109,8 +109,8 @@ walk-is-page-requires : (t : ℕ) → walk-lts.Need-is-page-requires (
   count-at-reads.Learnt,
   high-at-reads.Asked,
   high-at-reads.Learnt,
-  child-at-reads.Asked,
-  child-at-reads.Learnt,
+  child-page-reads.Asked,
+  child-page-reads.Learnt,
   walk-below t,
   walk.Post,
 ) (walk-at t) walk.Post walk-Inv-loop walk-μ-loop
@@ -125,8 +125,8 @@ walk-returns-2 : (t : ℕ) → walk-lts.Need-returns-2 (
   count-at-reads.Learnt,
   high-at-reads.Asked,
   high-at-reads.Learnt,
-  child-at-reads.Asked,
-  child-at-reads.Learnt,
+  child-page-reads.Asked,
+  child-page-reads.Learnt,
   walk-below t,
   walk.Post,
 ) (walk-at t) walk.Post walk-Inv-loop walk-μ-loop
@@ -141,8 +141,8 @@ walk-returns-3 : (t : ℕ) → walk-lts.Need-returns-3 (
   count-at-reads.Learnt,
   high-at-reads.Asked,
   high-at-reads.Learnt,
-  child-at-reads.Asked,
-  child-at-reads.Learnt,
+  child-page-reads.Asked,
+  child-page-reads.Learnt,
   walk-below t,
   walk.Post,
 ) (walk-at t) walk.Post walk-Inv-loop walk-μ-loop
@@ -157,8 +157,8 @@ walk-count-at-requires : (t : ℕ) → walk-lts.Need-count-at-requires (
   count-at-reads.Learnt,
   high-at-reads.Asked,
   high-at-reads.Learnt,
-  child-at-reads.Asked,
-  child-at-reads.Learnt,
+  child-page-reads.Asked,
+  child-page-reads.Learnt,
   walk-below t,
   walk.Post,
 ) (walk-at t) walk.Post walk-Inv-loop walk-μ-loop
@@ -173,8 +173,8 @@ walk-loop-holds : (t : ℕ) → walk-lts.Need-loop-holds (
   count-at-reads.Learnt,
   high-at-reads.Asked,
   high-at-reads.Learnt,
-  child-at-reads.Asked,
-  child-at-reads.Learnt,
+  child-page-reads.Asked,
+  child-page-reads.Learnt,
   walk-below t,
   walk.Post,
 ) (walk-at t) walk.Post walk-Inv-loop walk-μ-loop
@@ -189,14 +189,14 @@ walk-high-at-requires : (t : ℕ) → walk-lts.Need-high-at-requires (
   count-at-reads.Learnt,
   high-at-reads.Asked,
   high-at-reads.Learnt,
-  child-at-reads.Asked,
-  child-at-reads.Learnt,
+  child-page-reads.Asked,
+  child-page-reads.Learnt,
   walk-below t,
   walk.Post,
 ) (walk-at t) walk.Post walk-Inv-loop walk-μ-loop
 walk-high-at-requires t c κs = search needs
 
-walk-child-at-requires : (t : ℕ) → walk-lts.Need-child-at-requires (
+walk-child-page-requires : (t : ℕ) → walk-lts.Need-child-page-requires (
   mark-reads.Asked,
   mark-reads.Learnt,
   is-page-reads.Asked,
@@ -205,12 +205,12 @@ walk-child-at-requires : (t : ℕ) → walk-lts.Need-child-at-requires (
   count-at-reads.Learnt,
   high-at-reads.Asked,
   high-at-reads.Learnt,
-  child-at-reads.Asked,
-  child-at-reads.Learnt,
+  child-page-reads.Asked,
+  child-page-reads.Learnt,
   walk-below t,
   walk.Post,
 ) (walk-at t) walk.Post walk-Inv-loop walk-μ-loop
-walk-child-at-requires t c κs = search needs
+walk-child-page-requires t c κs = search needs
 
 walk-sub-walk : (t : ℕ) → walk-lts.Need-sub-walk (
   mark-reads.Asked,
@@ -221,8 +221,8 @@ walk-sub-walk : (t : ℕ) → walk-lts.Need-sub-walk (
   count-at-reads.Learnt,
   high-at-reads.Asked,
   high-at-reads.Learnt,
-  child-at-reads.Asked,
-  child-at-reads.Learnt,
+  child-page-reads.Asked,
+  child-page-reads.Learnt,
   walk-below t,
   walk.Post,
 ) (walk-at t) walk.Post walk-Inv-loop walk-μ-loop
@@ -237,8 +237,8 @@ walk-walk-requires : (t : ℕ) → walk-lts.Need-walk-requires (
   count-at-reads.Learnt,
   high-at-reads.Asked,
   high-at-reads.Learnt,
-  child-at-reads.Asked,
-  child-at-reads.Learnt,
+  child-page-reads.Asked,
+  child-page-reads.Learnt,
   walk-below t,
   walk.Post,
 ) (walk-at t) walk.Post walk-Inv-loop walk-μ-loop
@@ -253,8 +253,8 @@ walk-enum-known-below : (t : ℕ) → walk-lts.Need-enum-known-below (
   count-at-reads.Learnt,
   high-at-reads.Asked,
   high-at-reads.Learnt,
-  child-at-reads.Asked,
-  child-at-reads.Learnt,
+  child-page-reads.Asked,
+  child-page-reads.Learnt,
   walk-below t,
   walk.Post,
 ) (walk-at t) walk.Post walk-Inv-loop walk-μ-loop
@@ -269,8 +269,8 @@ walk-enum-told-2 : (t : ℕ) → walk-lts.Need-enum-told-2 (
   count-at-reads.Learnt,
   high-at-reads.Asked,
   high-at-reads.Learnt,
-  child-at-reads.Asked,
-  child-at-reads.Learnt,
+  child-page-reads.Asked,
+  child-page-reads.Learnt,
   walk-below t,
   walk.Post,
 ) (walk-at t) walk.Post walk-Inv-loop walk-μ-loop
@@ -285,8 +285,8 @@ walk-returns-4 : (t : ℕ) → walk-lts.Need-returns-4 (
   count-at-reads.Learnt,
   high-at-reads.Asked,
   high-at-reads.Learnt,
-  child-at-reads.Asked,
-  child-at-reads.Learnt,
+  child-page-reads.Asked,
+  child-page-reads.Learnt,
   walk-below t,
   walk.Post,
 ) (walk-at t) walk.Post walk-Inv-loop walk-μ-loop
@@ -301,8 +301,8 @@ walk-add-i : (t : ℕ) → walk-lts.Need-add-i (
   count-at-reads.Learnt,
   high-at-reads.Asked,
   high-at-reads.Learnt,
-  child-at-reads.Asked,
-  child-at-reads.Learnt,
+  child-page-reads.Asked,
+  child-page-reads.Learnt,
   walk-below t,
   walk.Post,
 ) (walk-at t) walk.Post walk-Inv-loop walk-μ-loop
@@ -317,8 +317,8 @@ walk-loop-less : (t : ℕ) → walk-lts.Need-loop-less (
   count-at-reads.Learnt,
   high-at-reads.Asked,
   high-at-reads.Learnt,
-  child-at-reads.Asked,
-  child-at-reads.Learnt,
+  child-page-reads.Asked,
+  child-page-reads.Learnt,
   walk-below t,
   walk.Post,
 ) (walk-at t) walk.Post walk-Inv-loop walk-μ-loop
@@ -333,8 +333,8 @@ walk-loop-again : (t : ℕ) → walk-lts.Need-loop-again (
   count-at-reads.Learnt,
   high-at-reads.Asked,
   high-at-reads.Learnt,
-  child-at-reads.Asked,
-  child-at-reads.Learnt,
+  child-page-reads.Asked,
+  child-page-reads.Learnt,
   walk-below t,
   walk.Post,
 ) (walk-at t) walk.Post walk-Inv-loop walk-μ-loop
@@ -349,8 +349,8 @@ walk-returns-5 : (t : ℕ) → walk-lts.Need-returns-5 (
   count-at-reads.Learnt,
   high-at-reads.Asked,
   high-at-reads.Learnt,
-  child-at-reads.Asked,
-  child-at-reads.Learnt,
+  child-page-reads.Asked,
+  child-page-reads.Learnt,
   walk-below t,
   walk.Post,
 ) (walk-at t) walk.Post walk-Inv-loop walk-μ-loop
@@ -366,8 +366,8 @@ pub +walk-spec : {M : Type 1} → statement M
   count-at-reads.Learnt,
   high-at-reads.Asked,
   high-at-reads.Learnt,
-  child-at-reads.Asked,
-  child-at-reads.Learnt,
+  child-page-reads.Asked,
+  child-page-reads.Learnt,
   walk-below t,
   walk.Post,
 )
@@ -385,7 +385,7 @@ pub +walk-spec : {M : Type 1} → statement M
     (walk-count-at-requires t)
     (walk-loop-holds t)
     (walk-high-at-requires t)
-    (walk-child-at-requires t)
+    (walk-child-page-requires t)
     (walk-sub-walk t)
     (walk-walk-requires t)
     (walk-enum-known-below t)
