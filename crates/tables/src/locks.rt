@@ -20,6 +20,9 @@ const SLOTS: usize = 576;
 // How many bytes a slot has.
 const WIDTH: usize = 16;
 
+// Where the holder stands in a slot: the bytes before it are the name's.
+pub const HOLDER: usize = 8;
+
 // Where slot i starts.
 fn slot_place(i: usize) -> usize
     requires { ⌜ i < locksMost ⌝ }
@@ -43,7 +46,7 @@ pub fn holder_at(d: &[u8], i: usize) -> u16
     requires { ⌜ i < locksMost ⌝ }
     ensures { λ r. ⌜ r ≡ numberAt 2 (now (d .entry)) (lockPlace i + 8) ⌝ }
 {
-    numbers::read_u16(d, slot_place(i) + 8)
+    numbers::read_u16(d, slot_place(i) + HOLDER)
 }
 
 // the mode,
@@ -52,7 +55,7 @@ pub fn mode_at(d: &[u8], i: usize) -> u16
     requires { ⌜ i < locksMost ⌝ }
     ensures { λ r. ⌜ r ≡ numberAt 2 (now (d .entry)) (lockPlace i + 8 + 2) ⌝ }
 {
-    numbers::read_u16(d, slot_place(i) + 8 + 2)
+    numbers::read_u16(d, slot_place(i) + HOLDER + 2)
 }
 
 // and the filler behind them.
@@ -61,7 +64,7 @@ pub fn filler_at(d: &[u8], i: usize) -> u32
     requires { ⌜ i < locksMost ⌝ }
     ensures { λ r. ⌜ r ≡ numberAt 4 (now (d .entry)) (lockPlace i + 8 + 2 + 2) ⌝ }
 {
-    numbers::read_u32(d, slot_place(i) + 8 + 2 + 2)
+    numbers::read_u32(d, slot_place(i) + HOLDER + 2 + 2)
 }
 
 // A byte of slot i.
@@ -108,7 +111,7 @@ fn put_row(d: &mut [u8], i: usize, name: Key, holder: u16, mode: u16)
     ensures { λ _. ⌜ now (d .exit) ≡ putFields lockWidths (now (d .entry)) (lockPlace i) (name .0 ∷ holder ∷ mode ∷ 0 ∷ []) ⌝ }
 {
     let p = slot_place(i);
-    let q = p + 8;
+    let q = p + HOLDER;
     let r = q + 2;
     numbers::write_u64(d, p, name.0);
     numbers::write_u16(d, q, holder);
