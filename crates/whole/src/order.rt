@@ -345,7 +345,7 @@ pub fn stand_in_order(pages: &[u8], d: &[u8], level: usize, root: usize) -> bool
     requires { ⌜ length (now d) ≡ 4672 ⌝ }
     ensures { λ r. ⌜ r ≡ locksOk level (now (pages .entry)) (now (d .entry)) root ⌝ }
 {
-    if numbers::is_zero(d, 576, 4096) {
+    if tables::locks::are_zero(d) {
         return stand_free(pages, d, level, root);
     }
     stand_sorted(pages, d, level, root)
