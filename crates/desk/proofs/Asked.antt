@@ -26,9 +26,10 @@ module _ (a : Ask) (h : legalAsk book (bookAsk a) ≡ true) where
       subst (λ x. AskFits (bookAsk x)) (sym e)
       (ltb-true (lo .0) endMark (and-left (ltb (lo .0) endMark) (ltb (hi .0) endMark) keys), ltb-true (hi .0) endMark (and-right (ltb (lo .0) endMark) (ltb (hi .0) endMark) keys))
 
-  pub fits-insert : (k : Key) (r : ℕ) → a ≡ Insert k r → r < 4294967296 → AskFits (bookAsk a)
+  pub fits-insert : (k : Key) (r v : ℕ) → a ≡ Insert k r → v ≡ r → v < 4294967296 → AskFits (bookAsk a)
   unfolding legalAsk
-  fits-insert k r e f = subst (λ x. AskFits (bookAsk x)) (sym e) (ltb-true (k .0) endMark (legal-as (Insert k r) e), f)
+  fits-insert k r v e g f =
+      subst (λ x. AskFits (bookAsk x)) (sym e) (ltb-true (k .0) endMark (legal-as (Insert k r) e), subst (λ x. x < 4294967296) g f)
 
   pub fits-delete : (k : Key) → a ≡ Delete k → AskFits (bookAsk a)
   unfolding legalAsk

@@ -1,7 +1,7 @@
 // A request joins the queue. (Document 01, "Working the queue".)
 ghost use mathlib.Core.Path.{_≡_};
 ghost use mathlib.Core.Bool.{true, false};
-ghost use Prim.Native.Nat.{_<_, _≤_};
+ghost use Prim.Native.Nat.{_≤_};
 ghost use Rattle.limits.specs.Limits.{transactionsMost};
 ghost use Rattle.rules.specs.Desk.{runs, waitsNow, joined, legalAsk};
 ghost use Rattle.entries.specs.Meaning.{bookAsk};
@@ -10,14 +10,8 @@ ghost use Rattle.desks.specs.Fitting.{AskFits};
 ghost use Rattle.desks.specs.Whole.{Whole};
 ghost use Rattle.acts.specs.Acts.{Says};
 use entries::Ask;
+use entries::Value;
 use tables::queue;
-
-// A record number; what is learnt is that it fits its four bytes.
-fn record_of(rec: u32) -> u32
-    ensures { λ r. ⌜ rec < 4294967296 ⌝ }
-{
-    rec
-}
 
 // The record that is asked for; what is learnt is that the request's numbers fit the fields that will hold them.
 fn asked_record(ask: Ask) -> u32
@@ -26,7 +20,7 @@ fn asked_record(ask: Ask) -> u32
 {
     match ask {
         Ask::Read(_, _) => 0,
-        Ask::Insert(_, rec) => record_of(rec),
+        Ask::Insert(_, rec) => Value::Present(rec).record(),
         Ask::Delete(_) => 0,
     }
 }

@@ -72,7 +72,7 @@ impl Value {
 
     // The record as it stands in bytes: an absent one is 0.
     pub fn record(self) -> u32
-        ensures { λ r. ⌜ r ≡ orZero (bookValue self) ⌝ }
+        ensures { λ r. ⌜ (r ≡ orZero (bookValue self)) × (r < 4294967296) ⌝ }
     {
         match self {
             Value::Present(rec) => rec,

@@ -1,14 +1,14 @@
 -- A page of the buffer, and the buffer with another page there: what is read of it then, and how the part that is lent to the page code is
 -- that page. Pages lie 512 bytes apart. Assumes nothing.
 use Prim.Native.Nat.{ℕ, _+_, _*_, _-_, _≤_, _<_}
-use mathlib.Core.Path.{_≡_, refl, sym, _∙_}
+use mathlib.Core.Path.{_≡_, refl, sym, ap, _∙_}
 use mathlib.Core.Logic.{_≢_}
 use mathlib.Core.List.{List, [], _∷_}
 use native.Mathlib.Decide.{decLt}
 use native.Mathlib.Omega.{arith}
 use lib.ListN.{length, take, drop, length-take, length-drop}
 use borrow.Rule.Slice.PartMut.{putMid}
-use Rattle.numbers.specs.Numbers.{part}
+use Rattle.numbers.specs.Numbers.{numberAt, part}
 use Rattle.numbers.proofs.Parts.{length-part, length-putPart, part-same, part-other, lent, back}
 use Rattle.index.specs.Pictures.{pageAt, putPage}
 
@@ -51,6 +51,9 @@ page-kept s size q h g l r d = go (decLt r 64)
 pub page-lent : (s : List ℕ) (q : ℕ) → take (512 * q + 512 - 512 * q) (drop (512 * q) s) ≡ pageAt s q
 unfolding pageAt
 page-lent s q = lent (512 * q) 512 s
+
+pub number-lent : (s : List ℕ) (q at n : ℕ) → n ≡ numberAt 2 (take (512 * q + 512 - 512 * q) (drop (512 * q) s)) at → n ≡ numberAt 2 (pageAt s q) at
+number-lent s q at n e = e ∙ ap (λ p. numberAt 2 p at) (page-lent s q)
 
 pub page-back : (s : List ℕ) (q : ℕ) (t u : List ℕ) → length t ≡ length (take (512 * q + 512 - 512 * q) (drop (512 * q) s)) → t ≡ u
     → putMid (512 * q) (512 * q + 512 - 512 * q) s t ≡ putPage s q u

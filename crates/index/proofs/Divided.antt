@@ -19,9 +19,10 @@ use Rattle.entries.specs.declared.Key.{Key}
 use Rattle.pages.specs.declared.Child as P
 use Rattle.pages.specs.Rows.{rowsOf, entryRow, childRow, childPut, Divided, asTheyAre, fromZero, firstLow}
 use Rattle.pages.proofs.Children.{length-children}
+use Rattle.trees.specs.Growth.{lowKey}
 use Rattle.index.specs.declared.Grown.the-variants.{Same, Split}
-use Rattle.index.specs.Pictures.{Item, pageAt, putPage, blankPage, leafPage, innerPage}
-use Rattle.index.specs.Growing.{LeafFull, LeafSplit, lowKey, InnerRoom, InnerFull, Widened, zeroFirst}
+use Rattle.index.specs.Pictures.{Item, keyOf, pageAt, putPage, blankPage, leafPage, innerPage}
+use Rattle.index.specs.Growing.{LeafFull, LeafSplit, InnerRoom, InnerFull, Widened, zeroFirst}
 use Rattle.index.proofs.Buffers.{page-lent, page-back, length-page, length-putPage}
 use Rattle.index.proofs.Leaves as Leaf
 use Rattle.index.proofs.Inners as Inner
@@ -68,13 +69,13 @@ blank-count kind level p e = ap countOf (e ∙ built kind level) ∙ count-blank
 pub blank-length : (kind level : ℕ) (p : List ℕ) → p ≡ putHead (replicate 512 0) kind 0 level → length p ≡ 512
 blank-length kind level p e = ap length (e ∙ built kind level) ∙ length-blank kind level
 
-first-key : (es : List Item) → 0 < length es → length es ≤ 24 → Leaf.Smalls es → entryAt (leafPage es) 0 .key ≡ lowKey es
+first-key : (es : List Item) → 0 < length es → length es ≤ 24 → Leaf.Smalls es → entryAt (leafPage es) 0 .key ≡ lowKey keyOf 0 es
 unfolding entriesOf tab
 first-key [] h k s = absurd (omega arith)
 first-key (e ∷ es) h k s =
     let c = Leaf.leaf-count (e ∷ es) k in
     let x = Leaf.leaf-entries (e ∷ es) k s in
-    ap (λ ys. lowKey ys) (sym (ap (λ n. tab n 0 (entryAt (leafPage (e ∷ es)))) c) ∙ x)
+    ap (λ ys. lowKey keyOf 0 ys) (sym (ap (λ n. tab n 0 (entryAt (leafPage (e ∷ es)))) c) ∙ x)
 
 module _ (s : List ℕ) (pg u i : ℕ) (e : Item) (f : LeafFull s pg u i e) where
   abbrev es : List Item

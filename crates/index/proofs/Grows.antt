@@ -26,7 +26,7 @@ use Rattle.trees.specs.Growth.{halves, grown, fullRun}
 use Rattle.index.specs.declared.Grown.{Grown}
 use Rattle.index.specs.declared.Grown.the-variants.{Same}
 use Rattle.index.specs.Pictures.{Item, keyOf, pageAt, putPage, treeOf, leafPage, Laid}
-use Rattle.index.specs.Growing.{GrowIn, Grew, grownOf, LeafFull, LeafSplit, lowKey}
+use Rattle.index.specs.Growing.{GrowIn, Grew, grownOf, LeafFull, LeafSplit}
 use Rattle.index.proofs.Buffers.{page-lent, page-back, length-putPage, page-same, page-other}
 use Rattle.index.proofs.Leaves as Leaf
 use Rattle.index.proofs.Frame.{Times, own-page}
@@ -131,7 +131,7 @@ module _ (s : List ℕ) (pg u : ℕ) (e : Item) (g : GrowIn s 0 pg u e) (i : ℕ
       (omega arith) (λ v o. new-small v (take-in 13 new v o)) in
       let r′ = put-leaf s₂ u (drop 13 new) (page-same s₁ z₁ u (h .next) b y) (omega arith) (λ v o. new-small v (drop-in 13 new v o)) in
       let f = grown-is false (lt-leb (length new) 24 (omega arith)) in
-      let c : P.Child = record { low = record { 0 = lowKey (drop 13 new) }; page = u } in
+      let c : P.Child = record { low = record { 0 = G.lowKey keyOf 0 (drop 13 new) }; page = u } in
       subst (λ v. Grew 0 s v pg u e r) (sym (d .bytes)) (subst (λ v. Grew 0 s s₂ pg u e v) (sym (d .told))
       (record {
         size = length-putPage s₁ z₁ u (h .next) b y;
@@ -139,8 +139,7 @@ module _ (s : List ℕ) (pg u : ℕ) (e : Item) (g : GrowIn s 0 pg u e) (i : ℕ
         laid = l .1;
         told = (
           sym (ap (λ v. v .used) f),
-          ap (λ v. v .beside) f ∙ ap (λ v. some (record { low = v; tree = record { number = u; holds = drop 13 new } })) (same-low (drop 13 new))
-              ∙ ap (λ v. some (record { low = lowKey (drop 13 new); tree = v })) (sym (r′ .0)),
+          ap (λ v. v .beside) f ∙ ap (λ v. some (record { low = G.lowKey keyOf 0 (drop 13 new); tree = v })) (sym (r′ .0)),
           r′ .1,
           record { low = low-small (drop 13 new) (λ v o. new-small v (drop-in 13 new v o)); page = omega (arith, h .next) },
         );
@@ -152,11 +151,7 @@ module _ (s : List ℕ) (pg u : ℕ) (e : Item) (g : GrowIn s 0 pg u e) (i : ℕ
             ∙ page-other s (t .size) pg (t .which) a x q v (λ m. omega (arith, h .other));
       }))
     where
-      same-low : (xs : List Item) → G.lowKey keyOf 0 xs ≡ lowKey xs
-      same-low [] = refl
-      same-low (x ∷ xs) = refl
-
-      low-small : (xs : List Item) → Leaf.Smalls xs → lowKey xs < 18446744073709551616
+      low-small : (xs : List Item) → Leaf.Smalls xs → G.lowKey keyOf 0 xs < 18446744073709551616
       low-small [] m = lit< tt
       low-small (x ∷ xs) m = m x (inl refl) .key
 

@@ -7,7 +7,7 @@ use mathlib.Core.List.{List, map}
 use native.Mathlib.Nat.{zero-add}
 use native.Mathlib.Omega.{arith}
 use lib.Dec.{leb, eqb}
-use lib.ListN.{length, getD, take, drop, length-map, List·getD-map}
+use lib.ListN.{length, getD, length-map, List·getD-map}
 use borrow.Author.Tests.{le-leb, lt-leb, eq-eqb, ne-eqb}
 use Rattle.lists.proofs.Tests.{and-both}
 use Rattle.lists.proofs.Tables.{getD-tab}
@@ -23,7 +23,6 @@ use Rattle.index.specs.declared.Step.{Step}
 use Rattle.index.specs.Pictures.{keyOf, pageAt, treeOf, indexOf}
 use Rattle.index.specs.Changes.{entryFits}
 use Rattle.index.specs.Descents.{Subtree, Starts, TopOf, runOf}
-use Rattle.index.proofs.Buffers.{page-lent}
 use Rattle.index.proofs.Frame.{kid}
 use Rattle.index.proofs.Subtrees.{child-in, inner-filled, child-place}
 
@@ -42,15 +41,15 @@ pub child-chosen : (s : List ℕ) (n pg u k : ℕ) (st : Step) (q : ℕ) → Sub
 child-chosen s n pg u k st q t z h c = child-in s n pg u (st .slot) (countOf (pageAt s pg)) q t z refl (h .place .within) c
 
 -- ---- the run
-pub full-yes : (s : List ℕ) (pg n : ℕ) → n ≡ countOf (take (512 * pg + 512 - 512 * pg) (drop (512 * pg) s)) → 24 ≤ n
+pub full-yes : (s : List ℕ) (pg n : ℕ) → n ≡ countOf (pageAt s pg) → 24 ≤ n
     → _≡_ {A = ℕ} 1 (cond (leb 24 (countOf (pageAt s pg))) 1 0)
 full-yes s pg n e h =
-    sym (ap (λ b. cond {A = ℕ} b 1 0) (le-leb 24 (countOf (pageAt s pg)) (omega (arith, ap countOf (page-lent s pg)))))
+    sym (ap (λ b. cond {A = ℕ} b 1 0) (le-leb 24 (countOf (pageAt s pg)) (omega arith)))
 
-pub full-no : (s : List ℕ) (pg n : ℕ) → n ≡ countOf (take (512 * pg + 512 - 512 * pg) (drop (512 * pg) s)) → n < 24
+pub full-no : (s : List ℕ) (pg n : ℕ) → n ≡ countOf (pageAt s pg) → n < 24
     → _≡_ {A = ℕ} 0 (cond (leb 24 (countOf (pageAt s pg))) 1 0)
 full-no s pg n e h =
-    sym (ap (λ b. cond {A = ℕ} b 1 0) (lt-leb 24 (countOf (pageAt s pg)) (omega (arith, ap countOf (page-lent s pg)))))
+    sym (ap (λ b. cond {A = ℕ} b 1 0) (lt-leb 24 (countOf (pageAt s pg)) (omega arith)))
 
 pub run-leaf : (s : List ℕ) (n pg k r : ℕ) → n ≡ 0 → r ≡ cond (leb 24 (countOf (pageAt s pg))) 1 0 → r ≡ runOf n k s pg
 unfolding fullRun treeOf

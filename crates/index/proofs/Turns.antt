@@ -14,7 +14,6 @@ use Rattle.lists.specs.Lists.{tab, place, first, firstSome, orElse}
 use Rattle.lists.proofs.Tables.{tab-next, tab-done, drop-tab, first-next, first-found}
 use Rattle.lists.proofs.Joins.{map-drop}
 use Rattle.lists.proofs.Tests.{some-map}
-use Rattle.numbers.specs.Numbers.{part}
 use Rattle.entries.specs.Meaning.{bookEntry}
 use Rattle.entries.specs.declared.Entry as E
 use Rattle.rules.specs.Entries.{ghost}
@@ -38,14 +37,13 @@ use Rattle.index.proofs.Frame.{kid}
 use Rattle.index.proofs.Subtrees.{keys-ascend, leaf-few, child-place, subtree-root, subtree-wider}
 
 -- ---- page 0
-module _ (s : List ℕ) (w : WholePages s) (height : ℕ) (e : height ≡ heightOf (take 512 s)) where
+module _ (s : List ℕ) (w : WholePages s) (height : ℕ) (e : height ≡ heightOf (pageAt s 0)) where
   pub tall-one : 1 ≤ height
-  unfolding pageAt part
   tall-one = omega (arith, w .tall)
 
-  pub top-of : (root used : ℕ) → root ≡ rootOf (take 512 s) → used ≡ usedOf (take 512 s) → height < 65536
+  pub top-of : (root used : ℕ) → root ≡ rootOf (pageAt s 0) → used ≡ usedOf (pageAt s 0) → height < 65536
       → TopOf s (record { root = root; level = height - 1; used = used })
-  unfolding pageAt part indexOf
+  unfolding indexOf
   top-of root used r u l =
       record { root = r; used = u; level = ap (λ n. n - 1) e; low = omega (arith, w .tall); few = omega (arith, w .index .room) }
 
@@ -56,12 +54,13 @@ lent-some s pg h = subst (λ p. 1 ≤ countOf p) (sym (page-lent s pg)) (h .some
 pub lent-many : (s : List ℕ) (pg : ℕ) → InnerIn s pg → countOf (take (512 * pg + 512 - 512 * pg) (drop (512 * pg) s)) ≤ 30
 lent-many s pg h = subst (λ p. countOf p ≤ 30) (sym (page-lent s pg)) (h .few)
 
-pub step-for : (s : List ℕ) (pg k n i : ℕ) → InnerIn s pg → n ≡ countOf (take (512 * pg + 512 - 512 * pg) (drop (512 * pg) s))
+pub step-for : (s : List ℕ) (pg k n i : ℕ) → InnerIn s pg → n ≡ countOf (pageAt s pg)
     → ChildPlace (take (512 * pg + 512 - 512 * pg) (drop (512 * pg) s)) k i → Starts s pg k (record { slot = i; count = n })
 step-for s pg k n i h e p =
-    let q = page-lent s pg in
-    let c : n ≡ countOf (pageAt s pg) = e ∙ ap countOf q in
-    record { place = subst (λ x. ChildPlace x k i) q p; count = c; few = omega (arith, h .few) }
+    record { place = subst (λ x. ChildPlace x k i) (page-lent s pg) p; count = e; few = omega (arith, h .few) }
+
+pub low-lent : (s : List ℕ) (q i k : ℕ) → k ≡ childAt (take (512 * q + 512 - 512 * q) (drop (512 * q) s)) i .low .0 → k ≡ childAt (pageAt s q) i .low .0
+low-lent s q i k e = e ∙ ap (λ p. childAt p i .low .0) (page-lent s q)
 
 pub child-lent : (s : List ℕ) (pg i : ℕ) (c : P.Child) → c ≡ childAt (take (512 * pg + 512 - 512 * pg) (drop (512 * pg) s)) i
     → c .page ≡ childAt (pageAt s pg) i .page

@@ -48,14 +48,10 @@ pub record Grew (n : ℕ) (s s′ : List ℕ) (pg u : ℕ) (e : Item) (r : Grown
   pub spare : (q : ℕ) → usedIn r ≤ q → q < 64 → pageAt s′ q ≡ pageAt s q
 
 -- a leaf with one more entry, at place i of those that it had
-abbrev pub lowKey : List Item → ℕ
-lowKey [] = 0
-lowKey (e ∷ es) = e .key
-
 pub record LeafSplit (s s′ : List ℕ) (pg u i : ℕ) (e : Item) (r : Grown) : Type 0 where
   pub bytes : s′ ≡ putPage (putPage s pg (leafPage (take 13 (insertAt i e (entriesOf (pageAt s pg)))))) u
       (leafPage (drop 13 (insertAt i e (entriesOf (pageAt s pg)))))
-  pub told : r ≡ Split (u + 1) (record { low = record { 0 = lowKey (drop 13 (insertAt i e (entriesOf (pageAt s pg)))) }; page = u })
+  pub told : r ≡ Split (u + 1) (record { low = record { 0 = G.lowKey keyOf 0 (drop 13 (insertAt i e (entriesOf (pageAt s pg)))) }; page = u })
 
 -- a full leaf that is to be divided
 pub record LeafFull (s : List ℕ) (pg u i : ℕ) (e : Item) : Type 0 where

@@ -1,7 +1,8 @@
 // The way down the tree: what page 0 says, and the children of an inner page.
 ghost use mathlib.Core.Path.{_≡_};
 ghost use Prim.Native.Nat.{_<_};
-ghost use Rattle.pages.specs.Layout.{childAt};
+ghost use lib.ListN.{length};
+ghost use Rattle.pages.specs.Layout.{countOf, rootOf, usedOf, heightOf, childAt};
 ghost use Rattle.index.specs.Pictures.{pageAt, WholePages};
 ghost use Rattle.index.specs.Descents.{InnerIn, Starts, Goes, TopOf};
 use super::Step;
@@ -11,14 +12,38 @@ use entries::Key;
 use pages::head;
 use pages::inner;
 
+// Of page 0: the root's page.
+pub fn root_of(pages: &[u8]) -> usize
+    requires { ⌜ length (now pages) ≡ 32768 ⌝ }
+    ensures { λ r. ⌜ (r ≡ rootOf (pageAt (now (pages .entry)) 0)) × (r < 65536) ⌝ }
+{
+    head::root_of(&pages[0..512])
+}
+
+// Of page 0: how many pages are used.
+pub fn used_of(pages: &[u8]) -> usize
+    requires { ⌜ length (now pages) ≡ 32768 ⌝ }
+    ensures { λ r. ⌜ (r ≡ usedOf (pageAt (now (pages .entry)) 0)) × (r < 65536) ⌝ }
+{
+    head::used_of(&pages[0..512])
+}
+
+// Of page 0: the height of the tree.
+pub fn height_of(pages: &[u8]) -> usize
+    requires { ⌜ length (now pages) ≡ 32768 ⌝ }
+    ensures { λ r. ⌜ (r ≡ heightOf (pageAt (now (pages .entry)) 0)) × (r < 65536) ⌝ }
+{
+    head::height_of(&pages[0..512])
+}
+
 // Where the tree begins.
 pub fn top(pages: &[u8]) -> Top
     requires { ⌜ WholePages (now pages) ⌝ }
     ensures { λ r. ⌜ TopOf (now (pages .entry)) r ⌝ }
 {
-    let root = head::root_of(&pages[0..512]);
-    let used = head::used_of(&pages[0..512]);
-    let height = head::height_of(&pages[0..512]);
+    let root = root_of(pages);
+    let used = used_of(pages);
+    let height = height_of(pages);
     Top {
         root: root,
         level: height - 1,
@@ -26,29 +51,51 @@ pub fn top(pages: &[u8]) -> Top
     }
 }
 
+// How many entries or children page q has.
+pub fn count_at(pages: &[u8], q: usize) -> usize
+    requires { ⌜ length (now pages) ≡ 32768 ⌝ }
+    requires { ⌜ q < 64 ⌝ }
+    ensures { λ r. ⌜ (r ≡ countOf (pageAt (now (pages .entry)) q)) × (r < 65536) ⌝ }
+{
+    let a = 512 * q;
+    head::count_of(&pages[a..a + 512])
+}
+
+// The separator of child i of page q.
+pub fn low_at(pages: &[u8], q: usize, i: usize) -> Key
+    requires { ⌜ length (now pages) ≡ 32768 ⌝ }
+    requires { ⌜ q < 64 ⌝ }
+    requires { ⌜ i < 30 ⌝ }
+    ensures { λ r. ⌜ r .0 ≡ childAt (pageAt (now (pages .entry)) q) i .low .0 ⌝ }
+{
+    let a = 512 * q;
+    inner::low_at(&pages[a..a + 512], i)
+}
+
+// The page of child i of page q.
+pub fn child_page(pages: &[u8], q: usize, i: usize) -> usize
+    requires { ⌜ length (now pages) ≡ 32768 ⌝ }
+    requires { ⌜ q < 64 ⌝ }
+    requires { ⌜ i < 30 ⌝ }
+    ensures { λ r. ⌜ r ≡ childAt (pageAt (now (pages .entry)) q) i .page ⌝ }
+{
+    let a = 512 * q;
+    let c = inner::child_at(&pages[a..a + 512], i);
+    c.page as usize
+}
+
 // The place of the child that a key belongs to.
 pub fn step_to(pages: &[u8], pg: usize, key: Key) -> Step
     requires { ⌜ InnerIn (now pages) pg ⌝ }
     ensures { λ r. ⌜ Starts (now (pages .entry)) pg (key .0) r ⌝ }
 {
+    let count = count_at(pages, pg);
     let a = 512 * pg;
-    let count = head::count_of(&pages[a..a + 512]);
     let slot = inner::child_for(&pages[a..a + 512], key);
     Step {
         slot: slot,
         count: count,
     }
-}
-
-// The page of the child at a place.
-pub fn child_page(pages: &[u8], pg: usize, i: usize) -> usize
-    requires { ⌜ InnerIn (now pages) pg ⌝ }
-    requires { ⌜ i < 30 ⌝ }
-    ensures { λ r. ⌜ r ≡ childAt (pageAt (now (pages .entry)) pg) i .page ⌝ }
-{
-    let a = 512 * pg;
-    let c = inner::child_at(&pages[a..a + 512], i);
-    c.page as usize
 }
 
 // The child that a key belongs to.

@@ -9,15 +9,13 @@ ghost use Rattle.pages.specs.Layout.{EntryFits, putRoot};
 ghost use Rattle.trees.specs.Growth.{missing};
 ghost use Rattle.index.specs.Pictures.{keyOf, pageAt, putPage, innerPage, entriesIn, WholePages};
 ghost use Rattle.index.specs.Changes.{Added};
-ghost use Rattle.entries.specs.Meaning.{bookEntry, bookValue};
-ghost use Rattle.entries.specs.Records.{orZero};
+ghost use Rattle.entries.specs.Meaning.{bookEntry};
 ghost use Rattle.index.specs.Growing.{GrowIn, Grew, LeafFull, LeafSplit, InnerRoom, InnerFull, Widened, rootPage, RootIn};
 use super::Grown;
 use super::descent;
 use super::room;
 use entries::Entry;
 use entries::Key;
-use entries::Value;
 use pages::Child;
 use pages::head;
 use pages::inner;
@@ -55,18 +53,8 @@ pub fn fits_page(e: Entry)
 {
     let now = e.now;
     let before = e.before;
-    record_of(now);
-    record_of(before);
-}
-
-// The record, or 0 where it is absent.
-fn record_of(v: Value) -> u32
-    ensures { λ r. ⌜ (r ≡ orZero (bookValue v)) × (r < 4294967296) ⌝ }
-{
-    match v {
-        Value::Present(rec) => rec,
-        Value::Absent => 0,
-    }
+    now.record();
+    before.record();
 }
 
 // Writes page 0: the root, the pages used and the height.

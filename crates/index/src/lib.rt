@@ -7,6 +7,12 @@ mod room;
 mod search;
 mod settling;
 
+pub use descent::child_page;
+pub use descent::count_at;
+pub use descent::height_of;
+pub use descent::low_at;
+pub use descent::root_of;
+pub use descent::used_of;
 use entries::Entry;
 use entries::Key;
 pub use fresh::fresh_pages;

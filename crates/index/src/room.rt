@@ -9,7 +9,6 @@ ghost use Rattle.index.specs.Changes.{entryFits};
 ghost use Rattle.index.specs.Descents.{Subtree, runOf};
 use super::descent;
 use entries::Key;
-use pages::head;
 
 // Whether the pages used and those that an insert of this missing key needs are at most 64.
 pub fn room_for(pages: &[u8], key: Key) -> bool
@@ -48,8 +47,7 @@ fn full_leaf(pages: &[u8], pg: usize) -> usize
     requires { ⌜ Subtree (now pages) 0 pg 64 ⌝ }
     ensures { λ r. ⌜ r ≡ cond (leb 24 (countOf (pageAt (now (pages .entry)) pg))) 1 0 ⌝ }
 {
-    let a = 512 * pg;
-    if 24 <= head::count_of(&pages[a..a + 512]) {
+    if 24 <= descent::count_at(pages, pg) {
         return 1;
     }
     0

@@ -233,19 +233,9 @@ fn pack(e: Entry) -> Packed
     let now = e.now;
     let before = e.before;
     Packed {
-        now: record_in(now),
-        before: record_in(before),
+        now: now.record(),
+        before: before.record(),
         there: bit_of(now) + 2 * bit_of(before),
-    }
-}
-
-// The record, or 0 where it is absent.
-fn record_in(v: Value) -> u32
-    ensures { λ r. ⌜ r ≡ orZero (bookValue v) ⌝ }
-{
-    match v {
-        Value::Present(rec) => rec,
-        Value::Absent => 0,
     }
 }
 

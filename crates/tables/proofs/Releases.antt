@@ -24,10 +24,12 @@ module _ (d : List ℕ) (t i h : ℕ) (e : h ≡ numberAt 2 d (576 + 16 * i + 8)
   holder-in : numberAt 2 (part (lockPlace i) 16 d) 8 ≡ h
   holder-in = numberAt-part 2 (lockPlace i) 16 d 8 (omega arith) ∙ sym e
 
-  pub row-freed : (u : List ℕ) → h ≡ t → u ≡ zeroed 16 (576 + 16 * i) d → u ≡ rowReleased t i d
+  pub row-freed : (u : List ℕ) (p : ℕ) → h ≡ t → p ≡ lockPlace i → u ≡ zeroed 16 p d → u ≡ rowReleased t i d
   unfolding rowReleased zeroed
-  row-freed u q p =
-      let z : eqb (numberAt 2 (part (lockPlace i) 16 d) 8) t ≡ true = eq-eqb (numberAt 2 (part (lockPlace i) 16 d) 8) t (holder-in ∙ q) in rw z p
+  row-freed u p q l w =
+      let z : eqb (numberAt 2 (part (lockPlace i) 16 d) 8) t ≡ true = eq-eqb (numberAt 2 (part (lockPlace i) 16 d) 8) t (holder-in ∙ q) in
+      let v : u ≡ zeroed 16 (lockPlace i) d = w ∙ ap (λ k. zeroed 16 k d) l in
+      rw z v
 
   pub row-kept : (h ≡ t → ⊥) → i < locksMost → length d ≡ deskSize → d ≡ rowReleased t i d
   unfolding rowReleased

@@ -103,18 +103,18 @@ unfolding putSlot slotFields
 put-held d u i s l number e q p = rw (e, name-back, ← q) p
 
 -- ---- a waiting request read, and written
-module _ (d : List ℕ) (t p kind : ℕ) (e : p ≡ recordPlace t) (q : kind ≡ numberAt 2 d (p + 2)) where
-  pub ask-read : (lo hi : ℕ) → kind ≡ 4 → lo ≡ numberAt 8 d (p + 2 + 2 + 4) → hi ≡ numberAt 8 d (p + 2 + 2 + 4 + 8) → read lo hi ≡ askAt d t
+module _ (d : List ℕ) (t kind : ℕ) (q : kind ≡ numberAt 2 d (recordPlace t + 2)) where
+  pub ask-read : (lo hi : ℕ) → kind ≡ 4 → lo ≡ numberAt 8 d (recordPlace t + 2 + 2 + 4) → hi ≡ numberAt 8 d (recordPlace t + 2 + 2 + 4 + 8) → read lo hi ≡ askAt d t
   unfolding askIn recordAt fieldsAt
-  ask-read lo hi k r s = rw (← e, ← q, k, r, s)
+  ask-read lo hi k r s = rw (← q, k, r, s)
 
-  pub ask-insert : (lo rec : ℕ) → (kind ≡ 4 → ⊥) → kind ≡ 5 → lo ≡ numberAt 8 d (p + 2 + 2 + 4) → rec ≡ numberAt 4 d (p + 2 + 2) → insert lo rec ≡ askAt d t
+  pub ask-insert : (lo rec : ℕ) → (kind ≡ 4 → ⊥) → kind ≡ 5 → lo ≡ numberAt 8 d (recordPlace t + 2 + 2 + 4) → rec ≡ numberAt 4 d (recordPlace t + 2 + 2) → insert lo rec ≡ askAt d t
   unfolding askIn recordAt fieldsAt
-  ask-insert lo rec h k r s = rw (← e, ← q, k, r, s)
+  ask-insert lo rec h k r s = rw (← q, k, r, s)
 
-  pub ask-delete : (lo : ℕ) → (kind ≡ 4 → ⊥) → (kind ≡ 5 → ⊥) → lo ≡ numberAt 8 d (p + 2 + 2 + 4) → delete lo ≡ askAt d t
+  pub ask-delete : (lo : ℕ) → (kind ≡ 4 → ⊥) → (kind ≡ 5 → ⊥) → lo ≡ numberAt 8 d (recordPlace t + 2 + 2 + 4) → delete lo ≡ askAt d t
   unfolding askIn recordAt fieldsAt
-  ask-delete lo h k r = rw (← e, ← q, ne-eqb kind 4 h, ne-eqb kind 5 k, r)
+  ask-delete lo h k r = rw (← q, ne-eqb kind 4 h, ne-eqb kind 5 k, r)
 
 module _ (d u : List ℕ) (t : ℕ) (a : A.Ask) where
   pub put-read : (lo hi : Key) → a ≡ AV.Read lo hi → u ≡ putAsk d t (4 ∷ 0 ∷ lo .0 ∷ hi .0 ∷ []) → u ≡ putAsk d t (askFields (bookAsk a))

@@ -8,6 +8,7 @@ ghost use Rattle.tables.specs.Layout.{nameIn, modeIn, modeNumber, bookMo
 ghost use Rattle.tables.specs.Moves.{isSlotOf, isSlotAgainst, strengthened};
 use entries::Key;
 
+pub mod head;
 pub mod locks;
 pub mod queue;
 pub mod transactions;

@@ -2,8 +2,9 @@
 ghost use mathlib.Core.Path.{_≡_};
 ghost use mathlib.Core.Bool.{not};
 ghost use mathlib.Core.List.{[], _∷_};
-ghost use Prim.Native.Nat.{_<_};
-ghost use Rattle.numbers.specs.Numbers.{putFields};
+ghost use Prim.Native.Nat.{_+_, _*_, _<_};
+ghost use lib.ListN.{getD};
+ghost use Rattle.numbers.specs.Numbers.{numberAt, putFields, zeroAt};
 ghost use Rattle.rules.specs.Entries.{isThere};
 ghost use Rattle.tables.specs.Layout.{deskSize, locksMost, lockWidths, lockPlace, nameIn, slotAt, putSlot, bookMode, bookSlot};
 ghost use Rattle.tables.specs.Moves.{isSlotOf, heldIn, freeIn, lockTaken, lockGiven, rowReleased, locksReleased};
@@ -19,20 +20,83 @@ const SLOTS: usize = 576;
 // How many bytes a slot has.
 const WIDTH: usize = 16;
 
+// Where the holder stands in a slot: the bytes before it are the name's.
+pub const HOLDER: usize = 8;
+
+// Where slot i starts.
+fn slot_place(i: usize) -> usize
+    requires { ⌜ i < locksMost ⌝ }
+    ensures { λ r. ⌜ r ≡ lockPlace i ⌝ }
+{
+    SLOTS + WIDTH * i
+}
+
+// The fields of slot i, one by one, as they stand, whether it is held or free: the name,
+pub fn name_at(d: &[u8], i: usize) -> Key
+    requires { do ⌜ (← ⟦d.len()⟧) ≡ deskSize ⌝ }
+    requires { ⌜ i < locksMost ⌝ }
+    ensures { λ r. ⌜ r .0 ≡ numberAt 8 (now (d .entry)) (lockPlace i) ⌝ }
+{
+    Key(numbers::read_u64(d, slot_place(i)))
+}
+
+// the holder,
+pub fn holder_at(d: &[u8], i: usize) -> u16
+    requires { do ⌜ (← ⟦d.len()⟧) ≡ deskSize ⌝ }
+    requires { ⌜ i < locksMost ⌝ }
+    ensures { λ r. ⌜ r ≡ numberAt 2 (now (d .entry)) (lockPlace i + 8) ⌝ }
+{
+    numbers::read_u16(d, slot_place(i) + HOLDER)
+}
+
+// the mode,
+pub fn mode_at(d: &[u8], i: usize) -> u16
+    requires { do ⌜ (← ⟦d.len()⟧) ≡ deskSize ⌝ }
+    requires { ⌜ i < locksMost ⌝ }
+    ensures { λ r. ⌜ r ≡ numberAt 2 (now (d .entry)) (lockPlace i + 8 + 2) ⌝ }
+{
+    numbers::read_u16(d, slot_place(i) + HOLDER + 2)
+}
+
+// and the filler behind them.
+pub fn filler_at(d: &[u8], i: usize) -> u32
+    requires { do ⌜ (← ⟦d.len()⟧) ≡ deskSize ⌝ }
+    requires { ⌜ i < locksMost ⌝ }
+    ensures { λ r. ⌜ r ≡ numberAt 4 (now (d .entry)) (lockPlace i + 8 + 2 + 2) ⌝ }
+{
+    numbers::read_u32(d, slot_place(i) + HOLDER + 2 + 2)
+}
+
+// A byte of slot i.
+pub fn byte_at(d: &[u8], i: usize, b: usize) -> u8
+    requires { do ⌜ (← ⟦d.len()⟧) ≡ deskSize ⌝ }
+    requires { ⌜ i < locksMost ⌝ }
+    requires { ⌜ b < 16 ⌝ }
+    ensures { λ r. ⌜ r ≡ getD (now (d .entry)) (lockPlace i + b) 0 ⌝ }
+{
+    d[slot_place(i) + b]
+}
+
+// Whether every byte of the slots is zero: all are free. One wide look tells.
+pub fn are_zero(d: &[u8]) -> bool
+    requires { do ⌜ (← ⟦d.len()⟧) ≡ deskSize ⌝ }
+    ensures { λ r. ⌜ r ≡ zeroAt (16 * locksMost) (lockPlace 0) (now (d .entry)) ⌝ }
+{
+    numbers::is_zero(d, SLOTS, WIDTH * LOCKS)
+}
+
 // What slot i holds.
 pub fn slot_at(d: &[u8], i: usize) -> Slot
     requires { do ⌜ (← ⟦d.len()⟧) ≡ deskSize ⌝ }
     requires { ⌜ i < locksMost ⌝ }
     ensures { λ r. ⌜ bookSlot r ≡ slotAt (now (d .entry)) i ⌝ }
 {
-    let p = SLOTS + WIDTH * i;
-    let q = p + 8;
-    let holder = numbers::read_u16(d, q);
+    let holder = holder_at(d, i);
     if holder == 0 {
         return Slot::Free;
     }
-    let name = Key(numbers::read_u64(d, p));
-    let mode = Mode::of(numbers::read_u16(d, q + 2));
+    let name = name_at(d, i);
+    let mode = Mode::of(mode_at(d, i));
     Slot::Held(Lock {
         name: name,
         holder: holder,
@@ -46,8 +110,8 @@ fn put_row(d: &mut [u8], i: usize, name: Key, holder: u16, mode: u16)
     requires { ⌜ i < locksMost ⌝ }
     ensures { λ _. ⌜ now (d .exit) ≡ putFields lockWidths (now (d .entry)) (lockPlace i) (name .0 ∷ holder ∷ mode ∷ 0 ∷ []) ⌝ }
 {
-    let p = SLOTS + WIDTH * i;
-    let q = p + 8;
+    let p = slot_place(i);
+    let q = p + HOLDER;
     let r = q + 2;
     numbers::write_u64(d, p, name.0);
     numbers::write_u16(d, q, holder);
@@ -153,9 +217,8 @@ fn release_row(d: &mut [u8], i: usize, t: u16)
     requires { ⌜ i < locksMost ⌝ }
     ensures { λ _. ⌜ now (d .exit) ≡ rowReleased t i (now (d .entry)) ⌝ }
 {
-    let p = SLOTS + WIDTH * i;
-    if numbers::read_u16(d, p + 8) == t {
-        numbers::zero_bytes(d, p, WIDTH);
+    if holder_at(d, i) == t {
+        numbers::zero_bytes(d, slot_place(i), WIDTH);
     }
 }
 

@@ -1,9 +1,10 @@
 // The queue of waiting requests, the oldest first. (Document 01, "Working the queue".)
 ghost use mathlib.Core.Path.{_≡_};
-ghost use Prim.Native.Nat.{_<_, _≤_};
+ghost use Prim.Native.Nat.{_*_, _-_, _<_, _≤_};
 ghost use lib.Dec.{eqb};
+ghost use Rattle.numbers.specs.Numbers.{zeroAt};
 ghost use Rattle.entries.specs.Meaning.{bookAsk};
-ghost use Rattle.tables.specs.Layout.{deskSize, transactionsMost, queued, inPlace};
+ghost use Rattle.tables.specs.Layout.{deskSize, transactionsMost, queued, queuePlace, inPlace};
 ghost use Rattle.tables.specs.Moves.{waitsIn, queueJoined, queueLeft};
 use crate::TRANSACTIONS;
 use crate::transactions;
@@ -30,6 +31,15 @@ pub fn in_place(d: &[u8], i: usize) -> u16
     ensures { λ r. ⌜ r ≡ inPlace (now (d .entry)) i ⌝ }
 {
     numbers::read_u16(d, PLACES + 2 * i)
+}
+
+// Whether the places of the queue from n on are zero.
+pub fn is_zero_from(d: &[u8], n: usize) -> bool
+    requires { do ⌜ (← ⟦d.len()⟧) ≡ deskSize ⌝ }
+    requires { ⌜ n ≤ transactionsMost ⌝ }
+    ensures { λ r. ⌜ r ≡ zeroAt (2 * transactionsMost - 2 * n) (queuePlace n) (now (d .entry)) ⌝ }
+{
+    numbers::is_zero(d, PLACES + 2 * n, 2 * TRANSACTIONS - 2 * n)
 }
 
 // Whether t stands at a place of the queue.

@@ -2,6 +2,7 @@
 ghost use mathlib.Core.Path.{_≡_};
 ghost use mathlib.Core.List.{[], _∷_};
 ghost use Prim.Native.Nat.{_+_, _*_, _≤_};
+ghost use Rattle.numbers.specs.Numbers.{numberAt};
 ghost use Rattle.entries.specs.Meaning.{bookAsk};
 ghost use Rattle.tables.specs.Layout.{deskSize, transactionsMost, recordPlace, isRunning, isWaiting, askAt, askFields, putAsk};
 ghost use Rattle.tables.specs.Moves.{markNumber, markPut};
@@ -14,18 +15,65 @@ const RECORDS: usize = 32;
 // How many bytes a record has.
 const WIDTH: usize = 32;
 
-// The waiting kinds: read, insert, delete.
-const READ: u16 = 4;
-
-const INSERT: u16 = 5;
-
-const DELETE: u16 = 6;
-
 // Where a transaction's record stands.
 fn record_place(t: u16) -> usize
     ensures { λ r. ⌜ r ≡ recordPlace t ⌝ }
 {
     RECORDS + WIDTH * (t as usize)
+}
+
+// The fields of a transaction's record, one by one, as they stand: whether it runs,
+pub fn running_at(d: &[u8], t: u16) -> u16
+    requires { do ⌜ (← ⟦d.len()⟧) ≡ deskSize ⌝ }
+    requires { ⌜ t ≤ transactionsMost ⌝ }
+    ensures { λ r. ⌜ r ≡ numberAt 2 (now (d .entry)) (recordPlace t) ⌝ }
+{
+    numbers::read_u16(d, record_place(t))
+}
+
+// the waiting kind,
+pub fn kind_at(d: &[u8], t: u16) -> u16
+    requires { do ⌜ (← ⟦d.len()⟧) ≡ deskSize ⌝ }
+    requires { ⌜ t ≤ transactionsMost ⌝ }
+    ensures { λ r. ⌜ r ≡ numberAt 2 (now (d .entry)) (recordPlace t + 2) ⌝ }
+{
+    numbers::read_u16(d, record_place(t) + 2)
+}
+
+// the record,
+pub fn rec_at(d: &[u8], t: u16) -> u32
+    requires { do ⌜ (← ⟦d.len()⟧) ≡ deskSize ⌝ }
+    requires { ⌜ t ≤ transactionsMost ⌝ }
+    ensures { λ r. ⌜ r ≡ numberAt 4 (now (d .entry)) (recordPlace t + 2 + 2) ⌝ }
+{
+    numbers::read_u32(d, record_place(t) + 2 + 2)
+}
+
+// lo,
+pub fn lo_at(d: &[u8], t: u16) -> Key
+    requires { do ⌜ (← ⟦d.len()⟧) ≡ deskSize ⌝ }
+    requires { ⌜ t ≤ transactionsMost ⌝ }
+    ensures { λ r. ⌜ r .0 ≡ numberAt 8 (now (d .entry)) (recordPlace t + 2 + 2 + 4) ⌝ }
+{
+    Key(numbers::read_u64(d, record_place(t) + 2 + 2 + 4))
+}
+
+// hi,
+pub fn hi_at(d: &[u8], t: u16) -> Key
+    requires { do ⌜ (← ⟦d.len()⟧) ≡ deskSize ⌝ }
+    requires { ⌜ t ≤ transactionsMost ⌝ }
+    ensures { λ r. ⌜ r .0 ≡ numberAt 8 (now (d .entry)) (recordPlace t + 2 + 2 + 4 + 8) ⌝ }
+{
+    Key(numbers::read_u64(d, record_place(t) + 2 + 2 + 4 + 8))
+}
+
+// and the filler behind them.
+pub fn filler_at(d: &[u8], t: u16) -> u64
+    requires { do ⌜ (← ⟦d.len()⟧) ≡ deskSize ⌝ }
+    requires { ⌜ t ≤ transactionsMost ⌝ }
+    ensures { λ r. ⌜ r ≡ numberAt 8 (now (d .entry)) (recordPlace t + 2 + 2 + 4 + 8 + 8) ⌝ }
+{
+    numbers::read_u64(d, record_place(t) + 2 + 2 + 4 + 8 + 8)
 }
 
 // Whether t runs.
@@ -34,7 +82,7 @@ pub fn is_running(d: &[u8], t: u16) -> bool
     requires { ⌜ t ≤ transactionsMost ⌝ }
     ensures { λ r. ⌜ r ≡ isRunning (now (d .entry)) t ⌝ }
 {
-    numbers::read_u16(d, record_place(t)) == 1
+    running_at(d, t) == 1
 }
 
 // The number that says whether a transaction runs.
@@ -59,7 +107,7 @@ pub fn is_waiting(d: &[u8], t: u16) -> bool
     requires { ⌜ t ≤ transactionsMost ⌝ }
     ensures { λ r. ⌜ r ≡ isWaiting (now (d .entry)) t ⌝ }
 {
-    numbers::read_u16(d, record_place(t) + 2) != 0
+    kind_at(d, t) != 0
 }
 
 // The request that t waits for; it means something only where t waits.
@@ -68,18 +116,13 @@ pub fn ask_at(d: &[u8], t: u16) -> Ask
     requires { ⌜ t ≤ transactionsMost ⌝ }
     ensures { λ r. ⌜ bookAsk r ≡ askAt (now (d .entry)) t ⌝ }
 {
-    let kind_at = record_place(t) + 2;
-    let rec_at = kind_at + 2;
-    let lo_at = rec_at + 4;
-    let kind = numbers::read_u16(d, kind_at);
-    let lo = Key(numbers::read_u64(d, lo_at));
-    if kind == READ {
-        let hi = Key(numbers::read_u64(d, lo_at + 8));
-        return Ask::Read(lo, hi);
+    let kind = kind_at(d, t);
+    let lo = lo_at(d, t);
+    if kind == Ask::READ {
+        return Ask::Read(lo, hi_at(d, t));
     }
-    if kind == INSERT {
-        let rec = numbers::read_u32(d, rec_at);
-        return Ask::Insert(lo, rec);
+    if kind == Ask::INSERT {
+        return Ask::Insert(lo, rec_at(d, t));
     }
     Ask::Delete(lo)
 }
@@ -106,9 +149,9 @@ pub fn put_ask(d: &mut [u8], t: u16, a: Ask)
     ensures { λ _. ⌜ now (d .exit) ≡ putAsk (now (d .entry)) t (askFields (bookAsk a)) ⌝ }
 {
     match a {
-        Ask::Read(lo, hi) => put_request(d, t, READ, 0, lo, hi),
-        Ask::Insert(k, r) => put_request(d, t, INSERT, r, k, Key::LOWEST),
-        Ask::Delete(k) => put_request(d, t, DELETE, 0, k, Key::LOWEST),
+        Ask::Read(lo, hi) => put_request(d, t, Ask::READ, 0, lo, hi),
+        Ask::Insert(k, r) => put_request(d, t, Ask::INSERT, r, k, Key::LOWEST),
+        Ask::Delete(k) => put_request(d, t, Ask::DELETE, 0, k, Key::LOWEST),
     }
 }
 

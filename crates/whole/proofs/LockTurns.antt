@@ -15,11 +15,11 @@ use Rattle.lists.proofs.Tests.{both}
 use Rattle.lists.proofs.Tables.{tab-next, tab-done}
 use Rattle.rules.specs.Kinds.{Lock, Entry, on, end}
 use Rattle.rules.specs.Document.{endMark}
-use Rattle.numbers.specs.Numbers.{Bytes, numberAt, zeroAt}
+use Rattle.numbers.specs.Numbers.{Bytes, zeroAt}
 use Rattle.whole_pages.specs.Walks.{spanOf, onlyZero, marks, treeOk, wentOk, frontOk, treeIn, pagesOk}
 use Rattle.whole_pages.proofs.Marks.{reached, walk-is}
 use Rattle.whole_pages.proofs.Pages.{guard-went, went-ok}
-use Rattle.whole_pages.proofs.Tops.{read-first, height-some, front-parts}
+use Rattle.whole_pages.proofs.Tops.{height-some, front-parts}
 use Rattle.rules.specs.Entries.{isThere}
 use Rattle.rules.specs.Locks.{conflict}
 use Rattle.rules.specs.Good.{together}
@@ -174,13 +174,11 @@ module _ (s d : List ℕ) (a : Bool) (e : a ≡ pagesOk s) where
     good-pages : pagesOk s ≡ true
     good-pages = sym e ∙ not-false a t
 
-    pub tall-pages : (h : ℕ) → h ≡ numberAt 2 s 20 → 1 ≤ h
+    pub tall-pages : (h : ℕ) → h ≡ heightOf (pageAt s 0) → 1 ≤ h
     tall-pages h f = height-some s h f (front-parts s (pages-front s good-pages) .2)
 
-    pub fine-root : (r h : ℕ) → Bytes s → length s ≡ 32768 → r ≡ numberAt 2 s 16 → h ≡ numberAt 2 s 20 → Fine (h - 1) s r
-    fine-root r h b size f g =
-        let x : r ≡ rootOf (pageAt s 0) = f ∙ read-first s 16 (lit≤ tt) in
-        let y : h ≡ heightOf (pageAt s 0) = g ∙ read-first s 20 (lit≤ tt) in
+    pub fine-root : (r h : ℕ) → Bytes s → length s ≡ 32768 → r ≡ rootOf (pageAt s 0) → h ≡ heightOf (pageAt s 0) → Fine (h - 1) s r
+    fine-root r h b size x y =
         record { least = 2; low = 0; high = endMark; one = lit≤ tt; bytes = b; size = size; ok = subst (λ k. treeOk (k - 1) 2 s (spanOf r 0 endMark) ≡ true) (sym y) (subst (λ v. treeOk (heightOf (pageAt s 0) - 1) 2 s (spanOf v 0 endMark) ≡ true) (sym x) (pages-tree s good-pages)) }
 
     module _ (b : Bool) (f : b ≡ deskOk d) where
@@ -188,11 +186,9 @@ module _ (s d : List ℕ) (a : Bool) (e : a ≡ pagesOk s) where
       unfolding wholeOk
       not-desk v = sym (ap₂ (λ x y. (x && y) && locksOk (heightOf (pageAt s 0) - 1) s d (rootOf (pageAt s 0))) good-pages (sym f ∙ not-true b v))
 
-      pub whole-done : (r h : ℕ) (c : Bool) → not b ≡ false → r ≡ numberAt 2 s 16 → h ≡ numberAt 2 s 20 → c ≡ locksOk (h - 1) s d r → c ≡ wholeOk s d
+      pub whole-done : (r h : ℕ) (c : Bool) → not b ≡ false → r ≡ rootOf (pageAt s 0) → h ≡ heightOf (pageAt s 0) → c ≡ locksOk (h - 1) s d r → c ≡ wholeOk s d
       unfolding wholeOk
-      whole-done r h c v x y z =
-          let u : r ≡ rootOf (pageAt s 0) = x ∙ read-first s 16 (lit≤ tt) in
-          let w : h ≡ heightOf (pageAt s 0) = y ∙ read-first s 20 (lit≤ tt) in
+      whole-done r h c v u w z =
           z
           ∙ ap₂ (λ k m. locksOk (k - 1) s d m) w u
           ∙ sym (ap₂ (λ x y. (x && y) && locksOk (heightOf (pageAt s 0) - 1) s d (rootOf (pageAt s 0))) good-pages (sym f ∙ not-false b v))

@@ -28,8 +28,8 @@ fn passes(pages: &[u8], desk: &[u8]) -> bool
     if !whole_desk::is_desk(desk) {
         return false;
     }
-    let root = numbers::number_at(pages, 16);
-    let height = numbers::number_at(pages, 20);
+    let root = index::root_of(pages);
+    let height = index::height_of(pages);
     order::stand_in_order(pages, desk, height - 1, root)
 }
 

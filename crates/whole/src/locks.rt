@@ -138,7 +138,7 @@ fn are_held(pages: &[u8], d: &[u8], q: usize) -> bool
     requires { ⌜ countOf (pageAt (now pages) q) ≤ 24 ⌝ }
     ensures { λ r. ⌜ r ≡ all (entryHeld (now (d .entry))) (entriesOf (pageAt (now (pages .entry)) q)) ⌝ }
 {
-    let n = whole_pages::count_at(pages, q);
+    let n = index::count_at(pages, q);
     let mut i: usize = 0;
     while i < n {
         if !is_held(pages, d, q, i) {
@@ -158,10 +158,10 @@ fn owners_hold(pages: &[u8], d: &[u8], level: usize, q: usize) -> bool
     if level == 0 {
         return are_held(pages, d, q);
     }
-    let n = whole_pages::count_at(pages, q);
+    let n = index::count_at(pages, q);
     let mut i: usize = 0;
     while i < n {
-        let child = whole_pages::child_at(pages, q, i);
+        let child = index::child_page(pages, q, i);
         if !owners_hold(pages, d, level - 1, child) {
             return false;
         }
@@ -177,7 +177,7 @@ fn has_entry(pages: &[u8], q: usize, key: Key) -> bool
     requires { ⌜ countOf (pageAt (now pages) q) ≤ 24 ⌝ }
     ensures { λ r. ⌜ r ≡ any (hasKey (key .0)) (entriesOf (pageAt (now (pages .entry)) q)) ⌝ }
 {
-    let n = whole_pages::count_at(pages, q);
+    let n = index::count_at(pages, q);
     let mut i: usize = 0;
     while i < n {
         if is_at(pages, q, i, key) {
@@ -208,10 +208,10 @@ fn has_key(pages: &[u8], level: usize, q: usize, key: Key) -> bool
     if level == 0 {
         return has_entry(pages, q, key);
     }
-    let n = whole_pages::count_at(pages, q);
+    let n = index::count_at(pages, q);
     let mut i: usize = 0;
     while i < n {
-        let child = whole_pages::child_at(pages, q, i);
+        let child = index::child_page(pages, q, i);
         if has_key(pages, level - 1, child, key) {
             return true;
         }

@@ -230,7 +230,7 @@ fn pass_leaf(pages: &[u8], d: &[u8], order: &[u8], m: usize, q: usize, k: usize)
     requires { ⌜ k ≤ m ⌝ }
     ensures { λ r. ⌜ r ≡ past (placed (now (d .entry)) (now (order .entry))) m (entriesOf (pageAt (now (pages .entry)) q)) k ⌝ }
 {
-    let n = whole_pages::count_at(pages, q);
+    let n = index::count_at(pages, q);
     let mut at = k;
     let mut i: usize = 0;
     while i < n {
@@ -264,11 +264,11 @@ fn pass_tree(
     if level == 0 {
         return pass_leaf(pages, d, order, m, q, k);
     }
-    let n = whole_pages::count_at(pages, q);
+    let n = index::count_at(pages, q);
     let mut at = k;
     let mut i: usize = 0;
     while i < n {
-        let child = whole_pages::child_at(pages, q, i);
+        let child = index::child_page(pages, q, i);
         let passage = pass_tree(pages, d, order, m, level - 1, child, at);
         let Passage::To(j) = passage else {
             return Passage::Stuck;
@@ -345,7 +345,7 @@ pub fn stand_in_order(pages: &[u8], d: &[u8], level: usize, root: usize) -> bool
     requires { ⌜ length (now d) ≡ 4672 ⌝ }
     ensures { λ r. ⌜ r ≡ locksOk level (now (pages .entry)) (now (d .entry)) root ⌝ }
 {
-    if numbers::is_zero(d, 576, 4096) {
+    if tables::locks::are_zero(d) {
         return stand_free(pages, d, level, root);
     }
     stand_sorted(pages, d, level, root)

@@ -8,20 +8,19 @@ use native.Mathlib.Nat.{sub-zero}
 use native.Mathlib.Omega.{arith}
 use borrow.Author.Tests.{leb-true, not-true, not-false, eq-eqb, ne-eqb, le-leb, lt-leb}
 use lib.Dec.{eqb, leb}
-use lib.ListN.{length}
 use Rattle.lists.specs.Lists.{tab, all}
 use Rattle.lists.proofs.Tests.{and-left, and-right}
 use Rattle.lists.proofs.Tables.{tab-next, tab-done}
 use Rattle.numbers.specs.Numbers.{numberAt, fieldsAt, zeroAt}
 use Rattle.sets.specs.declared.Set.{Set}
-use Rattle.tables.specs.Layout.{queued, inPlace, isRunning}
+use Rattle.tables.specs.Layout.{queued, inPlace, isRunning, lockPlace}
 use Rattle.whole_pages.specs.declared.Trail.{Trail}
 use Rattle.whole_pages.specs.declared.Trail.the-variants.{Went, Bad}
 use Rattle.whole_pages.specs.Walks.{onlyZero, markAt, marks, after}
 use Rattle.whole_desk.specs.Checks.{headOk, askersIn, recordOk, recordsOk, fieldsOk, slotOk, deskOk}
 
 -- ---- the head
-module _ (d : List ℕ) (size kind n : ℕ) (z : Bool) (e : size ≡ numberAt 2 d 0) (f : kind ≡ numberAt 2 d 2) (g : n ≡ numberAt 2 d 4) (h : z ≡ zeroAt 26 6 d) where
+module _ (d : List ℕ) (size kind n : ℕ) (z : Bool) (e : size ≡ numberAt 2 d 0) (f : kind ≡ numberAt 2 d 2) (g : n ≡ queued d) (h : z ≡ zeroAt 26 6 d) where
   front-is : (((eqb size 4672 && eqb kind 8) && leb n 16) && z) ≡ (((eqb (numberAt 2 d 0) 4672 && eqb (numberAt 2 d 2) 8) && leb (queued d) 16) && zeroAt 26 6 d)
   front-is = rw (e, f, g, h) refl
 
@@ -31,15 +30,9 @@ module _ (d : List ℕ) (size kind n : ℕ) (z : Bool) (e : size ≡ numberAt 2 
       sym (ap (λ b. b && zeroAt (32 - 2 * queued d) (32 + 2 * queued d) d) (sym front-is ∙ not-true (((eqb size 4672 && eqb kind 8) && leb n 16) && z) t))
 
   module _ (t : not (((eqb size 4672 && eqb kind 8) && leb n 16) && z) ≡ false) where
-    head-few : n ≤ 16
+    pub head-few : n ≤ 16
     head-few =
         leb-true n 16 (and-right (eqb size 4672 && eqb kind 8) (leb n 16) (and-left ((eqb size 4672 && eqb kind 8) && leb n 16) z (not-false (((eqb size 4672 && eqb kind 8) && leb n 16) && z) t)))
-
-    pub head-room : 2 * n ≤ 32
-    head-room = let l = head-few in omega arith
-
-    pub head-end : length d ≡ 4672 → 32 + 2 * n + (32 - 2 * n) ≤ length d
-    head-end l = let m = head-few in omega arith
 
     pub head-done : (y : Bool) → y ≡ zeroAt (32 - 2 * n) (32 + 2 * n) d → y ≡ headOk d
     unfolding headOk
@@ -56,7 +49,7 @@ head-queue d h =
     (and-left (((eqb (numberAt 2 d 0) 4672 && eqb (numberAt 2 d 2) 8) && leb (queued d) 16) && zeroAt 26 6 d) (zeroAt (32 - 2 * queued d) (32 + 2 * queued d) d) h)))
 
 -- ---- the askers
-module _ (d : List ℕ) (n : ℕ) (c : n ≡ numberAt 2 d 4) where
+module _ (d : List ℕ) (n : ℕ) (c : n ≡ queued d) where
   pub askers-few : queued d ≤ 16 → n ≤ 16
   askers-few h = omega arith
 
@@ -64,7 +57,7 @@ module _ (d : List ℕ) (n : ℕ) (c : n ≡ numberAt 2 d 4) where
   unfolding askersIn
   askers-start m e = ap₂ (λ k o. marks 17 (tab k 0 (inPlace d)) o) (sym c ∙ sym (sub-zero n)) (sym e)
 
-  module _ (m : Set) (i t : ℕ) (w : Trail) (inv : askersIn d ≡ marks 17 (tab (n - i) i (inPlace d)) m) (l : i < n) (e : t ≡ numberAt 2 d (32 + 2 * i)) (f : w ≡ markAt 17 m t) where
+  module _ (m : Set) (i t : ℕ) (w : Trail) (inv : askersIn d ≡ marks 17 (tab (n - i) i (inPlace d)) m) (l : i < n) (e : t ≡ inPlace d i) (f : w ≡ markAt 17 m t) where
     step : askersIn d ≡ after w (marks 17 (tab (n - (i + 1)) (i + 1) (inPlace d)))
     unfolding marks
     step =
@@ -83,8 +76,8 @@ module _ (d : List ℕ) (n : ℕ) (c : n ≡ numberAt 2 d 4) where
   askers-end m i inv l = sym (inv ∙ ap (λ ts. marks 17 ts m) (tab-done n i (inPlace d) l))
 
 -- ---- a slot
-module _ (d : List ℕ) (i name holder mode rest : ℕ) (a : name ≡ numberAt 8 d (576 + 16 * i)) (b : holder ≡ numberAt 2 d (576 + 16 * i + 8))
-    (c : mode ≡ numberAt 2 d (576 + 16 * i + 8 + 2)) (e : rest ≡ numberAt 4 d (576 + 16 * i + 8 + 2 + 2)) where
+module _ (d : List ℕ) (i name holder mode rest : ℕ) (a : name ≡ numberAt 8 d (lockPlace i)) (b : holder ≡ numberAt 2 d (lockPlace i + 8))
+    (c : mode ≡ numberAt 2 d (lockPlace i + 8 + 2)) (e : rest ≡ numberAt 4 d (lockPlace i + 8 + 2 + 2)) where
   slot-is : slotOk d i ≡ fieldsOk d name holder mode rest
   unfolding slotOk fieldsAt
   slot-is = rw (a, b, c, e) refl

@@ -12,14 +12,13 @@ use Rattle.lists.specs.Lists.{tab, all}
 use Rattle.numbers.proofs.Parts.{lent, length-part}
 use Rattle.sets.specs.declared.Set.{Set}
 use Rattle.sets.specs.Sets.{has}
-use Rattle.pages.specs.Layout.{countOf, usedOf, heightOf, childAt}
-use Rattle.pages.specs.declared.Child.{Child}
+use Rattle.pages.specs.Layout.{usedOf, heightOf}
 use Rattle.index.specs.Pictures.{pageAt}
 use Rattle.index.proofs.Buffers.{page-lent}
 use Rattle.whole_pages.specs.declared.Span.{Span}
 use Rattle.whole_pages.specs.Checks.{firstPageOk, leafOk, innerOk}
-use Rattle.whole_pages.specs.Walks.{highAt, pageOk, seenOk, frontOk}
-use Rattle.whole_pages.proofs.WalkTurns.{inner-page, high-next}
+use Rattle.whole_pages.specs.Walks.{pageOk, seenOk, frontOk}
+use Rattle.whole_pages.proofs.WalkTurns.{inner-page}
 
 -- ---- a part that is lent
 pub lent-size : (s : List ℕ) (q : ℕ) → length s ≡ 32768 → q < 64 → length (take (512 * q + 512 - 512 * q) (drop (512 * q) s)) ≡ 512
@@ -27,12 +26,6 @@ lent-size s q h l = ap length (lent (512 * q) 512 s) ∙ length-part (512 * q) 5
 
 pub first-size : (s : List ℕ) → length s ≡ 32768 → length (take (512 - 0) (drop 0 s)) ≡ 512
 first-size s h = lent-size s 0 h (omega arith)
-
-pub count-lent : (s : List ℕ) (q n : ℕ) → n ≡ countOf (take (512 * q + 512 - 512 * q) (drop (512 * q) s)) → n ≡ countOf (pageAt s q)
-count-lent s q n e = e ∙ ap countOf (page-lent s q)
-
-pub high-lent : (s : List ℕ) (q n i hi : ℕ) (c : Child) → c ≡ childAt (take (512 * q + 512 - 512 * q) (drop (512 * q) s)) (i + 1) → i + 1 < n → c .low .0 ≡ highAt (pageAt s q) n i hi
-high-lent s q n i hi c e h = high-next (pageAt s q) n i hi c (e ∙ ap (λ p. childAt p (i + 1)) (page-lent s q)) h
 
 module _ (level least : ℕ) (s : List ℕ) (t : Span) (b : Bool) where
   pub leaf-lent : b ≡ leafOk (t .low .0) (t .high .0) (take (512 * t .page + 512 - 512 * t .page) (drop (512 * t .page) s)) → level ≡ 0 → b ≡ pageOk level least s t

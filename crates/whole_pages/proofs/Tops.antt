@@ -1,16 +1,15 @@
--- What the judgement of the whole page buffer comes to, in the very facts that the code has there: root, used and height are read in the
--- buffer itself, and the tests are made one after the other. Assumes nothing.
+-- What the judgement of the whole page buffer comes to, in the very facts that the code has there: root, used and height are those of
+-- page 0, and the tests are made one after the other. Assumes nothing.
 use mathlib.Core.Path.{_≡_, sym, ap, ap₂, _∙_}
 use mathlib.Core.Bool.{Bool, true, false, not, _&&_}
 use mathlib.Core.List.{List}
 use Prim.Native.Nat.{ℕ, _+_, _*_, _-_, _≤_, _<_}
 use native.Mathlib.Omega.{arith}
 use borrow.Author.Tests.{leb-true, ltb-true, not-true, not-false}
-use lib.Dec.{leb, ltb, lit≤}
+use lib.Dec.{leb, ltb}
 use lib.ListN.{length}
 use Rattle.lists.proofs.Tests.{both}
-use Rattle.numbers.specs.Numbers.{numberAt, zeroAt}
-use Rattle.numbers.proofs.Parts.{numberAt-part}
+use Rattle.numbers.specs.Numbers.{zeroAt}
 use Rattle.sets.specs.declared.Set.{Set}
 use Rattle.rules.specs.Document.{endMark}
 use Rattle.pages.specs.Layout.{rootOf, usedOf, heightOf}
@@ -20,27 +19,16 @@ use Rattle.whole_pages.specs.declared.Trail.the-variants.{Went, Bad}
 use Rattle.whole_pages.specs.Checks.{firstPageOk}
 use Rattle.whole_pages.specs.Walks.{spanOf, onlyZero, walkAt, seenOk, wentOk, frontOk, treeIn, pagesOk}
 
-pub read-first : (s : List ℕ) (at : ℕ) → at + 2 ≤ 512 → numberAt 2 s at ≡ numberAt 2 (pageAt s 0) at
-unfolding pageAt
-read-first s at h = sym (numberAt-part 2 0 512 s at h ∙ ap (numberAt 2 s) (let e : 0 + at ≡ at = omega arith in e))
+pub used-few : (s : List ℕ) (u : ℕ) → u ≡ usedOf (pageAt s 0) → usedOf (pageAt s 0) ≤ 64 → u ≤ 64
+used-few s u e h = omega arith
 
-module _ (s : List ℕ) (u : ℕ) (e : u ≡ numberAt 2 s 18) where
-  used-read : u ≡ usedOf (pageAt s 0)
-  used-read = e ∙ read-first s 18 (lit≤ tt)
+pub height-some : (s : List ℕ) (h : ℕ) → h ≡ heightOf (pageAt s 0) → 0 < heightOf (pageAt s 0) → 1 ≤ h
+height-some s h e l = omega arith
 
-  pub used-few : usedOf (pageAt s 0) ≤ 64 → u ≤ 64
-  used-few h = let q = used-read in omega arith
-
-pub height-some : (s : List ℕ) (h : ℕ) → h ≡ numberAt 2 s 20 → 0 < heightOf (pageAt s 0) → 1 ≤ h
-height-some s h e l = let q : h ≡ heightOf (pageAt s 0) = e ∙ read-first s 20 (lit≤ tt) in omega arith
-
-pub walk-top : (s : List ℕ) (r u h : ℕ) (o : Set) (w : Trail) → o ≡ onlyZero → r ≡ numberAt 2 s 16 → u ≡ numberAt 2 s 18 → h ≡ numberAt 2 s 20
+pub walk-top : (s : List ℕ) (r u h : ℕ) (o : Set) (w : Trail) → o ≡ onlyZero → r ≡ rootOf (pageAt s 0) → u ≡ usedOf (pageAt s 0) → h ≡ heightOf (pageAt s 0)
     → w ≡ walkAt (h - 1) 2 s u (spanOf r 0 endMark) o → w ≡ treeIn s
 unfolding treeIn
-walk-top s r u h o w f a b c e =
-    let x : r ≡ rootOf (pageAt s 0) = a ∙ read-first s 16 (lit≤ tt) in
-    let y : u ≡ usedOf (pageAt s 0) = b ∙ read-first s 18 (lit≤ tt) in
-    let z : h ≡ heightOf (pageAt s 0) = c ∙ read-first s 20 (lit≤ tt) in
+walk-top s r u h o w f x y z e =
     e ∙ ap (walkAt (h - 1) 2 s u (spanOf r 0 endMark)) f
     ∙ ap₂ (λ k q. walkAt (k - 1) 2 s u (spanOf q 0 endMark) onlyZero) z x ∙ ap (λ v. walkAt (heightOf (pageAt s 0) - 1) 2 s v (spanOf (rootOf (pageAt s 0)) 0 endMark) onlyZero) y
 
@@ -67,13 +55,13 @@ module _ (s : List ℕ) (f : Bool) (e : f ≡ frontOk s) where
     pub front-tall : 0 < heightOf (pageAt s 0)
     front-tall = front-parts s front .2
 
-    pub used-within : (u : ℕ) → u ≡ numberAt 2 s 18 → u ≤ 64
+    pub used-within : (u : ℕ) → u ≡ usedOf (pageAt s 0) → u ≤ 64
     used-within u d = used-few s u d front-few
 
-    pub spare-within : (u : ℕ) → u ≡ numberAt 2 s 18 → 512 * u ≤ 32768
+    pub spare-within : (u : ℕ) → u ≡ usedOf (pageAt s 0) → 512 * u ≤ 32768
     spare-within u d = let l = used-within u d in omega arith
 
-    pub spare-end : (u : ℕ) → u ≡ numberAt 2 s 18 → length s ≡ 32768 → 512 * u + (32768 - 512 * u) ≤ length s
+    pub spare-end : (u : ℕ) → u ≡ usedOf (pageAt s 0) → length s ≡ 32768 → 512 * u + (32768 - 512 * u) ≤ length s
     spare-end u d n = let l = used-within u d in omega arith
 
     module _ (w : Trail) (g : w ≡ treeIn s) where
@@ -82,10 +70,9 @@ module _ (s : List ℕ) (f : Bool) (e : f ≡ frontOk s) where
       lost b =
           sym (ap₂ (λ x y. (x && wentOk (usedOf (pageAt s 0)) y) && zeroAt (32768 - 512 * usedOf (pageAt s 0)) (512 * usedOf (pageAt s 0)) s) front (sym g ∙ b))
 
-      pub pages-done : (m : Set) (u : ℕ) (a z : Bool) → w ≡ Went m → u ≡ numberAt 2 s 18 → a ≡ seenOk u m → z ≡ zeroAt (32768 - 512 * u) (512 * u) s → (a && z) ≡ pagesOk s
+      pub pages-done : (m : Set) (u : ℕ) (a z : Bool) → w ≡ Went m → u ≡ usedOf (pageAt s 0) → a ≡ seenOk u m → z ≡ zeroAt (32768 - 512 * u) (512 * u) s → (a && z) ≡ pagesOk s
       unfolding pagesOk
       pages-done m u a z b d c k =
-          let y = used-read s u d in
           ap₂ (λ x v. x && v) c k
-          ∙ ap (λ x. seenOk x m && zeroAt (32768 - 512 * x) (512 * x) s) y
+          ∙ ap (λ x. seenOk x m && zeroAt (32768 - 512 * x) (512 * x) s) d
           ∙ sym (ap₂ (λ x v. (x && wentOk (usedOf (pageAt s 0)) v) && zeroAt (32768 - 512 * usedOf (pageAt s 0)) (512 * usedOf (pageAt s 0)) s) front (sym g ∙ b))

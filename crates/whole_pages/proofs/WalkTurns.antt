@@ -17,7 +17,6 @@ use Rattle.sets.specs.declared.Set.{Set}
 use Rattle.sets.specs.Sets.{has, withOne}
 use Rattle.pages.specs.Layout.{countOf, childAt, childrenOf}
 use Rattle.entries.specs.declared.Key.{Key}
-use Rattle.pages.specs.declared.Child.{Child}
 use Rattle.index.specs.Pictures.{pageAt}
 use Rattle.whole_pages.specs.declared.Span.{Span}
 use Rattle.whole_pages.specs.declared.Trail.{Trail}
@@ -41,9 +40,9 @@ module _ (p : List ℕ) (hi n : ℕ) where
           rw (le-ltb (i + 1) n (omega arith), t) refl
 
 -- ---- the code's choice of an end
-pub high-next : (p : List ℕ) (n i hi : ℕ) (c : Child) → c ≡ childAt p (i + 1) → i + 1 < n → c .low .0 ≡ highAt p n i hi
+pub high-next : (p : List ℕ) (n i hi k : ℕ) → k ≡ childAt p (i + 1) .low .0 → i + 1 < n → k ≡ highAt p n i hi
 unfolding highAt
-high-next p n i hi c e h = sym (ap (λ b. cond b (childAt p (i + 1) .low .0) hi) (lt-ltb (i + 1) n h) ∙ ap (λ x. x .low .0) (sym e))
+high-next p n i hi k e h = e ∙ sym (ap (λ b. cond b (childAt p (i + 1) .low .0) hi) (lt-ltb (i + 1) n h))
 
 pub high-last : (p : List ℕ) (n i hi : ℕ) → n ≤ i + 1 → hi ≡ highAt p n i hi
 unfolding highAt

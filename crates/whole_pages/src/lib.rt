@@ -4,7 +4,7 @@ pub mod page;
 ghost use mathlib.Core.Path.{_≡_};
 ghost use Prim.Native.Nat.{_<_, _≤_, _+_, _*_};
 ghost use lib.ListN.{length};
-ghost use Rattle.pages.specs.Layout.{countOf, usedOf, heightOf, childAt};
+ghost use Rattle.pages.specs.Layout.{usedOf, heightOf};
 ghost use Rattle.index.specs.Pictures.{pageAt};
 ghost use Rattle.whole_pages.specs.Walks.{highAt, markAt, pageOk, walkAt, seenOk, frontOk, treeIn, pagesOk};
 use entries::Key;
@@ -54,16 +54,6 @@ fn is_page(pages: &[u8], level: usize, least: usize, t: Span) -> bool
     page::is_inner(&pages[a..a + 512], level, least, low, high)
 }
 
-// How many children page q has.
-pub fn count_at(pages: &[u8], q: usize) -> usize
-    requires { ⌜ length (now pages) ≡ 32768 ⌝ }
-    requires { ⌜ q < 64 ⌝ }
-    ensures { λ r. ⌜ (r ≡ countOf (pageAt (now (pages .entry)) q)) × (r < 65536) ⌝ }
-{
-    let a = 512 * q;
-    head::count_of(&pages[a..a + 512])
-}
-
 // Where the range of child i of page q ends: at the next separator, or where the page's own does.
 fn high_at(pages: &[u8], q: usize, n: usize, i: usize, high: Key) -> Key
     requires { ⌜ length (now pages) ≡ 32768 ⌝ }
@@ -73,23 +63,9 @@ fn high_at(pages: &[u8], q: usize, n: usize, i: usize, high: Key) -> Key
     ensures { λ r. ⌜ r .0 ≡ highAt (pageAt (now (pages .entry)) q) n i (high .0) ⌝ }
 {
     if i + 1 < n {
-        let a = 512 * q;
-        let next = pages::inner::child_at(&pages[a..a + 512], i + 1);
-        return next.low;
+        return index::low_at(pages, q, i + 1);
     }
     high
-}
-
-// The page of child i of page q.
-pub fn child_at(pages: &[u8], q: usize, i: usize) -> usize
-    requires { ⌜ length (now pages) ≡ 32768 ⌝ }
-    requires { ⌜ q < 64 ⌝ }
-    requires { ⌜ i < 30 ⌝ }
-    ensures { λ r. ⌜ r ≡ childAt (pageAt (now (pages .entry)) q) i .page ⌝ }
-{
-    let a = 512 * q;
-    let child = pages::inner::child_at(&pages[a..a + 512], i);
-    child.page as usize
 }
 
 // Walks the tree of a level from its page down, the level falling by one at each step, so that it ends whatever the bytes say. Gives the
@@ -111,7 +87,7 @@ fn walk(pages: &[u8], used: usize, level: usize, least: usize, t: Span, seen: Se
     if level == 0 {
         return Trail::Went(first);
     }
-    let n = count_at(pages, q);
+    let n = index::count_at(pages, q);
     let high = t.high;
     let mut low = t.low;
     let mut m = first;
@@ -119,7 +95,7 @@ fn walk(pages: &[u8], used: usize, level: usize, least: usize, t: Span, seen: Se
     while i < n {
         let next = high_at(pages, q, n, i, high);
         let child = Span {
-            page: child_at(pages, q, i),
+            page: index::child_page(pages, q, i),
             low: low,
             high: next,
         };
@@ -165,9 +141,9 @@ fn walk_root(pages: &[u8]) -> Trail
     requires { ⌜ 0 < heightOf (pageAt (now pages) 0) ⌝ }
     ensures { λ r. ⌜ r ≡ treeIn (now (pages .entry)) ⌝ }
 {
-    let root = numbers::number_at(pages, 16);
-    let used = numbers::number_at(pages, 18);
-    let height = numbers::number_at(pages, 20);
+    let root = index::root_of(pages);
+    let used = index::used_of(pages);
+    let height = index::height_of(pages);
     let t = Span {
         page: root,
         low: Key::LOWEST,
@@ -188,6 +164,6 @@ pub fn are_pages(pages: &[u8]) -> bool
     let Trail::Went(seen) = w else {
         return false;
     };
-    let used = numbers::number_at(pages, 18);
+    let used = index::used_of(pages);
     are_seen(seen, used) & numbers::is_zero(pages, 512 * used, 32768 - 512 * used)
 }

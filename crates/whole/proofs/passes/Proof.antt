@@ -17,11 +17,11 @@ is-desk-requires c κs = search needs
 returns-2 : tie.Need-returns-2
 returns-2 c = search (needs, not-desk)
 
-number-at-requires : tie.Need-number-at-requires
-number-at-requires c κs = search needs
+root-of-requires : tie.Need-root-of-requires
+root-of-requires c κs = search needs
 
-number-at-requires-2 : tie.Need-number-at-requires-2
-number-at-requires-2 c κs = search needs
+height-of-requires : tie.Need-height-of-requires
+height-of-requires c κs = search needs
 
 sub-stand-in-order : tie.Need-sub-stand-in-order
 sub-stand-in-order c = search (needs, tall-pages)
@@ -40,8 +40,8 @@ passes-spec =
     returns
     is-desk-requires
     returns-2
-    number-at-requires
-    number-at-requires-2
+    root-of-requires
+    height-of-requires
     sub-stand-in-order
     stand-in-order-requires
     returns-3)

@@ -16,8 +16,8 @@ Inv-loop d i₀ i = (i ≤ 256) × (all (slotOk d) (tab 256 0 (λ k. k)) ≡ all
 abbrev μ-loop : tie.MeasureT-loop
 μ-loop d i₀ i = 256 - i
 
-is-zero-requires : tie.Need-is-zero-requires Inv-loop μ-loop
-is-zero-requires c κs = search needs
+are-zero-requires : tie.Need-are-zero-requires Inv-loop μ-loop
+are-zero-requires c κs = search needs
 
 returns : tie.Need-returns Inv-loop μ-loop
 returns c = search (needs, zero-slots)
@@ -49,7 +49,7 @@ are-slots-spec =
     (tie.spec
     Inv-loop
     μ-loop
-    is-zero-requires
+    are-zero-requires
     returns
     loop-holds
     is-slot-requires

@@ -17,8 +17,8 @@ Inv-loop d n m₀ i₀ m i = (n ≤ 16) × ((i ≤ n) × (askersIn d ≡ marks 1
 abbrev μ-loop : tie.MeasureT-loop
 μ-loop d n m₀ i₀ m i = n - i
 
-number-at-requires : tie.Need-number-at-requires Inv-loop μ-loop
-number-at-requires c κs = search needs
+queued-requires : tie.Need-queued-requires Inv-loop μ-loop
+queued-requires c κs = search needs
 
 with-requires : tie.Need-with-requires Inv-loop μ-loop
 with-requires c κs = search needs
@@ -26,14 +26,11 @@ with-requires c κs = search needs
 loop-holds : tie.Need-loop-holds Inv-loop μ-loop
 loop-holds c = (search (needs, askers-few), (search needs, search (needs, askers-start)))
 
-mul-number-at : tie.Need-mul-number-at Inv-loop μ-loop
-mul-number-at c = search needs
+in-place-requires : tie.Need-in-place-requires Inv-loop μ-loop
+in-place-requires c κs = search needs
 
-add-number-at : tie.Need-add-number-at Inv-loop μ-loop
-add-number-at c = search needs
-
-number-at-requires-2 : tie.Need-number-at-requires-2 Inv-loop μ-loop
-number-at-requires-2 c κs = search needs
+cast-t : tie.Need-cast-t Inv-loop μ-loop
+cast-t c = search needs
 
 mark-requires : tie.Need-mark-requires Inv-loop μ-loop
 mark-requires c κs = search needs
@@ -65,12 +62,11 @@ askers-spec =
     (tie.spec
     Inv-loop
     μ-loop
-    number-at-requires
+    queued-requires
     with-requires
     loop-holds
-    mul-number-at
-    add-number-at
-    number-at-requires-2
+    in-place-requires
+    cast-t
     mark-requires
     enum-known-marked
     enum-told

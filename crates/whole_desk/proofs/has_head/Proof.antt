@@ -1,40 +1,27 @@
 -- `whole_desk::has_head` meets its contract: the tests are made in their order.
 -- Assumes nothing.
 use borrow.Author.Needs.{needs}
-use Rattle.whole_desk.proofs.DeskTurns.{head-bad, head-room, head-end, head-done}
-use borrow.Author.Needs.{needs}
+use Rattle.whole_desk.proofs.DeskTurns.{head-bad, head-few, head-done}
 use Rattle.whole_desk.proofs.has_head.Statement.{statement}
 use Rattle.whole_desk.proofs.has_head.Tie as tie
 
-number-at-requires : tie.Need-number-at-requires
-number-at-requires c κs = search needs
+queued-requires : tie.Need-queued-requires
+queued-requires c κs = search needs
 
-number-at-requires-2 : tie.Need-number-at-requires-2
-number-at-requires-2 c κs = search needs
+length-of-requires : tie.Need-length-of-requires
+length-of-requires c κs = search needs
 
-number-at-requires-3 : tie.Need-number-at-requires-3
-number-at-requires-3 c κs = search needs
+kind-of-requires : tie.Need-kind-of-requires
+kind-of-requires c κs = search needs
 
-is-zero-requires : tie.Need-is-zero-requires
-is-zero-requires c κs = search needs
+has-zeros-requires : tie.Need-has-zeros-requires
+has-zeros-requires c κs = search needs
 
 returns : tie.Need-returns
 returns c = search (needs, head-bad)
 
-mul-is-zero : tie.Need-mul-is-zero
-mul-is-zero c = search needs
-
-add-is-zero : tie.Need-add-is-zero
-add-is-zero c = search needs
-
-mul-is-zero-2 : tie.Need-mul-is-zero-2
-mul-is-zero-2 c = search needs
-
-sub-is-zero : tie.Need-sub-is-zero
-sub-is-zero c = search (needs, head-room)
-
-is-zero-requires-2 : tie.Need-is-zero-requires-2
-is-zero-requires-2 c κs = search (needs, head-end)
+is-zero-from-requires : tie.Need-is-zero-from-requires
+is-zero-from-requires c κs = (search needs, search (needs, head-few))
 
 returns-2 : tie.Need-returns-2
 returns-2 c = search (needs, head-done)
@@ -43,14 +30,10 @@ pub has-head-spec : {M : Type 1} → statement M
 has-head-spec =
     tie.close
     (tie.spec
-    number-at-requires
-    number-at-requires-2
-    number-at-requires-3
-    is-zero-requires
+    queued-requires
+    length-of-requires
+    kind-of-requires
+    has-zeros-requires
     returns
-    mul-is-zero
-    add-is-zero
-    mul-is-zero-2
-    sub-is-zero
-    is-zero-requires-2
+    is-zero-from-requires
     returns-2)

@@ -14,8 +14,8 @@ use borrow.Fn.PlainCycle.{Measures, is, falls, and}
 use Rattle.whole_pages.proofs.walk.Reads as walk
 use Rattle.whole_pages.proofs.walk.Kinds as walk-kinds
 use Rattle.whole_pages.proofs.+walk.Lts-walk as walk-lts
-use Rattle.whole_pages.proofs.child_at.Reads as child-at-reads
-use Rattle.whole_pages.proofs.count_at.Reads as count-at-reads
+use Rattle.index.proofs.child_page.Reads as child-page-reads
+use Rattle.index.proofs.count_at.Reads as count-at-reads
 use Rattle.whole_pages.proofs.high_at.Reads as high-at-reads
 use Rattle.whole_pages.proofs.is_page.Reads as is-page-reads
 use Rattle.whole_pages.proofs.mark.Reads as mark-reads
@@ -46,8 +46,8 @@ walk-mark-requires : (t : ℕ) → walk-lts.Need-mark-requires (
   count-at-reads.Learnt,
   high-at-reads.Asked,
   high-at-reads.Learnt,
-  child-at-reads.Asked,
-  child-at-reads.Learnt,
+  child-page-reads.Asked,
+  child-page-reads.Learnt,
   walk-below t,
   walk.Post,
 ) (walk-at t) walk.Post walk-Inv-loop walk-μ-loop
@@ -62,8 +62,8 @@ walk-enum-known-marked : (t : ℕ) → walk-lts.Need-enum-known-marked (
   count-at-reads.Learnt,
   high-at-reads.Asked,
   high-at-reads.Learnt,
-  child-at-reads.Asked,
-  child-at-reads.Learnt,
+  child-page-reads.Asked,
+  child-page-reads.Learnt,
   walk-below t,
   walk.Post,
 ) (walk-at t) walk.Post walk-Inv-loop walk-μ-loop
@@ -78,8 +78,8 @@ walk-enum-told : (t : ℕ) → walk-lts.Need-enum-told (
   count-at-reads.Learnt,
   high-at-reads.Asked,
   high-at-reads.Learnt,
-  child-at-reads.Asked,
-  child-at-reads.Learnt,
+  child-page-reads.Asked,
+  child-page-reads.Learnt,
   walk-below t,
   walk.Post,
 ) (walk-at t) walk.Post walk-Inv-loop walk-μ-loop
@@ -94,8 +94,8 @@ walk-returns : (t : ℕ) → walk-lts.Need-returns (
   count-at-reads.Learnt,
   high-at-reads.Asked,
   high-at-reads.Learnt,
-  child-at-reads.Asked,
-  child-at-reads.Learnt,
+  child-page-reads.Asked,
+  child-page-reads.Learnt,
   walk-below t,
   walk.Post,
 ) (walk-at t) walk.Post walk-Inv-loop walk-μ-loop
@@ -110,8 +110,8 @@ walk-is-page-requires : (t : ℕ) → walk-lts.Need-is-page-requires (
   count-at-reads.Learnt,
   high-at-reads.Asked,
   high-at-reads.Learnt,
-  child-at-reads.Asked,
-  child-at-reads.Learnt,
+  child-page-reads.Asked,
+  child-page-reads.Learnt,
   walk-below t,
   walk.Post,
 ) (walk-at t) walk.Post walk-Inv-loop walk-μ-loop
@@ -126,8 +126,8 @@ walk-returns-2 : (t : ℕ) → walk-lts.Need-returns-2 (
   count-at-reads.Learnt,
   high-at-reads.Asked,
   high-at-reads.Learnt,
-  child-at-reads.Asked,
-  child-at-reads.Learnt,
+  child-page-reads.Asked,
+  child-page-reads.Learnt,
   walk-below t,
   walk.Post,
 ) (walk-at t) walk.Post walk-Inv-loop walk-μ-loop
@@ -142,8 +142,8 @@ walk-returns-3 : (t : ℕ) → walk-lts.Need-returns-3 (
   count-at-reads.Learnt,
   high-at-reads.Asked,
   high-at-reads.Learnt,
-  child-at-reads.Asked,
-  child-at-reads.Learnt,
+  child-page-reads.Asked,
+  child-page-reads.Learnt,
   walk-below t,
   walk.Post,
 ) (walk-at t) walk.Post walk-Inv-loop walk-μ-loop
@@ -158,8 +158,8 @@ walk-count-at-requires : (t : ℕ) → walk-lts.Need-count-at-requires (
   count-at-reads.Learnt,
   high-at-reads.Asked,
   high-at-reads.Learnt,
-  child-at-reads.Asked,
-  child-at-reads.Learnt,
+  child-page-reads.Asked,
+  child-page-reads.Learnt,
   walk-below t,
   walk.Post,
 ) (walk-at t) walk.Post walk-Inv-loop walk-μ-loop
@@ -174,8 +174,8 @@ walk-loop-holds : (t : ℕ) → walk-lts.Need-loop-holds (
   count-at-reads.Learnt,
   high-at-reads.Asked,
   high-at-reads.Learnt,
-  child-at-reads.Asked,
-  child-at-reads.Learnt,
+  child-page-reads.Asked,
+  child-page-reads.Learnt,
   walk-below t,
   walk.Post,
 ) (walk-at t) walk.Post walk-Inv-loop walk-μ-loop
@@ -190,14 +190,14 @@ walk-high-at-requires : (t : ℕ) → walk-lts.Need-high-at-requires (
   count-at-reads.Learnt,
   high-at-reads.Asked,
   high-at-reads.Learnt,
-  child-at-reads.Asked,
-  child-at-reads.Learnt,
+  child-page-reads.Asked,
+  child-page-reads.Learnt,
   walk-below t,
   walk.Post,
 ) (walk-at t) walk.Post walk-Inv-loop walk-μ-loop
 walk-high-at-requires t c κs = search needs
 
-walk-child-at-requires : (t : ℕ) → walk-lts.Need-child-at-requires (
+walk-child-page-requires : (t : ℕ) → walk-lts.Need-child-page-requires (
   mark-reads.Asked,
   mark-reads.Learnt,
   is-page-reads.Asked,
@@ -206,12 +206,12 @@ walk-child-at-requires : (t : ℕ) → walk-lts.Need-child-at-requires (
   count-at-reads.Learnt,
   high-at-reads.Asked,
   high-at-reads.Learnt,
-  child-at-reads.Asked,
-  child-at-reads.Learnt,
+  child-page-reads.Asked,
+  child-page-reads.Learnt,
   walk-below t,
   walk.Post,
 ) (walk-at t) walk.Post walk-Inv-loop walk-μ-loop
-walk-child-at-requires t c κs = search needs
+walk-child-page-requires t c κs = search needs
 
 walk-sub-walk : (t : ℕ) → walk-lts.Need-sub-walk (
   mark-reads.Asked,
@@ -222,8 +222,8 @@ walk-sub-walk : (t : ℕ) → walk-lts.Need-sub-walk (
   count-at-reads.Learnt,
   high-at-reads.Asked,
   high-at-reads.Learnt,
-  child-at-reads.Asked,
-  child-at-reads.Learnt,
+  child-page-reads.Asked,
+  child-page-reads.Learnt,
   walk-below t,
   walk.Post,
 ) (walk-at t) walk.Post walk-Inv-loop walk-μ-loop
@@ -238,8 +238,8 @@ walk-walk-requires : (t : ℕ) → walk-lts.Need-walk-requires (
   count-at-reads.Learnt,
   high-at-reads.Asked,
   high-at-reads.Learnt,
-  child-at-reads.Asked,
-  child-at-reads.Learnt,
+  child-page-reads.Asked,
+  child-page-reads.Learnt,
   walk-below t,
   walk.Post,
 ) (walk-at t) walk.Post walk-Inv-loop walk-μ-loop
@@ -254,8 +254,8 @@ walk-enum-known-below : (t : ℕ) → walk-lts.Need-enum-known-below (
   count-at-reads.Learnt,
   high-at-reads.Asked,
   high-at-reads.Learnt,
-  child-at-reads.Asked,
-  child-at-reads.Learnt,
+  child-page-reads.Asked,
+  child-page-reads.Learnt,
   walk-below t,
   walk.Post,
 ) (walk-at t) walk.Post walk-Inv-loop walk-μ-loop
@@ -270,8 +270,8 @@ walk-enum-told-2 : (t : ℕ) → walk-lts.Need-enum-told-2 (
   count-at-reads.Learnt,
   high-at-reads.Asked,
   high-at-reads.Learnt,
-  child-at-reads.Asked,
-  child-at-reads.Learnt,
+  child-page-reads.Asked,
+  child-page-reads.Learnt,
   walk-below t,
   walk.Post,
 ) (walk-at t) walk.Post walk-Inv-loop walk-μ-loop
@@ -286,8 +286,8 @@ walk-returns-4 : (t : ℕ) → walk-lts.Need-returns-4 (
   count-at-reads.Learnt,
   high-at-reads.Asked,
   high-at-reads.Learnt,
-  child-at-reads.Asked,
-  child-at-reads.Learnt,
+  child-page-reads.Asked,
+  child-page-reads.Learnt,
   walk-below t,
   walk.Post,
 ) (walk-at t) walk.Post walk-Inv-loop walk-μ-loop
@@ -302,8 +302,8 @@ walk-add-i : (t : ℕ) → walk-lts.Need-add-i (
   count-at-reads.Learnt,
   high-at-reads.Asked,
   high-at-reads.Learnt,
-  child-at-reads.Asked,
-  child-at-reads.Learnt,
+  child-page-reads.Asked,
+  child-page-reads.Learnt,
   walk-below t,
   walk.Post,
 ) (walk-at t) walk.Post walk-Inv-loop walk-μ-loop
@@ -318,8 +318,8 @@ walk-loop-less : (t : ℕ) → walk-lts.Need-loop-less (
   count-at-reads.Learnt,
   high-at-reads.Asked,
   high-at-reads.Learnt,
-  child-at-reads.Asked,
-  child-at-reads.Learnt,
+  child-page-reads.Asked,
+  child-page-reads.Learnt,
   walk-below t,
   walk.Post,
 ) (walk-at t) walk.Post walk-Inv-loop walk-μ-loop
@@ -334,8 +334,8 @@ walk-loop-again : (t : ℕ) → walk-lts.Need-loop-again (
   count-at-reads.Learnt,
   high-at-reads.Asked,
   high-at-reads.Learnt,
-  child-at-reads.Asked,
-  child-at-reads.Learnt,
+  child-page-reads.Asked,
+  child-page-reads.Learnt,
   walk-below t,
   walk.Post,
 ) (walk-at t) walk.Post walk-Inv-loop walk-μ-loop
@@ -350,8 +350,8 @@ walk-returns-5 : (t : ℕ) → walk-lts.Need-returns-5 (
   count-at-reads.Learnt,
   high-at-reads.Asked,
   high-at-reads.Learnt,
-  child-at-reads.Asked,
-  child-at-reads.Learnt,
+  child-page-reads.Asked,
+  child-page-reads.Learnt,
   walk-below t,
   walk.Post,
 ) (walk-at t) walk.Post walk-Inv-loop walk-μ-loop
@@ -367,8 +367,8 @@ pub +walk-spec : {M : Type 1} → statement M
   count-at-reads.Learnt,
   high-at-reads.Asked,
   high-at-reads.Learnt,
-  child-at-reads.Asked,
-  child-at-reads.Learnt,
+  child-page-reads.Asked,
+  child-page-reads.Learnt,
   walk-below t,
   walk.Post,
 )
@@ -386,7 +386,7 @@ pub +walk-spec : {M : Type 1} → statement M
     (walk-count-at-requires t)
     (walk-loop-holds t)
     (walk-high-at-requires t)
-    (walk-child-at-requires t)
+    (walk-child-page-requires t)
     (walk-sub-walk t)
     (walk-walk-requires t)
     (walk-enum-known-below t)

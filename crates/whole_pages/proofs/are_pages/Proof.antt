@@ -23,8 +23,8 @@ enum-told c = search needs
 returns-2 : tie.Need-returns-2
 returns-2 c = search (needs, lost)
 
-number-at-requires : tie.Need-number-at-requires
-number-at-requires c κs = search needs
+used-of-requires : tie.Need-used-of-requires
+used-of-requires c κs = search needs
 
 are-seen-requires : tie.Need-are-seen-requires
 are-seen-requires c κs = search (needs, used-within)
@@ -54,7 +54,7 @@ are-pages-spec =
     enum-known-w
     enum-told
     returns-2
-    number-at-requires
+    used-of-requires
     are-seen-requires
     mul-is-zero
     mul-is-zero-2

@@ -5,14 +5,14 @@ use Rattle.whole_pages.proofs.Tops.{used-few, height-some, walk-top}
 use Rattle.whole_pages.proofs.walk_root.Statement.{statement}
 use Rattle.whole_pages.proofs.walk_root.Tie as tie
 
-number-at-requires : tie.Need-number-at-requires
-number-at-requires c κs = search needs
+root-of-requires : tie.Need-root-of-requires
+root-of-requires c κs = search needs
 
-number-at-requires-2 : tie.Need-number-at-requires-2
-number-at-requires-2 c κs = search needs
+used-of-requires : tie.Need-used-of-requires
+used-of-requires c κs = search needs
 
-number-at-requires-3 : tie.Need-number-at-requires-3
-number-at-requires-3 c κs = search needs
+height-of-requires : tie.Need-height-of-requires
+height-of-requires c κs = search needs
 
 sub-walk : tie.Need-sub-walk
 sub-walk c = search (needs, height-some)
@@ -29,11 +29,4 @@ returns c = search (needs, walk-top)
 pub walk-root-spec : {M : Type 1} → statement M
 walk-root-spec =
     tie.close
-    (tie.spec
-    number-at-requires
-    number-at-requires-2
-    number-at-requires-3
-    sub-walk
-    with-requires
-    walk-requires
-    returns)
+    (tie.spec root-of-requires used-of-requires height-of-requires sub-walk with-requires walk-requires returns)

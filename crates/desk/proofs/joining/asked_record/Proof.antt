@@ -11,8 +11,8 @@ enum-told c = search needs
 enum-known-ask : tie.Need-enum-known-ask
 enum-known-ask c = search needs
 
-record-of-requires : tie.Need-record-of-requires
-record-of-requires c κs = search needs
+record-requires : tie.Need-record-requires
+record-requires c κs = search needs
 
 enum-told-2 : tie.Need-enum-told-2
 enum-told-2 c = search needs
@@ -29,4 +29,4 @@ returns-3 c = search (needs, fits-delete)
 pub asked-record-spec : {M : Type 1} → statement M
 asked-record-spec =
     tie.close
-    (tie.spec enum-told enum-known-ask record-of-requires enum-told-2 returns returns-2 returns-3)
+    (tie.spec enum-told enum-known-ask record-requires enum-told-2 returns returns-2 returns-3)

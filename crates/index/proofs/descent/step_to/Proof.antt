@@ -5,23 +5,11 @@ use Rattle.index.proofs.Turns.{lent-some, lent-many, step-for}
 use Rattle.index.proofs.descent.step_to.Statement.{statement}
 use Rattle.index.proofs.descent.step_to.Tie as tie
 
+count-at-requires : tie.Need-count-at-requires
+count-at-requires c κs = search needs
+
 mul-a : tie.Need-mul-a
 mul-a c = search needs
-
-add-count-of : tie.Need-add-count-of
-add-count-of c = search needs
-
-sub-count-of : tie.Need-sub-count-of
-sub-count-of c = search needs
-
-part-count-of-start : tie.Need-part-count-of-start
-part-count-of-start c = search needs
-
-part-count-of-end : tie.Need-part-count-of-end
-part-count-of-end c = search needs
-
-count-of-requires : tie.Need-count-of-requires
-count-of-requires c κs = search needs
 
 add-child-for : tie.Need-add-child-for
 add-child-for c = search needs
@@ -45,12 +33,8 @@ pub step-to-spec : {M : Type 1} → statement M
 step-to-spec =
     tie.close
     (tie.spec
+    count-at-requires
     mul-a
-    add-count-of
-    sub-count-of
-    part-count-of-start
-    part-count-of-end
-    count-of-requires
     add-child-for
     sub-child-for
     part-child-for-start

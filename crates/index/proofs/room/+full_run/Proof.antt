@@ -85,7 +85,7 @@ full-run-child-page-requires : (t : ℕ) → full-run-lts.Need-child-page-requir
   full-run-below t,
   full-run.Post,
 ) (full-run-at t) full-run.Post
-full-run-child-page-requires t c κs = (search (needs, inner-in), omega arith)
+full-run-child-page-requires t c κs = (omega arith, (omega arith, omega arith))
 
 full-run-full-run-requires : (t : ℕ) → full-run-lts.Need-full-run-requires (
   full-leaf-reads.Asked,

@@ -106,7 +106,7 @@ seek-child-page-requires : (t : ℕ) → seek-lts.Need-child-page-requires (
   seek-below t,
   seek.Post,
 ) (seek-at t) seek.Post seek-Inv-loop seek-μ-loop
-seek-child-page-requires t c κs = (search (needs, inner-in), omega arith)
+seek-child-page-requires t c κs = (omega arith, (omega arith, omega arith))
 
 seek-seek-requires : (t : ℕ) → seek-lts.Need-seek-requires (
   seek-leaf-reads.Asked,

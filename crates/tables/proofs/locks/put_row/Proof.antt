@@ -5,11 +5,8 @@ use Rattle.numbers.specs.Numbers.{putFields}
 use Rattle.tables.proofs.locks.put_row.Statement.{statement}
 use Rattle.tables.proofs.locks.put_row.Tie as tie
 
-mul-p : tie.Need-mul-p
-mul-p c = search needs
-
-add-p : tie.Need-add-p
-add-p c = search needs
+slot-place-requires : tie.Need-slot-place-requires
+slot-place-requires c κs = search needs
 
 add-q : tie.Need-add-q
 add-q c = search needs
@@ -43,8 +40,7 @@ pub put-row-spec : {M : Type 1} → statement M
 put-row-spec =
     tie.close
     (tie.spec
-    mul-p
-    add-p
+    slot-place-requires
     add-q
     add-r
     write-u64-requires

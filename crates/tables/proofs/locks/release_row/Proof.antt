@@ -5,17 +5,11 @@ use Rattle.tables.proofs.Releases.{row-freed, row-kept}
 use Rattle.tables.proofs.locks.release_row.Statement.{statement}
 use Rattle.tables.proofs.locks.release_row.Tie as tie
 
-mul-p : tie.Need-mul-p
-mul-p c = search needs
+holder-at-requires : tie.Need-holder-at-requires
+holder-at-requires c κs = search needs
 
-add-p : tie.Need-add-p
-add-p c = search needs
-
-add-read-u16 : tie.Need-add-read-u16
-add-read-u16 c = search needs
-
-read-u16-requires : tie.Need-read-u16-requires
-read-u16-requires c κs = search needs
+slot-place-requires : tie.Need-slot-place-requires
+slot-place-requires c κs = search needs
 
 zero-bytes-requires : tie.Need-zero-bytes-requires
 zero-bytes-requires c κs = search needs
@@ -36,10 +30,8 @@ pub release-row-spec : {M : Type 1} → statement M
 release-row-spec =
     tie.close
     (tie.spec
-    mul-p
-    add-p
-    add-read-u16
-    read-u16-requires
+    holder-at-requires
+    slot-place-requires
     zero-bytes-requires
     same-length
     returns

@@ -15,8 +15,8 @@ use Rattle.whole.proofs.locks.has_key.Reads as has-key
 use Rattle.whole.proofs.locks.has_key.Kinds as has-key-kinds
 use Rattle.whole.proofs.locks.+has_key.Lts-has_key as has-key-lts
 use Rattle.whole.proofs.locks.has_entry.Reads as has-entry-reads
-use Rattle.whole_pages.proofs.child_at.Reads as child-at-reads
-use Rattle.whole_pages.proofs.count_at.Reads as count-at-reads
+use Rattle.index.proofs.child_page.Reads as child-page-reads
+use Rattle.index.proofs.count_at.Reads as count-at-reads
 use Rattle.whole.proofs.locks.+has_key.{statement}
 use Rattle.whole.proofs.locks.+has_key.Tie.{close}
 
@@ -40,8 +40,8 @@ has-key-has-entry-requires : (t : ℕ) → has-key-lts.Need-has-entry-requires (
   has-entry-reads.Learnt,
   count-at-reads.Asked,
   count-at-reads.Learnt,
-  child-at-reads.Asked,
-  child-at-reads.Learnt,
+  child-page-reads.Asked,
+  child-page-reads.Learnt,
   has-key-below t,
   has-key.Post,
 ) (has-key-at t) has-key.Post has-key-Inv-loop has-key-μ-loop
@@ -52,8 +52,8 @@ has-key-returns : (t : ℕ) → has-key-lts.Need-returns (
   has-entry-reads.Learnt,
   count-at-reads.Asked,
   count-at-reads.Learnt,
-  child-at-reads.Asked,
-  child-at-reads.Learnt,
+  child-page-reads.Asked,
+  child-page-reads.Learnt,
   has-key-below t,
   has-key.Post,
 ) (has-key-at t) has-key.Post has-key-Inv-loop has-key-μ-loop
@@ -64,8 +64,8 @@ has-key-count-at-requires : (t : ℕ) → has-key-lts.Need-count-at-requires (
   has-entry-reads.Learnt,
   count-at-reads.Asked,
   count-at-reads.Learnt,
-  child-at-reads.Asked,
-  child-at-reads.Learnt,
+  child-page-reads.Asked,
+  child-page-reads.Learnt,
   has-key-below t,
   has-key.Post,
 ) (has-key-at t) has-key.Post has-key-Inv-loop has-key-μ-loop
@@ -76,32 +76,32 @@ has-key-loop-holds : (t : ℕ) → has-key-lts.Need-loop-holds (
   has-entry-reads.Learnt,
   count-at-reads.Asked,
   count-at-reads.Learnt,
-  child-at-reads.Asked,
-  child-at-reads.Learnt,
+  child-page-reads.Asked,
+  child-page-reads.Learnt,
   has-key-below t,
   has-key.Post,
 ) (has-key-at t) has-key.Post has-key-Inv-loop has-key-μ-loop
 has-key-loop-holds t c = (search (needs, fine-page), (search (needs, fine-few), (search needs, search (needs, find-start))))
 
-has-key-child-at-requires : (t : ℕ) → has-key-lts.Need-child-at-requires (
+has-key-child-page-requires : (t : ℕ) → has-key-lts.Need-child-page-requires (
   has-entry-reads.Asked,
   has-entry-reads.Learnt,
   count-at-reads.Asked,
   count-at-reads.Learnt,
-  child-at-reads.Asked,
-  child-at-reads.Learnt,
+  child-page-reads.Asked,
+  child-page-reads.Learnt,
   has-key-below t,
   has-key.Post,
 ) (has-key-at t) has-key.Post has-key-Inv-loop has-key-μ-loop
-has-key-child-at-requires t c κs = search needs
+has-key-child-page-requires t c κs = search needs
 
 has-key-sub-has-key : (t : ℕ) → has-key-lts.Need-sub-has-key (
   has-entry-reads.Asked,
   has-entry-reads.Learnt,
   count-at-reads.Asked,
   count-at-reads.Learnt,
-  child-at-reads.Asked,
-  child-at-reads.Learnt,
+  child-page-reads.Asked,
+  child-page-reads.Learnt,
   has-key-below t,
   has-key.Post,
 ) (has-key-at t) has-key.Post has-key-Inv-loop has-key-μ-loop
@@ -112,8 +112,8 @@ has-key-has-key-requires : (t : ℕ) → has-key-lts.Need-has-key-requires (
   has-entry-reads.Learnt,
   count-at-reads.Asked,
   count-at-reads.Learnt,
-  child-at-reads.Asked,
-  child-at-reads.Learnt,
+  child-page-reads.Asked,
+  child-page-reads.Learnt,
   has-key-below t,
   has-key.Post,
 ) (has-key-at t) has-key.Post has-key-Inv-loop has-key-μ-loop
@@ -124,8 +124,8 @@ has-key-returns-2 : (t : ℕ) → has-key-lts.Need-returns-2 (
   has-entry-reads.Learnt,
   count-at-reads.Asked,
   count-at-reads.Learnt,
-  child-at-reads.Asked,
-  child-at-reads.Learnt,
+  child-page-reads.Asked,
+  child-page-reads.Learnt,
   has-key-below t,
   has-key.Post,
 ) (has-key-at t) has-key.Post has-key-Inv-loop has-key-μ-loop
@@ -136,8 +136,8 @@ has-key-add-i : (t : ℕ) → has-key-lts.Need-add-i (
   has-entry-reads.Learnt,
   count-at-reads.Asked,
   count-at-reads.Learnt,
-  child-at-reads.Asked,
-  child-at-reads.Learnt,
+  child-page-reads.Asked,
+  child-page-reads.Learnt,
   has-key-below t,
   has-key.Post,
 ) (has-key-at t) has-key.Post has-key-Inv-loop has-key-μ-loop
@@ -148,8 +148,8 @@ has-key-loop-less : (t : ℕ) → has-key-lts.Need-loop-less (
   has-entry-reads.Learnt,
   count-at-reads.Asked,
   count-at-reads.Learnt,
-  child-at-reads.Asked,
-  child-at-reads.Learnt,
+  child-page-reads.Asked,
+  child-page-reads.Learnt,
   has-key-below t,
   has-key.Post,
 ) (has-key-at t) has-key.Post has-key-Inv-loop has-key-μ-loop
@@ -160,8 +160,8 @@ has-key-loop-again : (t : ℕ) → has-key-lts.Need-loop-again (
   has-entry-reads.Learnt,
   count-at-reads.Asked,
   count-at-reads.Learnt,
-  child-at-reads.Asked,
-  child-at-reads.Learnt,
+  child-page-reads.Asked,
+  child-page-reads.Learnt,
   has-key-below t,
   has-key.Post,
 ) (has-key-at t) has-key.Post has-key-Inv-loop has-key-μ-loop
@@ -172,8 +172,8 @@ has-key-returns-3 : (t : ℕ) → has-key-lts.Need-returns-3 (
   has-entry-reads.Learnt,
   count-at-reads.Asked,
   count-at-reads.Learnt,
-  child-at-reads.Asked,
-  child-at-reads.Learnt,
+  child-page-reads.Asked,
+  child-page-reads.Learnt,
   has-key-below t,
   has-key.Post,
 ) (has-key-at t) has-key.Post has-key-Inv-loop has-key-μ-loop
@@ -185,8 +185,8 @@ pub +has-key-spec : {M : Type 1} → statement M
   has-entry-reads.Learnt,
   count-at-reads.Asked,
   count-at-reads.Learnt,
-  child-at-reads.Asked,
-  child-at-reads.Learnt,
+  child-page-reads.Asked,
+  child-page-reads.Learnt,
   has-key-below t,
   has-key.Post,
 )
@@ -198,7 +198,7 @@ pub +has-key-spec : {M : Type 1} → statement M
     (has-key-returns t)
     (has-key-count-at-requires t)
     (has-key-loop-holds t)
-    (has-key-child-at-requires t)
+    (has-key-child-page-requires t)
     (has-key-sub-has-key t)
     (has-key-has-key-requires t)
     (has-key-returns-2 t)

@@ -15,8 +15,8 @@ use Rattle.whole.proofs.locks.owners_hold.Reads as owners-hold
 use Rattle.whole.proofs.locks.owners_hold.Kinds as owners-hold-kinds
 use Rattle.whole.proofs.locks.+owners_hold.Lts-owners_hold as owners-hold-lts
 use Rattle.whole.proofs.locks.are_held.Reads as are-held-reads
-use Rattle.whole_pages.proofs.child_at.Reads as child-at-reads
-use Rattle.whole_pages.proofs.count_at.Reads as count-at-reads
+use Rattle.index.proofs.child_page.Reads as child-page-reads
+use Rattle.index.proofs.count_at.Reads as count-at-reads
 use Rattle.whole.proofs.locks.+owners_hold.{statement}
 use Rattle.whole.proofs.locks.+owners_hold.Tie.{close}
 
@@ -42,8 +42,8 @@ owners-hold-are-held-requires : (t : ℕ) → owners-hold-lts.Need-are-held-requ
   are-held-reads.Learnt,
   count-at-reads.Asked,
   count-at-reads.Learnt,
-  child-at-reads.Asked,
-  child-at-reads.Learnt,
+  child-page-reads.Asked,
+  child-page-reads.Learnt,
   owners-hold-below t,
   owners-hold.Post,
 ) (owners-hold-at t) owners-hold.Post owners-hold-Inv-loop owners-hold-μ-loop
@@ -54,8 +54,8 @@ owners-hold-returns : (t : ℕ) → owners-hold-lts.Need-returns (
   are-held-reads.Learnt,
   count-at-reads.Asked,
   count-at-reads.Learnt,
-  child-at-reads.Asked,
-  child-at-reads.Learnt,
+  child-page-reads.Asked,
+  child-page-reads.Learnt,
   owners-hold-below t,
   owners-hold.Post,
 ) (owners-hold-at t) owners-hold.Post owners-hold-Inv-loop owners-hold-μ-loop
@@ -66,8 +66,8 @@ owners-hold-count-at-requires : (t : ℕ) → owners-hold-lts.Need-count-at-requ
   are-held-reads.Learnt,
   count-at-reads.Asked,
   count-at-reads.Learnt,
-  child-at-reads.Asked,
-  child-at-reads.Learnt,
+  child-page-reads.Asked,
+  child-page-reads.Learnt,
   owners-hold-below t,
   owners-hold.Post,
 ) (owners-hold-at t) owners-hold.Post owners-hold-Inv-loop owners-hold-μ-loop
@@ -78,32 +78,32 @@ owners-hold-loop-holds : (t : ℕ) → owners-hold-lts.Need-loop-holds (
   are-held-reads.Learnt,
   count-at-reads.Asked,
   count-at-reads.Learnt,
-  child-at-reads.Asked,
-  child-at-reads.Learnt,
+  child-page-reads.Asked,
+  child-page-reads.Learnt,
   owners-hold-below t,
   owners-hold.Post,
 ) (owners-hold-at t) owners-hold.Post owners-hold-Inv-loop owners-hold-μ-loop
 owners-hold-loop-holds t c = (search (needs, fine-page), (search (needs, fine-few), (search needs, search (needs, owners-start))))
 
-owners-hold-child-at-requires : (t : ℕ) → owners-hold-lts.Need-child-at-requires (
+owners-hold-child-page-requires : (t : ℕ) → owners-hold-lts.Need-child-page-requires (
   are-held-reads.Asked,
   are-held-reads.Learnt,
   count-at-reads.Asked,
   count-at-reads.Learnt,
-  child-at-reads.Asked,
-  child-at-reads.Learnt,
+  child-page-reads.Asked,
+  child-page-reads.Learnt,
   owners-hold-below t,
   owners-hold.Post,
 ) (owners-hold-at t) owners-hold.Post owners-hold-Inv-loop owners-hold-μ-loop
-owners-hold-child-at-requires t c κs = search needs
+owners-hold-child-page-requires t c κs = search needs
 
 owners-hold-sub-owners-hold : (t : ℕ) → owners-hold-lts.Need-sub-owners-hold (
   are-held-reads.Asked,
   are-held-reads.Learnt,
   count-at-reads.Asked,
   count-at-reads.Learnt,
-  child-at-reads.Asked,
-  child-at-reads.Learnt,
+  child-page-reads.Asked,
+  child-page-reads.Learnt,
   owners-hold-below t,
   owners-hold.Post,
 ) (owners-hold-at t) owners-hold.Post owners-hold-Inv-loop owners-hold-μ-loop
@@ -114,8 +114,8 @@ owners-hold-owners-hold-requires : (t : ℕ) → owners-hold-lts.Need-owners-hol
   are-held-reads.Learnt,
   count-at-reads.Asked,
   count-at-reads.Learnt,
-  child-at-reads.Asked,
-  child-at-reads.Learnt,
+  child-page-reads.Asked,
+  child-page-reads.Learnt,
   owners-hold-below t,
   owners-hold.Post,
 ) (owners-hold-at t) owners-hold.Post owners-hold-Inv-loop owners-hold-μ-loop
@@ -126,8 +126,8 @@ owners-hold-returns-2 : (t : ℕ) → owners-hold-lts.Need-returns-2 (
   are-held-reads.Learnt,
   count-at-reads.Asked,
   count-at-reads.Learnt,
-  child-at-reads.Asked,
-  child-at-reads.Learnt,
+  child-page-reads.Asked,
+  child-page-reads.Learnt,
   owners-hold-below t,
   owners-hold.Post,
 ) (owners-hold-at t) owners-hold.Post owners-hold-Inv-loop owners-hold-μ-loop
@@ -138,8 +138,8 @@ owners-hold-add-i : (t : ℕ) → owners-hold-lts.Need-add-i (
   are-held-reads.Learnt,
   count-at-reads.Asked,
   count-at-reads.Learnt,
-  child-at-reads.Asked,
-  child-at-reads.Learnt,
+  child-page-reads.Asked,
+  child-page-reads.Learnt,
   owners-hold-below t,
   owners-hold.Post,
 ) (owners-hold-at t) owners-hold.Post owners-hold-Inv-loop owners-hold-μ-loop
@@ -150,8 +150,8 @@ owners-hold-loop-less : (t : ℕ) → owners-hold-lts.Need-loop-less (
   are-held-reads.Learnt,
   count-at-reads.Asked,
   count-at-reads.Learnt,
-  child-at-reads.Asked,
-  child-at-reads.Learnt,
+  child-page-reads.Asked,
+  child-page-reads.Learnt,
   owners-hold-below t,
   owners-hold.Post,
 ) (owners-hold-at t) owners-hold.Post owners-hold-Inv-loop owners-hold-μ-loop
@@ -162,8 +162,8 @@ owners-hold-loop-again : (t : ℕ) → owners-hold-lts.Need-loop-again (
   are-held-reads.Learnt,
   count-at-reads.Asked,
   count-at-reads.Learnt,
-  child-at-reads.Asked,
-  child-at-reads.Learnt,
+  child-page-reads.Asked,
+  child-page-reads.Learnt,
   owners-hold-below t,
   owners-hold.Post,
 ) (owners-hold-at t) owners-hold.Post owners-hold-Inv-loop owners-hold-μ-loop
@@ -174,8 +174,8 @@ owners-hold-returns-3 : (t : ℕ) → owners-hold-lts.Need-returns-3 (
   are-held-reads.Learnt,
   count-at-reads.Asked,
   count-at-reads.Learnt,
-  child-at-reads.Asked,
-  child-at-reads.Learnt,
+  child-page-reads.Asked,
+  child-page-reads.Learnt,
   owners-hold-below t,
   owners-hold.Post,
 ) (owners-hold-at t) owners-hold.Post owners-hold-Inv-loop owners-hold-μ-loop
@@ -187,8 +187,8 @@ pub +owners-hold-spec : {M : Type 1} → statement M
   are-held-reads.Learnt,
   count-at-reads.Asked,
   count-at-reads.Learnt,
-  child-at-reads.Asked,
-  child-at-reads.Learnt,
+  child-page-reads.Asked,
+  child-page-reads.Learnt,
   owners-hold-below t,
   owners-hold.Post,
 )
@@ -200,7 +200,7 @@ pub +owners-hold-spec : {M : Type 1} → statement M
     (owners-hold-returns t)
     (owners-hold-count-at-requires t)
     (owners-hold-loop-holds t)
-    (owners-hold-child-at-requires t)
+    (owners-hold-child-page-requires t)
     (owners-hold-sub-owners-hold t)
     (owners-hold-owners-hold-requires t)
     (owners-hold-returns-2 t)

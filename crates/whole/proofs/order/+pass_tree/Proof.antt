@@ -15,8 +15,8 @@ use Rattle.whole.proofs.order.pass_tree.Reads as pass-tree
 use Rattle.whole.proofs.order.pass_tree.Kinds as pass-tree-kinds
 use Rattle.whole.proofs.order.+pass_tree.Lts-pass_tree as pass-tree-lts
 use Rattle.whole.proofs.order.pass_leaf.Reads as pass-leaf-reads
-use Rattle.whole_pages.proofs.child_at.Reads as child-at-reads
-use Rattle.whole_pages.proofs.count_at.Reads as count-at-reads
+use Rattle.index.proofs.child_page.Reads as child-page-reads
+use Rattle.index.proofs.count_at.Reads as count-at-reads
 use Rattle.whole.proofs.order.+pass_tree.{statement}
 use Rattle.whole.proofs.order.+pass_tree.Tie.{close}
 
@@ -46,8 +46,8 @@ pass-tree-pass-leaf-requires : (t : ℕ) → pass-tree-lts.Need-pass-leaf-requir
   pass-leaf-reads.Learnt,
   count-at-reads.Asked,
   count-at-reads.Learnt,
-  child-at-reads.Asked,
-  child-at-reads.Learnt,
+  child-page-reads.Asked,
+  child-page-reads.Learnt,
   pass-tree-below t,
   pass-tree.Post,
 ) (pass-tree-at t) pass-tree.Post pass-tree-Inv-loop pass-tree-μ-loop
@@ -59,8 +59,8 @@ pass-tree-returns : (t : ℕ) → pass-tree-lts.Need-returns (
   pass-leaf-reads.Learnt,
   count-at-reads.Asked,
   count-at-reads.Learnt,
-  child-at-reads.Asked,
-  child-at-reads.Learnt,
+  child-page-reads.Asked,
+  child-page-reads.Learnt,
   pass-tree-below t,
   pass-tree.Post,
 ) (pass-tree-at t) pass-tree.Post pass-tree-Inv-loop pass-tree-μ-loop
@@ -71,8 +71,8 @@ pass-tree-count-at-requires : (t : ℕ) → pass-tree-lts.Need-count-at-requires
   pass-leaf-reads.Learnt,
   count-at-reads.Asked,
   count-at-reads.Learnt,
-  child-at-reads.Asked,
-  child-at-reads.Learnt,
+  child-page-reads.Asked,
+  child-page-reads.Learnt,
   pass-tree-below t,
   pass-tree.Post,
 ) (pass-tree-at t) pass-tree.Post pass-tree-Inv-loop pass-tree-μ-loop
@@ -83,32 +83,32 @@ pass-tree-loop-holds : (t : ℕ) → pass-tree-lts.Need-loop-holds (
   pass-leaf-reads.Learnt,
   count-at-reads.Asked,
   count-at-reads.Learnt,
-  child-at-reads.Asked,
-  child-at-reads.Learnt,
+  child-page-reads.Asked,
+  child-page-reads.Learnt,
   pass-tree-below t,
   pass-tree.Post,
 ) (pass-tree-at t) pass-tree.Post pass-tree-Inv-loop pass-tree-μ-loop
 pass-tree-loop-holds t c = (search (needs, fine-page), (search (needs, fine-few), (search needs, (search needs, search (needs, tree-start)))))
 
-pass-tree-child-at-requires : (t : ℕ) → pass-tree-lts.Need-child-at-requires (
+pass-tree-child-page-requires : (t : ℕ) → pass-tree-lts.Need-child-page-requires (
   pass-leaf-reads.Asked,
   pass-leaf-reads.Learnt,
   count-at-reads.Asked,
   count-at-reads.Learnt,
-  child-at-reads.Asked,
-  child-at-reads.Learnt,
+  child-page-reads.Asked,
+  child-page-reads.Learnt,
   pass-tree-below t,
   pass-tree.Post,
 ) (pass-tree-at t) pass-tree.Post pass-tree-Inv-loop pass-tree-μ-loop
-pass-tree-child-at-requires t c κs = search needs
+pass-tree-child-page-requires t c κs = search needs
 
 pass-tree-sub-pass-tree : (t : ℕ) → pass-tree-lts.Need-sub-pass-tree (
   pass-leaf-reads.Asked,
   pass-leaf-reads.Learnt,
   count-at-reads.Asked,
   count-at-reads.Learnt,
-  child-at-reads.Asked,
-  child-at-reads.Learnt,
+  child-page-reads.Asked,
+  child-page-reads.Learnt,
   pass-tree-below t,
   pass-tree.Post,
 ) (pass-tree-at t) pass-tree.Post pass-tree-Inv-loop pass-tree-μ-loop
@@ -119,8 +119,8 @@ pass-tree-pass-tree-requires : (t : ℕ) → pass-tree-lts.Need-pass-tree-requir
   pass-leaf-reads.Learnt,
   count-at-reads.Asked,
   count-at-reads.Learnt,
-  child-at-reads.Asked,
-  child-at-reads.Learnt,
+  child-page-reads.Asked,
+  child-page-reads.Learnt,
   pass-tree-below t,
   pass-tree.Post,
 ) (pass-tree-at t) pass-tree.Post pass-tree-Inv-loop pass-tree-μ-loop
@@ -131,8 +131,8 @@ pass-tree-enum-known-passage : (t : ℕ) → pass-tree-lts.Need-enum-known-passa
   pass-leaf-reads.Learnt,
   count-at-reads.Asked,
   count-at-reads.Learnt,
-  child-at-reads.Asked,
-  child-at-reads.Learnt,
+  child-page-reads.Asked,
+  child-page-reads.Learnt,
   pass-tree-below t,
   pass-tree.Post,
 ) (pass-tree-at t) pass-tree.Post pass-tree-Inv-loop pass-tree-μ-loop
@@ -143,8 +143,8 @@ pass-tree-enum-told : (t : ℕ) → pass-tree-lts.Need-enum-told (
   pass-leaf-reads.Learnt,
   count-at-reads.Asked,
   count-at-reads.Learnt,
-  child-at-reads.Asked,
-  child-at-reads.Learnt,
+  child-page-reads.Asked,
+  child-page-reads.Learnt,
   pass-tree-below t,
   pass-tree.Post,
 ) (pass-tree-at t) pass-tree.Post pass-tree-Inv-loop pass-tree-μ-loop
@@ -155,8 +155,8 @@ pass-tree-returns-2 : (t : ℕ) → pass-tree-lts.Need-returns-2 (
   pass-leaf-reads.Learnt,
   count-at-reads.Asked,
   count-at-reads.Learnt,
-  child-at-reads.Asked,
-  child-at-reads.Learnt,
+  child-page-reads.Asked,
+  child-page-reads.Learnt,
   pass-tree-below t,
   pass-tree.Post,
 ) (pass-tree-at t) pass-tree.Post pass-tree-Inv-loop pass-tree-μ-loop
@@ -167,8 +167,8 @@ pass-tree-add-i : (t : ℕ) → pass-tree-lts.Need-add-i (
   pass-leaf-reads.Learnt,
   count-at-reads.Asked,
   count-at-reads.Learnt,
-  child-at-reads.Asked,
-  child-at-reads.Learnt,
+  child-page-reads.Asked,
+  child-page-reads.Learnt,
   pass-tree-below t,
   pass-tree.Post,
 ) (pass-tree-at t) pass-tree.Post pass-tree-Inv-loop pass-tree-μ-loop
@@ -179,8 +179,8 @@ pass-tree-loop-less : (t : ℕ) → pass-tree-lts.Need-loop-less (
   pass-leaf-reads.Learnt,
   count-at-reads.Asked,
   count-at-reads.Learnt,
-  child-at-reads.Asked,
-  child-at-reads.Learnt,
+  child-page-reads.Asked,
+  child-page-reads.Learnt,
   pass-tree-below t,
   pass-tree.Post,
 ) (pass-tree-at t) pass-tree.Post pass-tree-Inv-loop pass-tree-μ-loop
@@ -191,8 +191,8 @@ pass-tree-loop-again : (t : ℕ) → pass-tree-lts.Need-loop-again (
   pass-leaf-reads.Learnt,
   count-at-reads.Asked,
   count-at-reads.Learnt,
-  child-at-reads.Asked,
-  child-at-reads.Learnt,
+  child-page-reads.Asked,
+  child-page-reads.Learnt,
   pass-tree-below t,
   pass-tree.Post,
 ) (pass-tree-at t) pass-tree.Post pass-tree-Inv-loop pass-tree-μ-loop
@@ -203,8 +203,8 @@ pass-tree-returns-3 : (t : ℕ) → pass-tree-lts.Need-returns-3 (
   pass-leaf-reads.Learnt,
   count-at-reads.Asked,
   count-at-reads.Learnt,
-  child-at-reads.Asked,
-  child-at-reads.Learnt,
+  child-page-reads.Asked,
+  child-page-reads.Learnt,
   pass-tree-below t,
   pass-tree.Post,
 ) (pass-tree-at t) pass-tree.Post pass-tree-Inv-loop pass-tree-μ-loop
@@ -216,8 +216,8 @@ pub +pass-tree-spec : {M : Type 1} → statement M
   pass-leaf-reads.Learnt,
   count-at-reads.Asked,
   count-at-reads.Learnt,
-  child-at-reads.Asked,
-  child-at-reads.Learnt,
+  child-page-reads.Asked,
+  child-page-reads.Learnt,
   pass-tree-below t,
   pass-tree.Post,
 )
@@ -229,7 +229,7 @@ pub +pass-tree-spec : {M : Type 1} → statement M
     (pass-tree-returns t)
     (pass-tree-count-at-requires t)
     (pass-tree-loop-holds t)
-    (pass-tree-child-at-requires t)
+    (pass-tree-child-page-requires t)
     (pass-tree-sub-pass-tree t)
     (pass-tree-pass-tree-requires t)
     (pass-tree-enum-known-passage t)

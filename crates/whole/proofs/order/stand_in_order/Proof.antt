@@ -5,8 +5,8 @@ use Rattle.whole_desk.proofs.Free.{is-free}
 use Rattle.whole.proofs.order.stand_in_order.Statement.{statement}
 use Rattle.whole.proofs.order.stand_in_order.Tie as tie
 
-is-zero-requires : tie.Need-is-zero-requires
-is-zero-requires c κs = search needs
+are-zero-requires : tie.Need-are-zero-requires
+are-zero-requires c κs = search needs
 
 stand-free-requires : tie.Need-stand-free-requires
 stand-free-requires c κs = (search needs, (search needs, search (needs, is-free)))
@@ -23,4 +23,4 @@ returns-2 c = search needs
 pub stand-in-order-spec : {M : Type 1} → statement M
 stand-in-order-spec =
     tie.close
-    (tie.spec is-zero-requires stand-free-requires returns stand-sorted-requires returns-2)
+    (tie.spec are-zero-requires stand-free-requires returns stand-sorted-requires returns-2)

@@ -1,9 +1,9 @@
--- `whole_pages::count_at` meets its contract: the part that is lent is the page.
+-- `index::descent::count_at` meets its contract: the part that is lent is the page.
 -- Assumes nothing.
 use borrow.Author.Needs.{needs}
-use Rattle.whole_pages.proofs.Fronts.{lent-size, count-lent}
-use Rattle.whole_pages.proofs.count_at.Statement.{statement}
-use Rattle.whole_pages.proofs.count_at.Tie as tie
+use Rattle.index.proofs.Buffers.{number-lent}
+use Rattle.index.proofs.descent.count_at.Statement.{statement}
+use Rattle.index.proofs.descent.count_at.Tie as tie
 
 mul-a : tie.Need-mul-a
 mul-a c = search needs
@@ -21,10 +21,10 @@ part-count-of-end : tie.Need-part-count-of-end
 part-count-of-end c = search needs
 
 count-of-requires : tie.Need-count-of-requires
-count-of-requires c κs = search (needs, lent-size)
+count-of-requires c κs = search needs
 
 returns : tie.Need-returns
-returns c = (search (needs, count-lent), search needs)
+returns c = (search (needs, number-lent), search needs)
 
 pub count-at-spec : {M : Type 1} → statement M
 count-at-spec =
