@@ -15,6 +15,7 @@ pub use replacing::replace;
 pub use room::room_for;
 pub use search::find;
 pub use settling::settle;
+pub use settling::settle_key;
 
 // What a search looks for: the first entry at or above lo that is above hi or isn't the asker's own ghost.
 pub struct Sought {
