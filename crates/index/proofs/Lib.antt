@@ -21,3 +21,4 @@ pub mod Belongs
 pub mod OneLeaf
 pub mod Replaces
 pub mod KeySettles
+pub mod Ends
