@@ -1,9 +1,10 @@
--- `index::room::full_leaf` meets its contract: the part that is lent is the leaf.
+-- `index::insert::above_child` meets its contract: the count is that of the page that is lent.
 -- Assumes nothing.
 use borrow.Author.Needs.{needs}
-use Rattle.index.proofs.Runs.{full-yes, full-no}
-use Rattle.index.proofs.room.full_leaf.Statement.{statement}
-use Rattle.index.proofs.room.full_leaf.Tie as tie
+use native.Mathlib.Omega.{arith}
+use Rattle.index.proofs.Runs.{above-full, above-none}
+use Rattle.index.proofs.insert.above_child.Statement.{statement}
+use Rattle.index.proofs.insert.above_child.Tie as tie
 
 mul-a : tie.Need-mul-a
 mul-a c = search needs
@@ -23,14 +24,17 @@ part-count-of-end c = search needs
 count-of-requires : tie.Need-count-of-requires
 count-of-requires c κs = search needs
 
+add-result : tie.Need-add-result
+add-result c = search needs
+
 returns : tie.Need-returns
-returns c = search (needs, full-yes)
+returns c = (search (needs, above-full), omega arith)
 
 returns-2 : tie.Need-returns-2
-returns-2 c = search (needs, full-no)
+returns-2 c = (search (needs, above-none), omega arith)
 
-pub full-leaf-spec : {M : Type 1} → statement M
-full-leaf-spec =
+pub above-child-spec : {M : Type 1} → statement M
+above-child-spec =
     tie.close
     (tie.spec
     mul-a
@@ -39,5 +43,6 @@ full-leaf-spec =
     part-count-of-start
     part-count-of-end
     count-of-requires
+    add-result
     returns
     returns-2)
