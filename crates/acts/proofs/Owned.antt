@@ -2,7 +2,7 @@
 -- in a slot not yet passed, and settling all would give what it gave at first. After the last slot nothing is left to settle.
 -- Assumes nothing.
 use Prim.Native.Nat.{ℕ, _+_, _≤_, _<_}
-use mathlib.Core.Path.{_≡_, refl, sym, ap, ap₂, subst, _∙_}
+use mathlib.Core.Path.{_≡_, refl, sym, ap, subst, _∙_}
 use mathlib.Core.Logic.{_≢_, inl, inr, ⊎-elim}
 use mathlib.Core.Bool.{Bool, true, false, cond, _&&_}
 use mathlib.Core.List.{List, [], _∷_}
@@ -10,10 +10,10 @@ use mathlib.Core.Option.{Option, none, some}
 use native.Mathlib.Omega.{arith}
 use lib.Dec.{eqb}
 use borrow.Author.Tests.{eq-eqb}
-use Rattle.lists.specs.Lists.{In, tab}
+use Rattle.lists.specs.Lists.{In}
 use Rattle.lists.proofs.Elements.{tab-in}
 use Rattle.lists.proofs.Tests.{and-both}
-use Rattle.rules.specs.Kinds.{Name, on, S, X, Lock}
+use Rattle.rules.specs.Kinds.{on, S, X, Lock}
 use Rattle.rules.specs.Locks.{inUse, conflict}
 use Rattle.rules.proofs.Orders.{numbers-ordered}
 use Rattle.rules.proofs.LockTable.{Held, x-conflicts}
@@ -22,7 +22,7 @@ use Rattle.trees.specs.Trees.{Index, flat}
 use Rattle.tables.specs.declared.Lock as L
 use Rattle.tables.specs.declared.Slot as Sl
 use Rattle.tables.specs.declared.Slot.the-variants as SV
-use Rattle.tables.specs.Layout.{locksMost, nameIn, nameNumber, slotAt, slotsOf, bookMode, bookSlot}
+use Rattle.tables.specs.Layout.{locksMost, nameNumber, slotAt, slotsOf, bookMode, bookSlot}
 use Rattle.tables.proofs.Values.{name-back}
 use Rattle.index.specs.Pictures.{Item, indexOf, entriesIn, WholePages}
 use Rattle.index.specs.Changes.{settledIn, settledAt, Becomes}

@@ -4,7 +4,7 @@ use Rattle.pages.specs.Layout.{EntryFits, ChildFits, rootOf, usedOf, heightOf, 
 use Prim.Native.Nat.{ℕ, suc, _+_, _-_, _≤_, _<_, compare}
 use mathlib.Core.Path.{_≡_, refl, sym, ap, ap₂, subst, _∙_}
 use mathlib.Core.Logic.{_≢_, inl, inr}
-use mathlib.Core.Bool.{Bool, true, false, cond, not}
+use mathlib.Core.Bool.{true, false, cond, not}
 use mathlib.Core.List.{List, [], _∷_, map}
 use mathlib.Core.Option.{some}
 use native.Mathlib.Omega.{arith}

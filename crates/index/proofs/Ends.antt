@@ -1,13 +1,13 @@
 -- What settling one key leaves for the end of its transaction: settling all then gives the same as before, and where the transaction owns
 -- nothing more, all is settled. A settled entry has no owner, so settling again leaves it. Assumes nothing.
 use Prim.Native.Nat.{ℕ, _≤_}
-use mathlib.Core.Path.{_≡_, refl, sym, ap, ap₂, subst, fun-ext, _∙_}
+use mathlib.Core.Path.{_≡_, refl, ap, ap₂, subst, fun-ext, _∙_}
 use mathlib.Core.Logic.{_≢_, inl, inr, ⊎-elim}
 use mathlib.Core.Bool.{Bool, true, false, cond}
 use mathlib.Core.List.{List, [], _∷_, _++_, append-nil}
 use native.Mathlib.Omega.{arith}
 use lib.Dec.{eqb}
-use borrow.Author.Tests.{eqb-false, eq-eqb, ne-eqb}
+use borrow.Author.Tests.{eqb-false, ne-eqb}
 use Rattle.lists.specs.Lists.{In, join}
 use Rattle.lists.proofs.Elements.{append-in}
 use Rattle.lists.proofs.Joins.{join-append}

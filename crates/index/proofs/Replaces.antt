@@ -1,6 +1,6 @@
 -- An entry put in the place of the one with its key: in a list whose keys ascend that one stands at the place of the first at or above the key or
 -- nowhere; so the leaf is the one written from the list changed. Assumes nothing.
-use Prim.Native.Nat.{ℕ, zero, suc, _+_, _*_, _-_, _≤_, _<_, compare}
+use Prim.Native.Nat.{ℕ, suc, _+_, _*_, _-_, _≤_, _<_, compare}
 use mathlib.Core.Path.{_≡_, refl, sym, ap, ap₂, subst, _∙_}
 use mathlib.Core.Logic.{inl, inr}
 use mathlib.Core.Bool.{Bool, true, false, cond, not}
@@ -8,9 +8,9 @@ use mathlib.Core.List.{List, [], _∷_, map}
 use native.Mathlib.Nat.{zero-add}
 use native.Mathlib.Omega.{arith}
 use lib.Dec.{leb, eqb, ltb}
-use lib.ListN.{length, getD, set, take, drop, length-map, List·getD-eq-default}
+use lib.ListN.{length, getD, set, take, drop, List·getD-eq-default}
 use lib.Seq.{set-out}
-use borrow.Author.Tests.{leb-true, leb-false, eqb-true, eqb-false, eq-eqb, ne-eqb, not-true, not-false, ltb-true, le-leb, lt-leb}
+use borrow.Author.Tests.{leb-true, leb-false, eqb-true, eq-eqb, ne-eqb, not-true, not-false, ltb-true}
 use borrow.Rule.Slice.PartMut.{putMid}
 use Rattle.lists.specs.Lists.{all, pairs, place}
 use Rattle.lists.proofs.Tables.{getD-tab}
