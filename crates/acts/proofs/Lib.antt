@@ -1,6 +1,7 @@
 pub mod Tables
 pub mod Places
 pub mod Moves
+pub mod Owned
 pub mod Ended
 pub mod Runs
 pub mod Looks

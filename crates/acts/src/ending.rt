@@ -1,15 +1,21 @@
 // The end of a transaction. (Document 01, "Keys and entries", "Locks".)
 ghost use mathlib.Core.Path.{_≡_};
 ghost use mathlib.Core.Bool.{cond, false};
-ghost use Prim.Native.Nat.{_≤_};
+ghost use Prim.Native.Nat.{_≤_, _<_};
 ghost use lib.Dec.{ltb};
 ghost use Rattle.rules.specs.Desk.{ended};
 ghost use Rattle.pages.specs.Rows.{endOf};
-ghost use Rattle.tables.specs.Layout.{deskSize, transactionsMost, queued};
+ghost use Rattle.tables.specs.Layout.{deskSize, transactionsMost, locksMost, queued, slotAt, bookSlot};
 ghost use Rattle.tables.specs.Moves.{locksReleased, waitsIn, queueLeft, markPut};
+ghost use Rattle.index.specs.Pictures.{indexOf, WholePages};
+ghost use Rattle.index.specs.Changes.{settledIn, Becomes};
 ghost use Rattle.desks.specs.States.{book, stateOf};
 ghost use Rattle.desks.specs.Whole.{Whole};
 ghost use Rattle.acts.specs.Acts.{Says};
+ghost use Rattle.acts.specs.Endings.{exclusive, settledUnder};
+use tables::LOCKS;
+use tables::Mode;
+use tables::Slot;
 use tables::locks;
 use tables::queue;
 use tables::transactions;
@@ -38,6 +44,84 @@ fn stop(desk: &mut [u8], t: u16)
     transactions::put_running(desk, t, false);
 }
 
+// From how many X locks on settling every leaf is quicker than looking each entry up.
+const MANY: usize = 9;
+
+// Slot i, if it is t's lock in X; otherwise as if it were free.
+fn exclusive_at(desk: &[u8], i: usize, t: u16) -> Slot
+    requires { do ⌜ (← ⟦desk.len()⟧) ≡ deskSize ⌝ }
+    requires { ⌜ i < locksMost ⌝ }
+    ensures { λ r. ⌜ bookSlot r ≡ exclusive t (slotAt (now (desk .entry)) i) ⌝ }
+{
+    let Slot::Held(l) = locks::slot_at(desk, i) else {
+        return Slot::Free;
+    };
+    let mode = l.mode;
+    if (l.holder == t) & mode.conflicts(Mode::S) {
+        return Slot::Held(l);
+    }
+    Slot::Free
+}
+
+// 1 for t's lock in X.
+fn count_at(desk: &[u8], i: usize, t: u16) -> usize
+    requires { do ⌜ (← ⟦desk.len()⟧) ≡ deskSize ⌝ }
+    requires { ⌜ i < locksMost ⌝ }
+    ensures { λ r. ⌜ r ≤ 1 ⌝ }
+{
+    if exclusive_at(desk, i, t).is_free() {
+        return 0;
+    }
+    1
+}
+
+// Whether t has many X locks. What an end does never depends on it, only how long it takes.
+fn has_many(desk: &[u8], t: u16) -> bool
+    requires { do ⌜ (← ⟦desk.len()⟧) ≡ deskSize ⌝ }
+{
+    let mut i: usize = 0;
+    let mut n: usize = 0;
+    while i < LOCKS {
+        n += count_at(desk, i, t);
+        if n == MANY {
+            return true;
+        }
+        i += 1;
+    }
+    false
+}
+
+// Settles t's entry of the key in slot i, if that is t's lock in X.
+fn settle_under(pages: &mut [u8], desk: &[u8], i: usize, t: u16, commits: bool)
+    requires { ⌜ WholePages (now pages) ⌝ }
+    requires { do ⌜ (← ⟦desk.len()⟧) ≡ deskSize ⌝ }
+    requires { ⌜ i < locksMost ⌝ }
+    ensures { λ _. ⌜ Becomes (now (pages .exit)) (settledUnder commits t (exclusive t (slotAt (now (desk .entry)) i)) (indexOf (now (pages .entry)))) ⌝ }
+{
+    let Slot::Held(l) = exclusive_at(desk, i, t) else {
+        return;
+    };
+    let key = l.name;
+    index::settle_key(pages, key, t, commits);
+}
+
+// Settles all entries of t. Each stands under an X lock of t, so few locks are looked up one by one.
+fn settle_entries(pages: &mut [u8], desk: &[u8], t: u16, commits: bool)
+    requires { ⌜ Whole (now pages) (now desk) ⌝ }
+    requires { ⌜ 1 ≤ t ⌝ }
+    ensures { λ _. ⌜ Becomes (now (pages .exit)) (settledIn commits t (indexOf (now (pages .entry)))) ⌝ }
+{
+    if has_many(desk, t) {
+        index::settle(pages, t, commits);
+        return;
+    }
+    let mut i: usize = 0;
+    while i < LOCKS {
+        settle_under(pages, desk, i, t, commits);
+        i += 1;
+    }
+}
+
 // Ends t: its entries are settled, its request is dropped, its locks are released, and it runs no more.
 pub fn end(pages: &mut [u8], desk: &mut [u8], t: u16, commits: bool)
     requires { ⌜ Whole (now pages) (now desk) ⌝ }
@@ -45,7 +129,7 @@ pub fn end(pages: &mut [u8], desk: &mut [u8], t: u16, commits: bool)
     requires { ⌜ t ≤ transactionsMost ⌝ }
     ensures { λ _. ⌜ Says (now (pages .exit)) (now (desk .exit)) (ended book (endOf commits) (stateOf (now (pages .entry)) (now (desk .entry))) t) ⌝ }
 {
-    index::settle(pages, t, commits);
+    settle_entries(pages, desk, t, commits);
     drop_request(desk, t);
     stop(desk, t);
 }

@@ -4,13 +4,13 @@ use Rattle.pages.specs.Layout.{EntryFits, ChildFits, rootOf, usedOf, heightOf, 
 use Prim.Native.Nat.{ℕ, suc, _+_, _-_, _≤_, _<_, compare}
 use mathlib.Core.Path.{_≡_, refl, sym, ap, ap₂, subst, _∙_}
 use mathlib.Core.Logic.{_≢_, inl, inr}
-use mathlib.Core.Bool.{Bool, true, false, cond, not}
+use mathlib.Core.Bool.{true, false, cond, not}
 use mathlib.Core.List.{List, [], _∷_, map}
 use mathlib.Core.Option.{some}
 use native.Mathlib.Omega.{arith}
-use lib.Dec.{eqb, lit<, lit≤}
+use lib.Dec.{leb, eqb, lit<, lit≤}
 use lib.ListN.{length, replicate}
-use borrow.Author.Tests.{leb-true, not-true, not-false, le-leb, lt-leb, eq-eqb}
+use borrow.Author.Tests.{le-leb, lt-leb, eq-eqb}
 use Rattle.lists.specs.Lists.{In}
 use Rattle.rules.specs.Document.{endMark}
 use Rattle.rules.proofs.Orders.{numbers-ordered}
@@ -23,11 +23,11 @@ use Rattle.trees.proofs.Need.{Run, grown-needs}
 use Rattle.trees.proofs.Wholes.{with-whole, document-fair}
 use Rattle.index.specs.declared.Top.{Top}
 use Rattle.index.specs.declared.Grown.{Grown}
-use Rattle.index.specs.declared.Grown.the-variants.{Same, Split}
+use Rattle.index.specs.declared.Grown.the-variants.{Short, Same, Split}
 use Rattle.index.specs.Pictures.{Item, keyOf, pageAt, putPage, treeOf, indexOf, entriesIn, headPage, innerPage, Laid, WholePages}
 use Rattle.index.specs.Changes.{withEntry, entryFits, Becomes, Added}
 use Rattle.index.specs.Descents.{Subtree, TopOf, runOf}
-use Rattle.index.specs.Growing.{GrowIn, Grew, grownOf, rootPage, RootIn}
+use Rattle.index.specs.Growing.{neededIn, GrowIn, Grew, Outcome, Tried, grownOf, rootPage, RootIn}
 use Rattle.index.proofs.Buffers.{length-putPage, page-same, page-kept}
 use Rattle.index.proofs.Inners as Inner
 use Rattle.index.proofs.Frame as F
@@ -61,12 +61,7 @@ becomes s root used n x size head a b c laid spare is whole =
       index = y;
     }
 
--- where the pages are short, nothing has changed
-pub not-added : (s : List ℕ) (e : Item) (r : Bool) → WholePages s → r ≡ entryFits (e .key) (indexOf s) → not r ≡ true → Added s s e false
-not-added s e r w f h =
-    record { fit = sym (not-true r h) ∙ f; becomes = record { whole = w; index = refl } }
-
-module _ (s : List ℕ) (w : WholePages s) (t : Top) (o : TopOf s t) (e : Item) (r : Bool) (fit : r ≡ entryFits (e .key) (indexOf s)) (yes : not r ≡ false) where
+module _ (s : List ℕ) (w : WholePages s) (t : Top) (o : TopOf s t) (e : Item) where
   abbrev p₀ : List ℕ
   p₀ = pageAt s 0
 
@@ -85,18 +80,15 @@ module _ (s : List ℕ) (w : WholePages s) (t : Top) (o : TopOf s t) (e : Item) 
       ∙ ap (λ m. record { level = t .level; used = m; tree = treeOf (t .level) s (rootOf p₀) }) (sym (o .used))
       ∙ ap (λ m. record { level = t .level; used = t .used; tree = treeOf (t .level) s m }) (sym (o .root))
 
-  fits-now : t .used + cond (eqb (runOf n (e .key) s (t .root)) (suc n)) (suc (runOf n (e .key) s (t .root))) (runOf n (e .key) s (t .root)) ≤ 64
-  unfolding entryFits fits needed
-  fits-now =
-      leb-true (t .used + cond (eqb (runOf n (e .key) s (t .root)) (suc n)) (suc (runOf n (e .key) s (t .root))) (runOf n (e .key) s (t .root))) 64
-      (ap (entryFits (e .key)) (sym x-is) ∙ sym fit ∙ not-false r yes)
+  abbrev need : ℕ
+  need = neededIn n (e .key) s (t .root) 1
 
-  run-fits : t .used + runOf n (e .key) s (t .root) ≤ 64
-  run-fits = go (eqb (runOf n (e .key) s (t .root)) (suc n)) fits-now
-    where
-      go : (b : Bool) → t .used + cond b (suc (runOf n (e .key) s (t .root))) (runOf n (e .key) s (t .root)) ≤ 64 → t .used + runOf n (e .key) s (t .root) ≤ 64
-      go true h = omega arith
-      go false h = h
+  fits-is : entryFits (e .key) (indexOf s) ≡ leb (t .used + need) 64
+  unfolding entryFits fits needed
+  fits-is =
+      let r = runOf n (e .key) s (t .root) in
+      let k : suc r ≡ r + 1 = omega arith in
+      ap (entryFits (e .key)) x-is ∙ ap (λ m. leb (t .used + cond (eqb r (suc n)) m r) 64) k
 
   pub grow-top : EntryFits e → GrowIn s (t .level) (t .root) (t .used) e
   grow-top m =
@@ -104,7 +96,6 @@ module _ (s : List ℕ) (w : WholePages s) (t : Top) (o : TopOf s t) (e : Item) 
         sub = sub;
         used = used-page (t .used) (t .root) (omega (arith, sub .alone (t .root), own-page n s (t .root)));
         most = sub .few;
-        room = run-fits;
         small = m;
       }
 
@@ -114,7 +105,18 @@ module _ (s : List ℕ) (w : WholePages s) (t : Top) (o : TopOf s t) (e : Item) 
   used-some : 0 < t .used
   used-some = omega (arith, used-page (t .used) (t .root) (omega (arith, sub .alone (t .root), own-page n s (t .root))))
 
-  module _ (s₁ : List ℕ) (g : Grown) (d : Grew n s s₁ (t .root) (t .used) e g) where
+  -- where the pages are short, nothing has changed
+  short : (s₁ : List ℕ) → Outcome n s s₁ (t .root) (t .used) 1 e Short → Added s s₁ e false
+  short s₁ c =
+      record {
+        fit = sym (fits-is ∙ lt-leb (t .used + need) 64 (c .1));
+        becomes = subst (λ p. Becomes p (indexOf s)) (sym (c .0)) (record { whole = w; index = refl });
+      }
+
+  module _ (s₁ : List ℕ) (g : Grown) (d : Grew n s s₁ (t .root) (t .used) e g) (room : t .used + need ≤ 64) where
+    fit : entryFits (e .key) (indexOf s) ≡ true
+    fit = fits-is ∙ le-leb (t .used + need) 64 room
+
     top-kept : pageAt s₁ 0 ≡ pageAt s 0
     top-kept = d .kept 0 used-some (omega (arith, once 0))
 
@@ -122,14 +124,14 @@ module _ (s : List ℕ) (w : WholePages s) (t : Top) (o : TopOf s t) (e : Item) 
     unfolding withEntry entriesIn fits entryFits
     wholeness m h =
         with-whole numbers-ordered keyOf 0 (some endMark) documentSizes document-fair e (indexOf s) (w .index) (le-leb 0 (e .key) (omega arith))
-        (ap not (lt-leb endMark (e .key) h)) m (sym fit ∙ not-false r yes)
+        (ap not (lt-leb endMark (e .key) h)) m fit
 
     head-now : (root used height : ℕ) → putRoot (pageAt s₁ 0) root used height ≡ headPage root used height
     head-now root used height =
         ap (λ p. putRoot p root used height) (top-kept ∙ w .head) ∙ head-again (rootOf p₀) (usedOf p₀) (heightOf p₀) root used height
 
     added : (s₂ : List ℕ) → Becomes s₂ (withEntry e (indexOf s)) → Added s s₂ e true
-    added s₂ b = record { fit = sym (not-false r yes) ∙ fit; becomes = b }
+    added s₂ b = record { fit = sym fit; becomes = b }
 
     -- how often a page stands in what has grown
     total : (q : ℕ) → Times n q s₁ (t .root) + summed (λ c. times ℕ Item n q (c .tree)) (G.beside (grownOf n e (t .used) s (t .root) .beside)) + above (grownOf n e (t .used) s (t .root) .used) q ≡ above 1 q
@@ -140,7 +142,7 @@ module _ (s : List ℕ) (w : WholePages s) (t : Top) (o : TopOf s t) (e : Item) 
         omega (arith, once q)
 
     module _ (m : missing compare keyOf (e .key) (entriesIn s) ≡ true) (h : e .key < endMark) where
-      pub add-same : (v : ℕ) (s₂ : List ℕ) → g ≡ Same v → s₂ ≡ putPage s₁ 0 (putRoot (pageAt s₁ 0) (t .root) v (n + 1)) → Added s s₂ e true
+      add-same : (v : ℕ) (s₂ : List ℕ) → g ≡ Same v → s₂ ≡ putPage s₁ 0 (putRoot (pageAt s₁ 0) (t .root) v (n + 1)) → Added s s₂ e true
       unfolding withEntry withItem rooted
       add-same v s₂ z f =
           let d′ : Grew n s s₁ (t .root) (t .used) e (Same v) = subst (λ x. Grew n s s₁ (t .root) (t .used) e x) z d in
@@ -168,10 +170,10 @@ module _ (s : List ℕ) (w : WholePages s) (t : Top) (o : TopOf s t) (e : Item) 
 
         next : v < 64
         next =
-            let need = grown-needs compare keyOf 0 documentSizes n (sub .least) e (t .used) (treeOf n s (t .root)) (sub .counts) in
-            let run : runOf n (e .key) s (t .root) ≡ suc n = subst (λ y. Run n (runOf n (e .key) s (t .root)) y) (d′ .told .1) (need .run) in
-            let k = ap (λ b. cond b (suc (runOf n (e .key) s (t .root))) (runOf n (e .key) s (t .root))) (eq-eqb (runOf n (e .key) s (t .root)) (suc n) run) in
-            omega (arith, need .more, d′ .told .0, fits-now)
+            let taken = grown-needs compare keyOf 0 documentSizes n (sub .least) e (t .used) (treeOf n s (t .root)) (sub .counts) in
+            let run : runOf n (e .key) s (t .root) ≡ suc n = subst (λ y. Run n (runOf n (e .key) s (t .root)) y) (d′ .told .1) (taken .run) in
+            let k = ap (λ b. cond b (runOf n (e .key) s (t .root) + 1) (runOf n (e .key) s (t .root))) (eq-eqb (runOf n (e .key) s (t .root)) (suc n) run) in
+            omega (arith, taken .more, d′ .told .0, room)
 
         total′ : (q : ℕ) → Times n q s₁ (t .root) + Times n q s₁ (c .page) + above v q ≡ above 1 q
         unfolding summed
@@ -180,7 +182,7 @@ module _ (s : List ℕ) (w : WholePages s) (t : Top) (o : TopOf s t) (e : Item) 
             let j = ap (λ y. above y q) (d′ .told .0) in
             omega (arith, total q)
 
-        pub root-in : RootIn s₁ (t .level) (t .root) v c
+        root-in : RootIn s₁ (t .level) (t .root) v c
         root-in =
             record {
               size = d .size;
@@ -191,7 +193,7 @@ module _ (s : List ℕ) (w : WholePages s) (t : Top) (o : TopOf s t) (e : Item) 
               blank = d′ .spare v (omega arith) next ∙ w .spare v (omega (arith, d′ .more, o .used)) next;
             }
 
-        pub add-split : (s₂ : List ℕ) → s₂ ≡ putPage (putPage s₁ v (rootPage (t .level) (t .root) c)) 0 (putRoot (pageAt s₁ 0) v (v + 1) (t .level + 2)) → Added s s₂ e true
+        add-split : (s₂ : List ℕ) → s₂ ≡ putPage (putPage s₁ v (rootPage (t .level) (t .root) c)) 0 (putRoot (pageAt s₁ 0) v (v + 1) (t .level + 2)) → Added s s₂ e true
         unfolding withEntry withItem rooted treeOf
         add-split s₂ f =
             let two : List P.Child = record { low = record { 0 = 0 }; page = t .root } ∷ c ∷ [] in
@@ -242,3 +244,22 @@ module _ (s : List ℕ) (w : WholePages s) (t : Top) (o : TopOf s t) (e : Item) 
             laid-two y (inl i) sb a b = subst (λ k. Laid n sb (k .page)) i (laid-frame n s₁ sb (t .root) a (d .laid))
             laid-two y (inr (inl i)) sb a b = subst (λ k. Laid n sb (k .page)) i (laid-frame n s₁ sb (c .page) b (d′ .told .2))
             laid-two y (inr (inr i)) sb a b = absurd i
+
+  -- ---- the steps of the code
+  module _ (s₁ : List ℕ) (g : Grown) (d : Tried (t .level) s s₁ (t .root) (t .used) 1 e g) where
+    came : (r : Grown) → g ≡ r → Outcome n s s₁ (t .root) (t .used) 1 e r
+    came r z = subst (Outcome n s s₁ (t .root) (t .used) 1 e) z (d .outcome)
+
+    pub not-added : g ≡ Short → Added s s₁ e false
+    not-added z = short s₁ (came Short z)
+
+    module _ (m : missing compare keyOf (e .key) (entriesIn s) ≡ true) (h : e .key < endMark) where
+      pub added-same : (v : ℕ) (s₂ : List ℕ) → g ≡ Same v → s₂ ≡ putPage s₁ 0 (putRoot (pageAt s₁ 0) (t .root) v (t .level + 1)) → Added s s₂ e true
+      added-same v s₂ z f = let c = came (Same v) z in add-same s₁ (Same v) (c .0) (c .1) m h v s₂ refl f
+
+      pub added-split : (v : ℕ) (x : P.Child) (s₂ : List ℕ) → g ≡ Split v x
+          → s₂ ≡ putPage (putPage s₁ v (rootPage (t .level) (t .root) x)) 0 (putRoot (pageAt s₁ 0) v (v + 1) (t .level + 2)) → Added s s₂ e true
+      added-split v x s₂ z f = let c = came (Split v x) z in add-split s₁ (Split v x) (c .0) (c .1) m h v x refl s₂ f
+
+      pub new-root : (v : ℕ) (x : P.Child) → g ≡ Split v x → RootIn s₁ (t .level) (t .root) v x
+      new-root v x z = let c = came (Split v x) z in root-in s₁ (Split v x) (c .0) (c .1) m h v x refl

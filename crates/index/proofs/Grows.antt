@@ -3,8 +3,8 @@
 use Rattle.pages.specs.Layout.{EntryFits, countOf, entriesOf}
 use Prim.Native.Nat.{ℕ, _+_, _*_, _-_, _≤_, _<_}
 use mathlib.Core.Path.{_≡_, refl, sym, ap, subst, _∙_}
-use mathlib.Core.Logic.{_≢_, inl, ⊎-elim}
-use mathlib.Core.Bool.{Bool, true, false, cond}
+use mathlib.Core.Logic.{_≢_, inl, inr, ⊎-elim}
+use mathlib.Core.Bool.{Bool, true, false}
 use mathlib.Core.List.{List, [], _∷_}
 use mathlib.Core.Option.{some}
 use native.Mathlib.Omega.{arith}
@@ -22,15 +22,23 @@ use Rattle.pages.specs.Rows.{entryPut}
 use Rattle.pages.proofs.Entries.{length-entries}
 use Rattle.trees.specs.Trees.{Child}
 use Rattle.trees.specs.Growth as G
-use Rattle.trees.specs.Growth.{halves, grown, fullRun}
+use Rattle.trees.specs.Growth.{halves, grown}
 use Rattle.index.specs.declared.Grown.{Grown}
-use Rattle.index.specs.declared.Grown.the-variants.{Same}
+use Rattle.index.specs.declared.Grown.the-variants.{Short, Same, Split}
 use Rattle.index.specs.Pictures.{Item, keyOf, pageAt, putPage, treeOf, leafPage, Laid}
-use Rattle.index.specs.Growing.{GrowIn, Grew, grownOf, LeafFull, LeafSplit}
+use Rattle.index.specs.Growing.{neededIn, GrowIn, Grew, grownOf, Tried, LeafFull, LeafOver, LeafParted, LeafSplit}
 use Rattle.index.proofs.Buffers.{page-lent, page-back, length-putPage, page-same, page-other}
 use Rattle.index.proofs.Leaves as Leaf
 use Rattle.index.proofs.Frame.{Times, own-page}
 use Rattle.index.proofs.Subtrees.{leaf-few, keys-ascend}
+use Rattle.index.proofs.Runs.{need-none, need-full}
+
+-- ---- with room for it
+pub grew-tried : (n : ℕ) (s s′ : List ℕ) (pg u above : ℕ) (e : Item) (r : Grown) → Grew n s s′ pg u e r → u + neededIn n (e .key) s pg above ≤ 64
+    → Tried n s s′ pg u above e r
+grew-tried n s s′ pg u above e Short d h = absurd (d .told)
+grew-tried n s s′ pg u above e (Same v) d h = record { outcome = (d, h) }
+grew-tried n s s′ pg u above e (Split v c) d h = record { outcome = (d, h) }
 
 -- ---- a leaf
 -- what is read of a page that is written as a leaf
@@ -68,13 +76,11 @@ module _ (s : List ℕ) (pg u : ℕ) (e : Item) (g : GrowIn s 0 pg u e) (i : ℕ
   other-page : (q : ℕ) → Times 0 q s pg ≡ 0 → q ≢ pg
   other-page q h e = let o = own-page 0 s pg in let z = subst (λ x. Times 0 x s pg ≡ 0) e h in omega arith
 
-  pub leaf-more : (n : ℕ) (p : List ℕ) → n ≡ countOf (take (512 * pg + 512 - 512 * pg) (drop (512 * pg) s)) → n < 24
-      → length p ≡ length (take (512 * pg + 512 - 512 * pg) (drop (512 * pg) s))
+  more-grew : (p : List ℕ) → length old ≤ 23 → length p ≡ length (take (512 * pg + 512 - 512 * pg) (drop (512 * pg) s))
       → p ≡ entryPut (take (512 * pg + 512 - 512 * pg) (drop (512 * pg) s)) i e
       → Grew 0 s (putMid (512 * pg) (512 * pg + 512 - 512 * pg) s p) pg u e (Same u)
-  leaf-more n p c h l b =
+  more-grew p k l b =
       let t = g .sub in
-      let k : length old ≤ 23 = omega (arith, ap countOf (page-lent s pg), length-entries (pageAt s pg)) in
       let m : length new ≤ 24 = omega (arith, length-insertAt i e old) in
       let s′ = putPage s pg (leafPage new) in
       let x : putMid (512 * pg) (512 * pg + 512 - 512 * pg) s p ≡ s′ =
@@ -94,18 +100,13 @@ module _ (s : List ℕ) (pg u : ℕ) (e : Item) (g : GrowIn s 0 pg u e) (i : ℕ
         spare = λ q o y. page-other s (t .size) pg (t .which) (leafPage new) w q y (λ v. omega (arith, g .used));
       })
 
-  run-full : length old ≡ 24 → u < 64
-  unfolding fullRun treeOf
-  run-full h = omega (arith, g .room, ap (λ b. cond {A = ℕ} b 1 0) (le-leb 24 (length old) (omega arith)))
-
-  pub leaf-is-full : (n : ℕ) → n ≡ countOf (take (512 * pg + 512 - 512 * pg) (drop (512 * pg) s)) → 24 ≤ n → LeafFull s pg u i e
-  leaf-is-full n c h =
+  is-full : length old ≡ 24 → u < 64 → LeafFull s pg u i e
+  is-full k h =
       let t = g .sub in
-      let k : length old ≡ 24 = omega (arith, ap countOf (page-lent s pg), length-entries (pageAt s pg), leaf-few s pg u t) in
       record {
         size = t .size;
         which = t .which;
-        next = run-full k;
+        next = h;
         other = g .used;
         full = k;
         count = omega (arith, length-entries (pageAt s pg));
@@ -114,8 +115,8 @@ module _ (s : List ℕ) (pg u : ℕ) (e : Item) (g : GrowIn s 0 pg u e) (i : ℕ
         small = g .small;
       }
 
-  pub leaf-divided : (s′ : List ℕ) (r : Grown) → LeafFull s pg u i e → LeafSplit s s′ pg u i e r → Grew 0 s s′ pg u e r
-  leaf-divided s′ r h d =
+  divided-grew : (s′ : List ℕ) (r : Grown) → LeafFull s pg u i e → LeafSplit s s′ pg u i e r → Grew 0 s s′ pg u e r
+  divided-grew s′ r h d =
       let t = g .sub in
       let n : length new ≡ 25 = length-insertAt i e old ∙ ap (λ v. v + 1) (h .full) in
       let a = leafPage (take 13 new) in
@@ -155,6 +156,45 @@ module _ (s : List ℕ) (pg u : ℕ) (e : Item) (g : GrowIn s 0 pg u e) (i : ℕ
       low-small [] m = lit< tt
       low-small (x ∷ xs) m = m x (inl refl) .key
 
+  -- ---- the steps of the code
+  module _ (n above : ℕ) (c : n ≡ countOf (take (512 * pg + 512 - 512 * pg) (drop (512 * pg) s))) where
+    count : length old ≡ n
+    count = length-entries (pageAt s pg) ∙ sym (c ∙ ap countOf (page-lent s pg))
+
+    pub leaf-more : (p : List ℕ) → n < 24 → length p ≡ length (take (512 * pg + 512 - 512 * pg) (drop (512 * pg) s))
+        → p ≡ entryPut (take (512 * pg + 512 - 512 * pg) (drop (512 * pg) s)) i e
+        → Tried 0 s (putMid (512 * pg) (512 * pg + 512 - 512 * pg) s p) pg u above e (Same u)
+    leaf-more p h l b =
+        grew-tried 0 s (putMid (512 * pg) (512 * pg + 512 - 512 * pg) s p) pg u above e (Same u) (more-grew p (omega (arith, count)) l b)
+        (omega (arith, need-none s pg (e .key) above (omega (arith, count)), g .most))
+
+    pub leaf-over : 24 ≤ n → LeafOver s pg u i e
+    leaf-over h = record { full = is-full (omega (arith, count, leaf-few s pg u (g .sub))) }
+
+    pub leaf-divided : (s′ : List ℕ) (r : Grown) → 24 ≤ n → LeafParted s s′ pg u above i e r → Tried 0 s s′ pg u above e r
+    leaf-divided s′ r h d = ⊎-elim no yes (d .how)
+      where
+        need : neededIn 0 (e .key) s pg above ≡ 1 + above
+        need = need-full s pg (e .key) above (omega (arith, count))
+
+        no : (r ≡ Short) × (s′ ≡ s) × (64 < u + above + 1) → Tried 0 s s′ pg u above e r
+        no w = subst (Tried 0 s s′ pg u above e) (sym (w .0)) (record { outcome = (w .1, omega (arith, need, w .2)) })
+
+        yes : LeafSplit s s′ pg u i e r × (u + above + 1 ≤ 64) → Tried 0 s s′ pg u above e r
+        yes w =
+            grew-tried 0 s s′ pg u above e r (divided-grew s′ r (leaf-over h .full (omega (arith, w .1))) (w .0)) (omega (arith, need, w .1))
+
 pub grow-few : (s : List ℕ) (pg u : ℕ) (e : Item) → GrowIn s 0 pg u e → countOf (take (512 * pg + 512 - 512 * pg) (drop (512 * pg) s)) ≤ 24
 grow-few s pg u e g =
     subst (λ p. countOf p ≤ 24) (sym (page-lent s pg)) (omega (arith, leaf-few s pg u (g .sub), length-entries (pageAt s pg)))
+
+-- ---- a full leaf, with and without a page for the new one
+module _ (s : List ℕ) (pg u above i : ℕ) (e : Item) where
+  pub over-full : LeafOver s pg u i e → u + above + 1 ≤ 64 → LeafFull s pg u i e
+  over-full o h = o .full (omega arith)
+
+  pub parted-short : 64 < u + above + 1 → LeafParted s s pg u above i e Short
+  parted-short h = record { how = inl (refl, refl, h) }
+
+  pub parted-split : (s′ : List ℕ) (r : Grown) → u + above + 1 ≤ 64 → LeafSplit s s′ pg u i e r → LeafParted s s′ pg u above i e r
+  parted-split s′ r h d = record { how = inr (d, h) }

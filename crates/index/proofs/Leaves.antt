@@ -1,7 +1,7 @@
 -- A leaf as it is written from entries, and as the leaf code changes it: it is then the leaf written from the entries changed.
 -- Its rows are those of its entries, and an entry that fits is read back as it was written. Assumes nothing.
 use Rattle.pages.specs.Layout.{EntryFits, countOf, entriesOf}
-use Prim.Native.Nat.{ℕ, _≤_}
+use Prim.Native.Nat.{ℕ, _≤_, _<_}
 use mathlib.Core.Path.{_≡_, refl, sym, ap, ap₂, subst, _∙_}
 use mathlib.Core.Logic.{inl, inr, ⊎-elim}
 use mathlib.Core.Bool.{Bool, true, false, cond}
@@ -9,15 +9,15 @@ use mathlib.Core.List.{List, [], _∷_, _++_, map}
 use native.Mathlib.Omega.{arith}
 use lib.Dec.{eqb, lit<, lit≤}
 use lib.ListN.{length, take, drop}
-use Rattle.lists.specs.Lists.{In, join, insertAt}
+use Rattle.lists.specs.Lists.{In, join, insertAt, removeAt}
 use Rattle.lists.proofs.Elements.{append-in}
 use Rattle.lists.proofs.Joins.{map-append}
 use Rattle.rules.specs.Entries.{left, settled, present}
-use Rattle.pages.specs.Rows.{rowsOf, withRows, entryRow, entryPut, endOf, rowLeft, leafSettled, Divided, asTheyAre}
+use Rattle.pages.specs.Rows.{rowsOf, withRows, entryRow, entryPut, entryTaken, endOf, rowLeft, leafSettled, Divided, asTheyAre}
 use Rattle.pages.proofs.Entries.{rowEntry, entry-row, length-entryRow, entries-with, row-fits, bytes-entryRow}
 use Rattle.trees.proofs.Thinning.{thinner, settled-thins}
 use Rattle.index.specs.Pictures.{Item, keyOf, blankPage, leafPage}
-use Rattle.pages.proofs.Written.{fit-rows, rows-written, count-written, length-written, written-again, put-written, stay-written, go-written}
+use Rattle.pages.proofs.Written.{fit-rows, rows-written, count-written, length-written, written-again, put-written, taken-written, stay-written, go-written}
 use Rattle.index.proofs.Written.{blank-page}
 
 -- every entry's numbers fit
@@ -62,6 +62,10 @@ module _ (es : List Item) (h : length es ≤ 24) where
   pub leaf-put : (i : ℕ) (e : Item) → length es ≤ 23 → entryPut (leafPage es) i e ≡ leafPage (insertAt i e es)
   unfolding leafPage entryPut
   leaf-put i e k = put-written 20 entryRow length-entryRow (blank-page 2 0) es (omega arith) (omega arith) i e (omega arith) (omega arith)
+
+  pub leaf-taken : (i : ℕ) → i < length es → entryTaken (leafPage es) i ≡ leafPage (removeAt i es)
+  unfolding leafPage entryTaken
+  leaf-taken i k = taken-written 20 entryRow length-entryRow (blank-page 2 0) es (omega arith) (omega arith) i k
 
   module _ (i : ℕ) (e : Item) (l r : List ℕ)
       (d : Divided 20 13 asTheyAre (insertAt i (entryRow e) (rowsOf 20 (leafPage es))) (leafPage es) (blankPage 2 0) l r) where
@@ -117,7 +121,7 @@ small-end : (commits : Bool) (e : Item) → EntryFits e → EntryFits (endOf com
 small-end true e s = record { key = s .key; owner = lit< tt; now = s .now; before = s .now }
 small-end false e s = record { key = s .key; owner = lit< tt; now = s .before; before = s .before }
 
-small-left : (commits : Bool) (t : ℕ) (e : Item) → EntryFits e → Smalls (left (endOf commits) t e)
+pub small-left : (commits : Bool) (t : ℕ) (e : Item) → EntryFits e → Smalls (left (endOf commits) t e)
 unfolding left
 small-left commits t e s = go (eqb (e .owner) t) (present (endOf commits e))
   where
@@ -128,9 +132,12 @@ small-left commits t e s = go (eqb (e .owner) t) (present (endOf commits e))
     go false c x (inl p) = subst EntryFits p s
     go false c x (inr i) = absurd i
 
+pub join-small : (f : Item → List Item) → ((e : Item) → EntryFits e → Smalls (f e)) → (es : List Item) → Smalls es → Smalls (join f es)
+unfolding join
+join-small f h [] s x i = absurd i
+join-small f h (e ∷ es) s x i =
+    ⊎-elim (h e (s e (inl refl)) x) (join-small f h es (λ y j. s y (inr j)) x) (append-in (f e) (join f es) x i)
+
 pub settled-small : (commits : Bool) (t : ℕ) (es : List Item) → Smalls es → Smalls (settled (endOf commits) t es)
-unfolding settled join
-settled-small commits t [] s x i = absurd i
-settled-small commits t (e ∷ es) s x i =
-    ⊎-elim (small-left commits t e (s e (inl refl)) x) (settled-small commits t es (λ y j. s y (inr j)) x)
-    (append-in (left (endOf commits) t e) (settled (endOf commits) t es) x i)
+unfolding settled
+settled-small commits t = join-small (left (endOf commits) t) (small-left commits t)

@@ -18,4 +18,7 @@ pub mod Same
 pub mod Entries
 pub mod Blanks
 pub mod Belongs
+pub mod OneLeaf
 pub mod Replaces
+pub mod KeySettles
+pub mod Ends

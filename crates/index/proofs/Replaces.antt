@@ -1,38 +1,35 @@
 -- An entry put in the place of the one with its key: in a list whose keys ascend that one stands at the place of the first at or above the key or
--- nowhere; so the leaf is the one written from the list changed, and no other leaf has the key. Assumes nothing.
-use Prim.Native.Nat.{ℕ, zero, suc, _+_, _*_, _-_, _≤_, _<_, compare}
+-- nowhere; so the leaf is the one written from the list changed. Assumes nothing.
+use Prim.Native.Nat.{ℕ, suc, _+_, _*_, _-_, _≤_, _<_, compare}
 use mathlib.Core.Path.{_≡_, refl, sym, ap, ap₂, subst, _∙_}
-use mathlib.Core.Logic.{_≢_, inl, inr}
+use mathlib.Core.Logic.{inl, inr}
 use mathlib.Core.Bool.{Bool, true, false, cond, not}
 use mathlib.Core.List.{List, [], _∷_, map}
 use native.Mathlib.Nat.{zero-add}
 use native.Mathlib.Omega.{arith}
 use lib.Dec.{leb, eqb, ltb}
-use lib.ListN.{length, getD, set, take, drop, length-map, List·getD-eq-default}
+use lib.ListN.{length, getD, set, take, drop, List·getD-eq-default}
 use lib.Seq.{set-out}
-use borrow.Author.Tests.{leb-true, leb-false, eqb-true, eqb-false, eq-eqb, ne-eqb, not-true, not-false, ltb-true, le-leb, lt-leb}
+use borrow.Author.Tests.{leb-true, leb-false, eqb-true, eq-eqb, ne-eqb, not-true, not-false, ltb-true}
 use borrow.Rule.Slice.PartMut.{putMid}
 use Rattle.lists.specs.Lists.{all, pairs, place}
 use Rattle.lists.proofs.Tables.{getD-tab}
 use Rattle.lists.proofs.Tests.{all-head, all-tail, all-weaker}
 use Rattle.lists.proofs.Pairs.{pairs-head, pairs-tail}
-use Rattle.pages.specs.Layout.{EntryFits, kindOf, countOf, rootOf, usedOf, heightOf, entryAt, entriesOf, putEntry}
+use Rattle.pages.specs.Layout.{EntryFits, countOf, entryAt, entriesOf, putEntry}
 use Rattle.pages.specs.Places.{keysAscend, EntryPlace}
 use Rattle.pages.proofs.Written as W
 use Rattle.pages.proofs.Entries.{length-entries}
-use Rattle.trees.specs.Trees.{above}
 use Rattle.trees.specs.Growth.{missing}
 use Rattle.trees.proofs.Thinning.{map-thins}
 use Rattle.index.specs.declared.Top.{Top}
 use Rattle.index.specs.Pictures.{Item, keyOf, pageAt, putPage, indexOf, blankPage, leafPage, WholePages}
 use Rattle.index.specs.Changes.{putOver, replaced, Becomes}
 use Rattle.index.specs.Descents.{TopOf, OwnLeaf, LeafAt, LeafFor, overwritten}
-use Rattle.index.proofs.Buffers.{page-lent, page-back, length-putPage, page-same, page-kept}
-use Rattle.index.proofs.Written.{kind-leaf, kind-head, blank-page}
-use Rattle.index.proofs.Leaves.{Smalls, leaf-length}
-use Rattle.index.proofs.Frame.{Times}
-use Rattle.index.proofs.Subtrees.{used-page, subtree-root}
-use Rattle.index.proofs.Refills.{refilled, leaf-good, refill-whole}
+use Rattle.index.proofs.Buffers.{page-lent, page-back}
+use Rattle.index.proofs.Written.{blank-page}
+use Rattle.index.proofs.Leaves.{Smalls}
+use Rattle.index.proofs.OneLeaf.{leaf-changed}
 
 -- ---- the leaf that is lent
 pub leaf-lent : (s : List ℕ) (pg : ℕ) → LeafAt s pg → OwnLeaf (take (512 * pg + 512 - 512 * pg) (drop (512 * pg) s))
@@ -147,59 +144,7 @@ module _ (e : Item) where
   over-small m (y ∷ ys) f x (inr i) = over-small m ys (λ z j. f z (inr j)) x i
 
   module _ (s : List ℕ) (w : WholePages s) (t : Top) (o : TopOf s t) (q : ℕ) (l : LeafFor s (t .level) (t .root) (e .key) q) where
-    abbrev p₀ : List ℕ
-    p₀ = pageAt s 0
-
-    leaf : LeafFor s (heightOf p₀ - 1) (rootOf p₀) (e .key) q
-    leaf =
-        subst (λ m. LeafFor s m (rootOf p₀) (e .key) q) (o .level) (subst (λ m. LeafFor s (t .level) m (e .key) q) (o .root) l)
-
-    few : length (entriesOf (pageAt s q)) ≤ 24
-    few = omega (arith, l .at .leaf .few, length-entries (pageAt s q))
-
-    used : q < usedOf p₀
-    used = let r = subtree-root s w in used-page (usedOf p₀) q (omega (arith, r .alone q, leaf .inside))
-
-    once : (r : ℕ) → Times (heightOf p₀ - 1) r s (rootOf p₀) + above (usedOf p₀) r ≡ above 1 r
-    unfolding indexOf
-    once r = w .index .pages .once r
-
-    -- a page that is not the leaf stays
-    stays : (r : ℕ) → r < usedOf p₀ → r ≢ q → pageAt s r ≡ refilled over (pageAt s r)
-    stays r h d = go r h d (eqb (kindOf (pageAt s r)) 2) refl
-      where
-        go : (r : ℕ) → r < usedOf p₀ → r ≢ q → (b : Bool) → eqb (kindOf (pageAt s r)) 2 ≡ b
-            → pageAt s r ≡ cond b (leafPage (over (entriesOf (pageAt s r)))) (pageAt s r)
-        go r h d false k = refl
-        go zero h d true k =
-            absurd (omega (arith, eqb-true (kindOf p₀) 2 k, ap kindOf (w .head), kind-head (rootOf p₀) (usedOf p₀) (heightOf p₀)))
-        go (suc r) h d true k =
-            let a = ap (λ b. cond {A = ℕ} b 1 0) (lt-leb (usedOf p₀) (suc r) h) in
-            let c = ap (λ b. cond {A = ℕ} b 1 0) (le-leb 1 (suc r) (omega arith)) in
-            let n : 0 < Times (heightOf p₀ - 1) (suc r) s (rootOf p₀) = omega (arith, once (suc r)) in
-            let i = eqb-true (kindOf (pageAt s (suc r))) 2 k in
-            leaf-good s (heightOf p₀ - 1) (rootOf p₀) (usedOf p₀) (suc r) (subtree-root s w) n i .laid
-            ∙ ap leafPage (sym (over-none (entriesOf (pageAt s (suc r))) (leaf .others (suc r) n d i)))
-
     pub replaced-all : EntryFits e → (s′ : List ℕ) → s′ ≡ putPage s q (leafPage (overwritten e (entriesOf (pageAt s q)))) → Becomes s′ (replaced e (indexOf s))
     unfolding replaced overwritten
-    replaced-all m s′ b =
-        let es = entriesOf (pageAt s q) in
-        let g = leafPage (over es) in
-        let n : length g ≡ 512 = leaf-length (over es) (omega (arith, length-map es (λ (y : Item). putOver e y), few)) in
-        let a = l .at in
-        let kept : (r : ℕ) → r ≢ q → pageAt s′ r ≡ pageAt s r = λ r d. ap (λ z. pageAt z r) b ∙ page-kept s (a .size) q (a .which) g n r d in
-        refill-whole over (λ xs. omega (arith, length-map xs (λ (y : Item). putOver e y))) (over-small m) s s′ w (map-thins keyOf keyOf (putOver e) same-key)
-        (ap length b ∙ length-putPage s (a .size) q (a .which) g n)
-        (λ r h. go r h kept (ap (λ z. pageAt z q) b ∙ page-same s (a .size) q (a .which) g n) (eqb r q) refl)
-        (λ r h k. kept r (λ i. omega (arith, used)))
-      where
-        there : refilled over (pageAt s q) ≡ leafPage (over (entriesOf (pageAt s q)))
-        there =
-            let k : kindOf (pageAt s q) ≡ 2 = ap kindOf (l .at .leaf .laid) ∙ kind-leaf (entriesOf (pageAt s q)) few in
-            ap (λ x. cond (eqb x 2) (leafPage (over (entriesOf (pageAt s q)))) (pageAt s q)) k
-
-        go : (r : ℕ) → r < usedOf p₀ → ((r : ℕ) → r ≢ q → pageAt s′ r ≡ pageAt s r) → pageAt s′ q ≡ leafPage (over (entriesOf (pageAt s q)))
-            → (c : Bool) → eqb r q ≡ c → pageAt s′ r ≡ refilled over (pageAt s r)
-        go r h kept put true c = subst (λ x. pageAt s′ x ≡ refilled over (pageAt s x)) (sym (eqb-true r q c)) (put ∙ sym there)
-        go r h kept put false c = let d = eqb-false r q c in kept r d ∙ stays r h d
+    replaced-all m =
+        leaf-changed over (map-thins keyOf keyOf (putOver e) same-key) (over-small m) (e .key) over-none s w t o q l

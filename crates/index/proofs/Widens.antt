@@ -27,18 +27,19 @@ use Rattle.trees.proofs.Places.{grownAt, widened-at}
 use Rattle.trees.proofs.Pages.{grown-times, summed-in, summed-append, above-yes}
 use Rattle.trees.proofs.Need.{Run, grown-needs}
 use Rattle.index.specs.declared.Grown.{Grown}
-use Rattle.index.specs.declared.Grown.the-variants.{Same, Split}
+use Rattle.index.specs.declared.Grown.the-variants.{Short, Same, Split}
 use Rattle.index.specs.declared.Step.{Step}
 use Rattle.index.specs.declared.Way.{Way}
 use Rattle.index.specs.Pictures.{Item, keyOf, pageAt, putPage, treeOf, innerPage, Laid}
 use Rattle.index.specs.Descents.{Subtree, Starts, Goes, runOf}
-use Rattle.index.specs.Growing.{GrowIn, Grew, grownOf, zeroFirst, lowFirst, Wider, Widened, InnerRoom}
+use Rattle.index.specs.Growing.{neededIn, neededAbove, GrowIn, Grew, grownOf, Outcome, Tried, zeroFirst, lowFirst, Wider, Widened, InnerRoom, Rising, Rises, Rose, Risen}
 use Rattle.index.proofs.Buffers.{length-putPage, page-same, page-kept}
 use Rattle.index.proofs.Inners as Inner
 use Rattle.index.proofs.Frame as F
 use Rattle.index.proofs.Frame.{kid, Times, own-page, times-inner, frame, laid-frame}
 use Rattle.index.proofs.Subtrees.{used-page, inner-filled, child-place}
-use Rattle.index.proofs.Runs.{chosen, child-chosen, run-full, run-up}
+use Rattle.index.proofs.Runs.{chosen, child-chosen, need-below}
+use Rattle.index.proofs.Grows.{grew-tried}
 
 isPage-own : (q : ℕ) → isPage q q ≡ 1
 isPage-own q = ap (λ b. cond {A = ℕ} b 1 0) (eq-eqb q q refl)
@@ -254,8 +255,23 @@ module _ (s : List ℕ) (n pg u : ℕ) (e : Item) (g : GrowIn s (suc n) pg u e) 
           ),
         )
 
-    pub split-room : InnerRoom s₁ (suc n) pg v (st .slot + 1) x
-    split-room =
+    -- ---- there is a page for a full one that is to be divided
+    abbrev Room : ℕ → Type 0
+    Room above = u + neededIn n (e .key) s q (neededAbove (countOf (pageAt s pg)) above) ≤ 64
+
+    next-page : (above : ℕ) → Room above → 30 ≤ countOf (pageAt s pg) → v < 64
+    next-page above room i =
+        let k : suc n - 1 ≡ n = omega arith in
+        let sub = subst (λ m. Subtree s m q u) k (child-chosen s (suc n) pg u (e .key) st q t (λ y. omega arith) h c) in
+        let need = grown-needs compare keyOf 0 documentSizes n (sub .least) e u (treeOf n s q) (sub .counts) in
+        let r = runOf n (e .key) s q in
+        let run : r ≡ suc n = subst (λ y. Run n r y) (w′ .told .1) (need .run) in
+        let all = ap (λ b. cond b (r + neededAbove (countOf (pageAt s pg)) above) r) (eq-eqb r (suc n) run)
+        ∙ ap (λ b. r + cond b (above + 1) 0) (le-leb 30 (countOf (pageAt s pg)) i) in
+        omega (arith, need .more, w′ .told .0)
+
+    pub split-room : (above : ℕ) → Room above → InnerRoom s₁ (suc n) pg v (st .slot + 1) x
+    split-room above room =
         let f = inner-filled s n pg u t in
         let k = ap countOf page-stays in
         let o = h .place .within in
@@ -266,20 +282,10 @@ module _ (s : List ℕ) (n pg u : ℕ) (e : Item) (g : GrowIn s (suc n) pg u e) 
           other = omega (arith, g .used, w′ .more);
           few = omega (arith, length-children (pageAt s pg), f .many);
           place = omega arith;
-          next = λ i. next-page (omega (arith, h .count));
+          next = λ i. next-page above room (omega arith);
           laid = subst (λ p. p ≡ innerPage (suc n) (childrenOf p)) (sym page-stays) (t .laid .0);
           small = w′ .told .3;
         }
-      where
-        next-page : 30 ≤ st .count → v < 64
-        next-page i =
-            let child = child-chosen s (suc n) pg u (e .key) st q t (λ y. omega arith) h c in
-            let k : suc n - 1 ≡ n = omega arith in
-            let sub = subst (λ m. Subtree s m q u) k child in
-            let need = grown-needs compare keyOf 0 documentSizes n (sub .least) e u (treeOf n s q) (sub .counts) in
-            let run : runOf n (e .key) s q ≡ suc n = subst (λ y. Run n (runOf n (e .key) s q) y) (w′ .told .1) (need .run) in
-            let full = run-full s (suc n) pg u (e .key) st q (runOf n (e .key) s q) t (λ y. omega arith) h c (ap (λ m. runOf m (e .key) s q) (sym k)) run i in
-            omega (arith, need .more, w′ .told .0, g .room)
 
     other : (m : ℕ) → Times (suc n) m s pg ≡ 0 → m ≢ pg
     other m o y = let k = subst (λ p. Times (suc n) p s pg ≡ 0) y o in let l = own-page (suc n) s pg in omega arith
@@ -386,24 +392,28 @@ module _ (s : List ℕ) (n pg u : ℕ) (e : Item) (g : GrowIn s (suc n) pg u e) 
               ∙ w′ .spare m (omega arith) j;
         })
 
-    pub widened-grew : (s₂ : List ℕ) (r : Grown) → Widened s₁ s₂ (suc n) pg v (st .slot + 1) x r → Grew (suc n) s s₂ pg u e r
-    widened-grew s₂ r o =
+    pub widened-grew : (above : ℕ) → Room above → (s₂ : List ℕ) (r : Grown) → Widened s₁ s₂ (suc n) pg v (st .slot + 1) x r → Grew (suc n) s s₂ pg u e r
+    widened-grew above room s₂ r o =
         go r (subst (λ p. Wider s₁ s₂ (suc n) pg v (childrenOf p) (insertAt (st .slot + 1) x (childrenOf p)) r) page-stays (o .how))
       where
         go : (r : Grown) → Wider s₁ s₂ (suc n) pg v cs ds r → Grew (suc n) s s₂ pg u e r
+        go Short i = absurd i
         go (Same v′) (i, j, k) = subst (λ m. Grew (suc n) s s₂ pg u e (Same m)) (sym i) (put-grew s₂ j k)
         go (Split v′ y) (i, j, k, l) =
-            let m : v < 64 = split-room .next (omega (arith, ap countOf page-stays, length-children (pageAt s pg))) in
+            let m : v < 64 = next-page above room (omega (arith, length-children (pageAt s pg))) in
             subst (λ a. Grew (suc n) s s₂ pg u e (Split a y)) (sym i)
             (subst (λ a. Grew (suc n) s s₂ pg u e (Split (v + 1) a)) (sym k) (divide-grew s₂ m j l))
 
 -- ---- the steps of the code, at a level that is not 0
-module _ (s : List ℕ) (n pg u : ℕ) (e : Item) (g : GrowIn s n pg u e) (z : n ≡ 0 → ⊥) (way : Way) (goes : Goes s pg (e .key) way) where
+module _ (s : List ℕ) (n pg u above : ℕ) (e : Item) (g : GrowIn s n pg u e) (z : n ≡ 0 → ⊥) (way : Way) (goes : Goes s pg (e .key) way) where
   abbrev st : Step
   st = record { slot = way .slot; count = countOf (pageAt s pg) }
 
   abbrev q : ℕ
   q = way .page
+
+  abbrev below : ℕ
+  below = neededAbove (countOf (pageAt s pg)) above
 
   pub grow-child : GrowIn s (n - 1) (way .page) u e
   grow-child =
@@ -412,40 +422,82 @@ module _ (s : List ℕ) (n pg u : ℕ) (e : Item) (g : GrowIn s n pg u e) (z : n
         sub = k;
         used = used-page u q (omega (arith, k .alone q, own-page (n - 1) s q));
         most = g .most;
-        room = omega (arith, g .room, run-up s n pg u (e .key) st q (runOf (n - 1) (e .key) s q) (g .sub) z (goes .starts) (goes .page) refl);
         small = g .small;
       }
 
-  module _ (s₁ : List ℕ) (r₁ : Grown) (w : Grew (n - 1) s s₁ (way .page) u e r₁) where
-    pub grow-same : (v : ℕ) → r₁ ≡ Same v → Grew n s s₁ pg u e (Same v)
-    grow-same v i = go n z g w
+  needs-same : neededIn n (e .key) s pg above ≡ neededIn (n - 1) (e .key) s q below
+  needs-same = need-below s n pg u e st q above (g .sub) z (goes .starts) (goes .page)
+
+  module _ (s₁ : List ℕ) (r₁ : Grown) (m : ℕ) (b : m ≡ neededAbove (countOf (pageAt s pg)) above) (w : Tried (n - 1) s s₁ (way .page) u m e r₁) where
+    came : Outcome (n - 1) s s₁ q u below e r₁
+    came = subst (λ a. Outcome (n - 1) s s₁ q u a e r₁) b (w .outcome)
+
+    room : (v : ℕ) (x : P.Child) → Outcome (n - 1) s s₁ q u below e (Split v x) → InnerRoom s₁ n pg v (way .slot + 1) x
+    room v x o = go n z g o
       where
-        go : (n : ℕ) → (n ≡ 0 → ⊥) → GrowIn s n pg u e → Grew (n - 1) s s₁ q u e r₁ → Grew n s s₁ pg u e (Same v)
+        go : (n : ℕ) → (n ≡ 0 → ⊥) → GrowIn s n pg u e → Outcome (n - 1) s s₁ q u below e (Split v x) → InnerRoom s₁ n pg v (way .slot + 1) x
+        go zero z g o = absurd (z refl)
+        go (suc m) z g o =
+            let k : suc m - 1 ≡ m = omega arith in
+            let o′ = subst (λ j. Outcome j s s₁ q u below e (Split v x)) k o in
+            split-room s m pg u e g st (goes .starts) q (goes .page) s₁ (Split v x) (o′ .0) v x refl above (o′ .1)
+
+    pub grow-rises : Rises s₁ n pg (way .slot + 1) r₁
+    grow-rises = record { room = go r₁ came }
+      where
+        go : (r : Grown) → Outcome (n - 1) s s₁ q u below e r → Rising s₁ n pg (way .slot + 1) r
+        go Short o = tt
+        go (Same v) o = tt
+        go (Split v x) o = room v x o
+
+    same : (v : ℕ) → Grew (n - 1) s s₁ q u e (Same v) → Grew n s s₁ pg u e (Same v)
+    same v d = go n z g d
+      where
+        go : (n : ℕ) → (n ≡ 0 → ⊥) → GrowIn s n pg u e → Grew (n - 1) s s₁ q u e (Same v) → Grew n s s₁ pg u e (Same v)
         go zero z g w = absurd (z refl)
         go (suc m) z g w =
             let k : suc m - 1 ≡ m = omega arith in
-            same-grew s m pg u e g st (goes .starts) q (goes .page) s₁ r₁ (subst (λ j. Grew j s s₁ q u e r₁) k w) v i
+            same-grew s m pg u e g st (goes .starts) q (goes .page) s₁ (Same v) (subst (λ j. Grew j s s₁ q u e (Same v)) k w) v refl
 
-    pub grow-room : (v : ℕ) (x : P.Child) → r₁ ≡ Split v x → InnerRoom s₁ n pg v (way .slot + 1) x
-    grow-room v x i = go n z g w
+    more : (v : ℕ) (x : P.Child) (s₂ : List ℕ) (r : Grown) → Outcome (n - 1) s s₁ q u below e (Split v x)
+        → Widened s₁ s₂ n pg v (way .slot + 1) x r → Grew n s s₂ pg u e r
+    more v x s₂ r o d = go n z g o d
       where
-        go : (n : ℕ) → (n ≡ 0 → ⊥) → GrowIn s n pg u e → Grew (n - 1) s s₁ q u e r₁ → InnerRoom s₁ n pg v (way .slot + 1) x
-        go zero z g w = absurd (z refl)
-        go (suc m) z g w =
+        go : (n : ℕ) → (n ≡ 0 → ⊥) → GrowIn s n pg u e → Outcome (n - 1) s s₁ q u below e (Split v x)
+            → Widened s₁ s₂ n pg v (way .slot + 1) x r → Grew n s s₂ pg u e r
+        go zero z g o d = absurd (z refl)
+        go (suc m) z g o d =
             let k : suc m - 1 ≡ m = omega arith in
-            split-room s m pg u e g st (goes .starts) q (goes .page) s₁ r₁ (subst (λ j. Grew j s s₁ q u e r₁) k w) v x i
+            let o′ = subst (λ j. Outcome j s s₁ q u below e (Split v x)) k o in
+            widened-grew s m pg u e g st (goes .starts) q (goes .page) s₁ (Split v x) (o′ .0) v x refl above (o′ .1) s₂ r d
 
-    pub grow-more : (v : ℕ) (x : P.Child) (s₂ : List ℕ) (r : Grown) → r₁ ≡ Split v x → Widened s₁ s₂ n pg v (way .slot + 1) x r → Grew n s s₂ pg u e r
-    grow-more v x s₂ r i o = go n z g w o
+    pub grow-risen : (s₂ : List ℕ) (r : Grown) → Risen s₁ s₂ n pg (way .slot + 1) r₁ r → Tried n s s₂ pg u above e r
+    grow-risen s₂ r d = go r₁ came (d .how)
       where
-        go : (n : ℕ) → (n ≡ 0 → ⊥) → GrowIn s n pg u e → Grew (n - 1) s s₁ q u e r₁ → Widened s₁ s₂ n pg v (way .slot + 1) x r → Grew n s s₂ pg u e r
-        go zero z g w o = absurd (z refl)
-        go (suc m) z g w o =
-            let k : suc m - 1 ≡ m = omega arith in
-            widened-grew s m pg u e g st (goes .starts) q (goes .page) s₁ r₁ (subst (λ j. Grew j s s₁ q u e r₁) k w) v x i s₂ r o
+        go : (r₀ : Grown) → Outcome (n - 1) s s₁ q u below e r₀ → Rose s₁ s₂ n pg (way .slot + 1) r₀ r → Tried n s s₂ pg u above e r
+        go Short o d =
+            subst (Tried n s s₂ pg u above e) (sym (d .1)) (record { outcome = (d .0 ∙ o .0, omega (arith, o .1, needs-same)) })
+        go (Same v) o d =
+            subst (Tried n s s₂ pg u above e) (sym (d .1)) (subst (λ s₂. Tried n s s₂ pg u above e (Same v)) (sym (d .0))
+            (grew-tried n s s₁ pg u above e (Same v) (same v (o .0)) (omega (arith, o .1, needs-same))))
+        go (Split v x) o d = grew-tried n s s₂ pg u above e r (more v x s₂ r o d) (omega (arith, o .1, needs-same))
+
+-- ---- a page above a child that has grown
+module _ (s : List ℕ) (n pg i : ℕ) (g : Grown) where
+  pub risen-short : g ≡ Short → Risen s s n pg i g Short
+  risen-short z = subst (λ h. Risen s s n pg i h Short) (sym z) (record { how = (refl, refl) })
+
+  pub risen-same : (v : ℕ) → g ≡ Same v → Risen s s n pg i g (Same v)
+  risen-same v z = subst (λ h. Risen s s n pg i h (Same v)) (sym z) (record { how = (refl, refl) })
+
+  pub rises-room : (v : ℕ) (c : P.Child) → Rises s n pg i g → g ≡ Split v c → InnerRoom s n pg v i c
+  rises-room v c h z = subst (Rises s n pg i) z h .room
+
+  pub risen-wider : (v : ℕ) (c : P.Child) (s′ : List ℕ) (r : Grown) → g ≡ Split v c → Widened s s′ n pg v i c r → Risen s s′ n pg i g r
+  risen-wider v c s′ r z d = subst (λ h. Risen s s′ n pg i h r) (sym z) (record { how = d })
 
 pub grow-leaf : (s : List ℕ) (n pg u : ℕ) (e : Item) → GrowIn s n pg u e → n ≡ 0 → GrowIn s 0 pg u e
 grow-leaf s n pg u e g z = subst (λ m. GrowIn s m pg u e) z g
 
-pub leaf-grew : (s s′ : List ℕ) (n pg u : ℕ) (e : Item) (r : Grown) → n ≡ 0 → Grew 0 s s′ pg u e r → Grew n s s′ pg u e r
-leaf-grew s s′ n pg u e r z w = subst (λ m. Grew m s s′ pg u e r) (sym z) w
+pub leaf-tried : (s s′ : List ℕ) (n pg u above : ℕ) (e : Item) (r : Grown) → n ≡ 0 → Tried 0 s s′ pg u above e r → Tried n s s′ pg u above e r
+leaf-tried s s′ n pg u above e r z w = subst (λ m. Tried m s s′ pg u above e r) (sym z) w

@@ -2,9 +2,10 @@
 use Prim.Native.Nat.{ℕ, compare}
 use mathlib.Core.Path.{_≡_}
 use mathlib.Core.Bool.{Bool, cond}
-use mathlib.Core.List.{List, map}
+use mathlib.Core.List.{List, [], _∷_, map}
 use lib.Dec.{eqb}
-use Rattle.rules.specs.Entries.{settled}
+use Rattle.lists.specs.Lists.{join}
+use Rattle.rules.specs.Entries.{left, settled}
 use Rattle.trees.specs.Trees.{Index, documentSizes}
 use Rattle.trees.specs.Growth.{withItem, fits, inLeaves}
 use Rattle.pages.specs.Rows.{endOf}
@@ -14,7 +15,15 @@ use Rattle.index.specs.Pictures.{Item, keyOf, indexOf, WholePages}
 abbrev pub putOver : Item → Item → Item
 putOver e y = cond (eqb (y .key) (e .key)) e y
 
--- the index with an entry put in; with the entry of its key put in the place of the one there; with one transaction's entries settled
+-- what is left of the entry of key k when t has ended; the others stay
+abbrev pub leftAt : Bool → ℕ → ℕ → Item → List Item
+leftAt commits t k e = cond (eqb (e .key) k) (left (endOf commits) t e) (e ∷ [])
+
+unfoldable pub keySettled : Bool → ℕ → ℕ → List Item → List Item
+keySettled commits t k es = join (leftAt commits t k) es
+
+-- the index with an entry put in; with the entry of its key put in the place of the one there; with one transaction's entries settled, and
+-- with its entry of one key alone
 unfoldable pub withEntry : Item → Index ℕ Item → Index ℕ Item
 withEntry e x = withItem compare keyOf 0 documentSizes e x
 
@@ -26,6 +35,9 @@ replaced e x = inLeaves ℕ Item Item (map (λ (y : Item). putOver e y)) x
 
 unfoldable pub settledIn : Bool → ℕ → Index ℕ Item → Index ℕ Item
 settledIn commits t x = inLeaves ℕ Item Item (settled (endOf commits) t) x
+
+unfoldable pub settledAt : Bool → ℕ → ℕ → Index ℕ Item → Index ℕ Item
+settledAt commits t k x = inLeaves ℕ Item Item (keySettled commits t k) x
 
 pub record Becomes (p : List ℕ) (x : Index ℕ Item) : Type 0 where
   pub whole : WholePages p

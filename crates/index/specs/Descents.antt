@@ -7,7 +7,9 @@ use mathlib.Core.Bool.{Bool, true, cond}
 use mathlib.Core.List.{List, map}
 use mathlib.Core.Option.{Option}
 use lib.Dec.{eqb}
-use lib.ListN.{length}
+use lib.ListN.{length, set}
+use Rattle.lists.specs.Lists.{removeAt}
+use Rattle.rules.specs.Entries.{present}
 use Rattle.pages.specs.Layout.{kindOf, countOf, rootOf, usedOf, heightOf, entriesOf, childAt}
 use Rattle.pages.specs.Places.{keysAscend, ChildPlace}
 use Rattle.pages.specs.Rows.{leafSettled}
@@ -82,6 +84,10 @@ pub record LeafFor (s : List ℕ) (n pg k r : ℕ) : Type 0 where
 -- the entries of a leaf with one put in the place of that with its key
 unfoldable pub overwritten : Item → List Item → List Item
 overwritten e es = map (λ (y : Item). putOver e y) es
+
+-- the entries of a leaf with what an entry has become at place i: itself, or nothing if it is absent
+abbrev pub leftIn : ℕ → Item → List Item → List Item
+leftIn i e es = cond (present e) (set es i e) (removeAt i es)
 
 -- a page of the buffer that may be a leaf
 pub record LeafIn (s : List ℕ) (pg : ℕ) : Type 0 where

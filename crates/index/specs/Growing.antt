@@ -1,9 +1,12 @@
 -- What the steps of an insert leave, between the functions that take them: a tree that has grown, a leaf and an inner page with one more.
 -- Not for readers of the promises. Assumes nothing.
-use Prim.Native.Nat.{ℕ, _+_, _≤_, _<_, compare}
+use Prim.Native.Nat.{ℕ, suc, _+_, _≤_, _<_, compare}
 use mathlib.Core.Path.{_≡_}
+use mathlib.Core.Logic.{_⊎_}
+use mathlib.Core.Bool.{cond}
 use mathlib.Core.List.{List, [], _∷_}
 use mathlib.Core.Option.{none, some}
+use lib.Dec.{leb, eqb}
 use lib.ListN.{length, take, drop, replicate}
 use Rattle.lists.specs.Lists.{insertAt}
 use Rattle.pages.specs.declared.Child as P
@@ -11,16 +14,23 @@ use Rattle.pages.specs.Layout.{EntryFits, ChildFits, countOf, entriesOf, childr
 use Rattle.trees.specs.Trees.{Child, Tree, documentSizes, times}
 use Rattle.trees.specs.Growth as G
 use Rattle.index.specs.declared.Grown.{Grown}
-use Rattle.index.specs.declared.Grown.the-variants.{Same, Split}
+use Rattle.index.specs.declared.Grown.the-variants.{Short, Same, Split}
 use Rattle.index.specs.Pictures.{Item, keyOf, pageAt, putPage, treeOf, leafPage, innerPage, Laid}
 use Rattle.index.specs.Descents.{Subtree, runOf}
 
--- a tree that an entry is to be put into; the pages that it may need are there
+-- the pages that an insert of k needs, in the tree of level n at page pg and above it: where the tree's own page is in the run, `above` more
+abbrev pub neededIn : ℕ → ℕ → List ℕ → ℕ → ℕ → ℕ
+neededIn n k s pg above = cond (eqb (runOf n k s pg) (suc n)) (runOf n k s pg + above) (runOf n k s pg)
+
+-- and above a child of an inner page with so many children
+abbrev pub neededAbove : ℕ → ℕ → ℕ
+neededAbove count above = cond (leb 30 count) (above + 1) 0
+
+-- a tree that an entry is to be put into
 pub record GrowIn (s : List ℕ) (n pg u : ℕ) (e : Item) : Type 0 where
   pub sub : Subtree s n pg u
   pub used : pg < u
   pub most : u ≤ 64
-  pub room : u + runOf n (e .key) s pg ≤ 64
   pub small : EntryFits e
 
 -- the tree with the entry
@@ -29,11 +39,13 @@ grownOf n e u s pg = G.grown compare keyOf 0 documentSizes n e u (treeOf n s pg)
 
 -- what the code tells of it: how many pages are used then, and the new tree beside it
 abbrev pub Told : (n : ℕ) → List ℕ → G.Grown ℕ (Tree ℕ Item n) → Grown → Type 0
+Told n s g Short = ⊥
 Told n s g (Same v) = (v ≡ g .used) × (g .beside ≡ none)
 Told n s g (Split v c) =
     (v ≡ g .used) × (g .beside ≡ some (record { low = c .low .0; tree = treeOf n s (c .page) })) × Laid n s (c .page) × ChildFits c
 
 abbrev pub usedIn : Grown → ℕ
+usedIn Short = 0
 usedIn (Same v) = v
 usedIn (Split v c) = v
 
@@ -46,6 +58,15 @@ pub record Grew (n : ℕ) (s s′ : List ℕ) (pg u : ℕ) (e : Item) (r : Grown
   pub most : usedIn r ≤ 64
   pub kept : (q : ℕ) → q < u → times ℕ Item n q (treeOf n s pg) ≡ 0 → pageAt s′ q ≡ pageAt s q
   pub spare : (q : ℕ) → usedIn r ≤ q → q < 64 → pageAt s′ q ≡ pageAt s q
+
+-- the tree has grown, if the pages had room; otherwise nothing has changed
+abbrev pub Outcome : (n : ℕ) → List ℕ → List ℕ → ℕ → ℕ → ℕ → Item → Grown → Type 0
+Outcome n s s′ pg u above e Short = (s′ ≡ s) × (64 < u + neededIn n (e .key) s pg above)
+Outcome n s s′ pg u above e (Same v) = Grew n s s′ pg u e (Same v) × (u + neededIn n (e .key) s pg above ≤ 64)
+Outcome n s s′ pg u above e (Split v c) = Grew n s s′ pg u e (Split v c) × (u + neededIn n (e .key) s pg above ≤ 64)
+
+pub record Tried (n : ℕ) (s s′ : List ℕ) (pg u above : ℕ) (e : Item) (r : Grown) : Type 0 where
+  pub outcome : Outcome n s s′ pg u above e r
 
 -- a leaf with one more entry, at place i of those that it had
 pub record LeafSplit (s s′ : List ℕ) (pg u i : ℕ) (e : Item) (r : Grown) : Type 0 where
@@ -65,6 +86,14 @@ pub record LeafFull (s : List ℕ) (pg u i : ℕ) (e : Item) : Type 0 where
   pub laid : pageAt s pg ≡ leafPage (entriesOf (pageAt s pg))
   pub small : EntryFits e
 
+-- a full leaf, if there is a page for the new one
+pub record LeafOver (s : List ℕ) (pg u i : ℕ) (e : Item) : Type 0 where
+  pub full : u < 64 → LeafFull s pg u i e
+
+-- divided, if there are pages for the new leaf and for what is needed above; otherwise nothing has changed
+pub record LeafParted (s s′ : List ℕ) (pg u above i : ℕ) (e : Item) (r : Grown) : Type 0 where
+  pub how : ((r ≡ Short) × (s′ ≡ s) × (64 < u + above + 1)) ⊎ (LeafSplit s s′ pg u i e r × (u + above + 1 ≤ 64))
+
 -- an inner page with one more child, at place i of those that it had
 abbrev pub zeroFirst : List P.Child → List P.Child
 zeroFirst [] = []
@@ -75,6 +104,7 @@ lowFirst [] = 0
 lowFirst (c ∷ cs) = c .low .0
 
 abbrev pub Wider : List ℕ → List ℕ → ℕ → ℕ → ℕ → List P.Child → List P.Child → Grown → Type 0
+Wider s s′ n pg u cs ds Short = ⊥
 Wider s s′ n pg u cs ds (Same v) = (v ≡ u) × (s′ ≡ putPage s pg (innerPage n ds)) × (length cs ≤ 29)
 Wider s s′ n pg u cs ds (Split v d) =
     (v ≡ u + 1)
@@ -107,6 +137,24 @@ pub record InnerFull (s : List ℕ) (n pg u i : ℕ) (c : P.Child) : Type 0 wher
   pub place : i ≤ 30
   pub laid : pageAt s pg ≡ innerPage n (childrenOf (pageAt s pg))
   pub small : ChildFits c
+
+-- an inner page whose child has grown: it has room for a new one beside it
+abbrev pub Rising : List ℕ → ℕ → ℕ → ℕ → Grown → Type 0
+Rising s n pg i Short = Unit
+Rising s n pg i (Same v) = Unit
+Rising s n pg i (Split v c) = InnerRoom s n pg v i c
+
+pub record Rises (s : List ℕ) (n pg i : ℕ) (g : Grown) : Type 0 where
+  pub room : Rising s n pg i g
+
+-- and what becomes of it
+abbrev pub Rose : List ℕ → List ℕ → ℕ → ℕ → ℕ → Grown → Grown → Type 0
+Rose s s′ n pg i Short r = (s′ ≡ s) × (r ≡ Short)
+Rose s s′ n pg i (Same v) r = (s′ ≡ s) × (r ≡ Same v)
+Rose s s′ n pg i (Split v c) r = Widened s s′ n pg v i c r
+
+pub record Risen (s s′ : List ℕ) (n pg i : ℕ) (g r : Grown) : Type 0 where
+  pub how : Rose s s′ n pg i g r
 
 -- the new root's page, from a page of zeros, and the buffer with it: "a new root last"
 abbrev pub rootPage : ℕ → ℕ → P.Child → List ℕ

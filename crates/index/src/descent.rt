@@ -1,10 +1,10 @@
-// The way down the tree: what page 0 says, and the children of an inner page.
+// The way down the tree: what page 0 says, the children of an inner page, and the leaf that a key belongs to.
 ghost use mathlib.Core.Path.{_≡_};
 ghost use Prim.Native.Nat.{_<_};
 ghost use lib.ListN.{length};
 ghost use Rattle.pages.specs.Layout.{countOf, rootOf, usedOf, heightOf, childAt};
 ghost use Rattle.index.specs.Pictures.{pageAt, WholePages};
-ghost use Rattle.index.specs.Descents.{InnerIn, Starts, Goes, TopOf};
+ghost use Rattle.index.specs.Descents.{Subtree, InnerIn, Starts, Goes, TopOf, LeafFor};
 use super::Step;
 use super::Top;
 use super::Way;
@@ -110,4 +110,16 @@ pub fn way_to(pages: &[u8], pg: usize, key: Key) -> Way
         slot: slot,
         page: page,
     }
+}
+
+// The page of the leaf that a key belongs to, in the tree of this level at this page. No other leaf of the tree has the key.
+pub fn leaf_for(pages: &[u8], level: usize, pg: usize, key: Key) -> usize
+    requires { ⌜ Subtree (now pages) level pg 64 ⌝ }
+    ensures { λ r. ⌜ LeafFor (now (pages .entry)) level pg (key .0) r ⌝ }
+{
+    if level == 0 {
+        return pg;
+    }
+    let way = way_to(pages, pg, key);
+    leaf_for(pages, level - 1, way.page, key)
 }

@@ -2,18 +2,18 @@
 ghost use mathlib.Core.Path.{_≡_};
 ghost use mathlib.Core.Bool.{true};
 ghost use mathlib.Core.List.{[], _∷_};
-ghost use Prim.Native.Nat.{_+_, _<_, compare};
+ghost use Prim.Native.Nat.{_+_, _≤_, _<_, compare};
 ghost use lib.ListN.{length, replicate};
 ghost use Rattle.rules.specs.Document.{endMark};
-ghost use Rattle.pages.specs.Layout.{EntryFits, putRoot};
+ghost use Rattle.pages.specs.Layout.{EntryFits, countOf, putRoot};
 ghost use Rattle.trees.specs.Growth.{missing};
 ghost use Rattle.index.specs.Pictures.{keyOf, pageAt, putPage, innerPage, entriesIn, WholePages};
 ghost use Rattle.index.specs.Changes.{Added};
 ghost use Rattle.entries.specs.Meaning.{bookEntry};
-ghost use Rattle.index.specs.Growing.{GrowIn, Grew, LeafFull, LeafSplit, InnerRoom, InnerFull, Widened, rootPage, RootIn};
+ghost use Rattle.index.specs.Descents.{InnerIn};
+ghost use Rattle.index.specs.Growing.{neededAbove, GrowIn, Tried, LeafOver, LeafParted, LeafFull, LeafSplit, InnerRoom, InnerFull, Widened, Rises, Risen, rootPage, RootIn};
 use super::Grown;
 use super::descent;
-use super::room;
 use entries::Entry;
 use entries::Key;
 use pages::Child;
@@ -28,14 +28,13 @@ pub fn add(pages: &mut [u8], e: Entry) -> bool
     requires { ⌜ missing compare keyOf (e .key .0) (entriesIn (now pages)) ≡ true ⌝ }
     ensures { λ r. ⌜ Added (now (pages .entry)) (now (pages .exit)) (bookEntry e) r ⌝ }
 {
-    let key = e.key;
-    if !room::room_for(pages, key) {
-        return false;
-    }
     fits_page(e);
     let t = descent::top(pages);
-    let g = grow(pages, t.level, t.root, t.used, e);
+    let g = grow(pages, t.level, t.root, t.used, 1, e);
     match g {
+        Grown::Short => {
+            return false;
+        }
         Grown::Same(u) => {
             put_top(pages, t.root, u, t.level + 1);
             return true;
@@ -112,31 +111,59 @@ fn clear_inner(p: &mut [u8], level: usize)
     head::put_head(p, 3, 0, level);
 }
 
-// Puts an entry into the tree of this level at this page. New pages take the next unused numbers, the leaf's first.
-fn grow(pages: &mut [u8], level: usize, pg: usize, used: usize, e: Entry) -> Grown
+// Puts an entry into the tree of this level at this page, if the pages have room. New pages take the next unused numbers, the leaf's first.
+// If the tree's own page is divided, so many more pages are needed above it.
+fn grow(pages: &mut [u8], level: usize, pg: usize, used: usize, above: usize, e: Entry) -> Grown
     requires { ⌜ GrowIn (now pages) level pg used (bookEntry e) ⌝ }
-    ensures { λ r. ⌜ Grew level (now (pages .entry)) (now (pages .exit)) pg used (bookEntry e) r ⌝ }
+    requires { ⌜ above + level ≤ 65535 ⌝ }
+    ensures { λ r. ⌜ Tried level (now (pages .entry)) (now (pages .exit)) pg used above (bookEntry e) r ⌝ }
 {
     if level == 0 {
-        return grow_leaf(pages, pg, used, e);
+        return grow_leaf(pages, pg, used, above, e);
     }
     let key = e.key;
     let way = descent::way_to(pages, pg, key);
-    let g = grow(pages, level - 1, way.page, used, e);
+    let more = above_child(pages, pg, above);
+    let g = grow(pages, level - 1, way.page, used, more, e);
+    grow_up(pages, level, pg, way.slot + 1, g)
+}
+
+// What becomes of an inner page's tree by what became of a child's: a new tree beside that one is put in as a child, at this place.
+fn grow_up(pages: &mut [u8], level: usize, pg: usize, i: usize, g: Grown) -> Grown
+    requires { ⌜ Rises (now pages) level pg i g ⌝ }
+    ensures { λ r. ⌜ Risen (now (pages .entry)) (now (pages .exit)) level pg i g r ⌝ }
+{
     match g {
+        Grown::Short => {
+            return Grown::Short;
+        }
         Grown::Same(u) => {
             return Grown::Same(u);
         }
         Grown::Split(u, c) => {
-            return grow_inner(pages, level, pg, u, way.slot + 1, c);
+            return grow_inner(pages, level, pg, u, i, c);
         }
     }
 }
 
-// Puts an entry into a leaf. A full one is divided.
-fn grow_leaf(pages: &mut [u8], pg: usize, used: usize, e: Entry) -> Grown
+// How many pages are needed above a child that is divided: one more than above its inner page where that is full, otherwise none.
+fn above_child(pages: &[u8], pg: usize, above: usize) -> usize
+    requires { ⌜ InnerIn (now pages) pg ⌝ }
+    requires { ⌜ above ≤ 65535 ⌝ }
+    ensures { λ r. ⌜ (r ≡ neededAbove (countOf (pageAt (now (pages .entry)) pg)) above) × (r ≤ above + 1) ⌝ }
+{
+    let a = 512 * pg;
+    if 30 <= head::count_of(&pages[a..a + 512]) {
+        return above + 1;
+    }
+    0
+}
+
+// Puts an entry into a leaf. A full one is divided, if the pages have room for that and for what is needed above.
+fn grow_leaf(pages: &mut [u8], pg: usize, used: usize, above: usize, e: Entry) -> Grown
     requires { ⌜ GrowIn (now pages) 0 pg used (bookEntry e) ⌝ }
-    ensures { λ r. ⌜ Grew 0 (now (pages .entry)) (now (pages .exit)) pg used (bookEntry e) r ⌝ }
+    requires { ⌜ above ≤ 65535 ⌝ }
+    ensures { λ r. ⌜ Tried 0 (now (pages .entry)) (now (pages .exit)) pg used above (bookEntry e) r ⌝ }
 {
     let a = 512 * pg;
     let key = e.key;
@@ -145,6 +172,19 @@ fn grow_leaf(pages: &mut [u8], pg: usize, used: usize, e: Entry) -> Grown
     if n < 24 {
         leaf::insert_entry(&mut pages[a..a + 512], i, e);
         return Grown::Same(used);
+    }
+    divide_leaf(pages, pg, used, above, i, e)
+}
+
+// Puts an entry in at a place of a full leaf, if there are pages for the new leaf and for what is needed above.
+fn divide_leaf(pages: &mut [u8], pg: usize, used: usize, above: usize, i: usize, e: Entry) -> Grown
+    requires { ⌜ LeafOver (now pages) pg used i (bookEntry e) ⌝ }
+    requires { ⌜ used ≤ 64 ⌝ }
+    requires { ⌜ above ≤ 65535 ⌝ }
+    ensures { λ r. ⌜ LeafParted (now (pages .entry)) (now (pages .exit)) pg used above i (bookEntry e) r ⌝ }
+{
+    if 64 < used + above + 1 {
+        return Grown::Short;
     }
     split_leaf(pages, pg, used, i, e)
 }

@@ -3,7 +3,6 @@ mod descent;
 mod fresh;
 mod insert;
 mod replacing;
-mod room;
 mod search;
 mod settling;
 
@@ -18,9 +17,9 @@ use entries::Key;
 pub use fresh::fresh_pages;
 pub use insert::add;
 pub use replacing::replace;
-pub use room::room_for;
 pub use search::find;
 pub use settling::settle;
+pub use settling::settle_key;
 
 // What a search looks for: the first entry at or above lo that is above hi or isn't the asker's own ghost.
 pub struct Sought {
@@ -53,8 +52,10 @@ pub struct Way {
     pub page: usize,
 }
 
-// What becomes of a tree that an entry was put into: how many pages are used then, and the new tree beside it if it was divided.
+// What becomes of a tree that an entry is put into: how many pages are used then, and the new tree beside it if it was divided. Where the pages
+// are short nothing has changed.
 pub enum Grown {
+    Short,
     Same(usize),
     Split(usize, pages::Child),
 }

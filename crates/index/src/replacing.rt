@@ -4,11 +4,10 @@ ghost use Rattle.entries.specs.Meaning.{bookEntry};
 ghost use Rattle.pages.specs.Layout.{entriesOf};
 ghost use Rattle.index.specs.Pictures.{pageAt, putPage, indexOf, leafPage, WholePages};
 ghost use Rattle.index.specs.Changes.{replaced, Becomes};
-ghost use Rattle.index.specs.Descents.{Subtree, OwnLeaf, LeafAt, LeafFor, overwritten};
+ghost use Rattle.index.specs.Descents.{OwnLeaf, LeafAt, overwritten};
 use super::descent;
 use super::insert;
 use entries::Entry;
-use entries::Key;
 use pages::head;
 use pages::leaf;
 
@@ -20,20 +19,8 @@ pub fn replace(pages: &mut [u8], e: Entry)
     insert::fits_page(e);
     let t = descent::top(pages);
     let key = e.key;
-    let pg = leaf_for(pages, t.level, t.root, key);
+    let pg = descent::leaf_for(pages, t.level, t.root, key);
     replace_in(pages, pg, e);
-}
-
-// The page of the leaf that a key belongs to, in the tree of this level at this page. No other leaf of the tree has the key.
-fn leaf_for(pages: &[u8], level: usize, pg: usize, key: Key) -> usize
-    requires { ⌜ Subtree (now pages) level pg 64 ⌝ }
-    ensures { λ r. ⌜ LeafFor (now (pages .entry)) level pg (key .0) r ⌝ }
-{
-    if level == 0 {
-        return pg;
-    }
-    let way = descent::way_to(pages, pg, key);
-    leaf_for(pages, level - 1, way.page, key)
 }
 
 // Puts an entry in the place of the one with its key in a leaf of the buffer.

@@ -1,16 +1,16 @@
 -- A list written on a blank page, each element as a row: what is read of it, and that every change leaves such a page, of the changed list.
 -- Rows put over rows of a page whose unused bytes are zero. Once for every width and kind of row. Assumes nothing.
-use mathlib.Core.Path.{_≡_, refl, sym, ap, _∙_}
+use mathlib.Core.Path.{_≡_, refl, sym, ap, ap₂, _∙_}
 use mathlib.Core.Bool.{true}
-use mathlib.Core.List.{List, [], _∷_, map}
-use Prim.Native.Nat.{ℕ, zero, _+_, _*_, _/_, _%_, _≤_, _<_}
-use native.Mathlib.Nat.{mul-zero}
+use mathlib.Core.List.{List, [], _∷_, _++_, map}
+use Prim.Native.Nat.{ℕ, zero, _+_, _*_, _-_, _/_, _%_, _≤_, _<_}
+use native.Mathlib.Nat.{mul-zero, mul-le-mul-left}
 use native.Mathlib.Omega.{arith}
 use lib.ListN.{length, set, length-set, length-map, take, drop}
 use lib.Seq.{length-take-le}
-use Rattle.lists.specs.Lists.{all, insertAt}
-use Rattle.lists.proofs.Places.{map-set, length-insertAt, map-insertAt}
-use Rattle.lists.proofs.Joins.{map-take, map-drop}
+use Rattle.lists.specs.Lists.{all, insertAt, removeAt}
+use Rattle.lists.proofs.Places.{map-set, length-insertAt, map-insertAt, removeAt-is, length-removeAt}
+use Rattle.lists.proofs.Joins.{map-append, map-take, map-drop}
 use Rattle.numbers.specs.Numbers.{widthOf, putPart, zeroAt}
 use Rattle.numbers.proofs.Splices.{put-row}
 use Rattle.rules.specs.Kinds.{Entry}
@@ -74,6 +74,16 @@ module _ {A : Type 0} (z : ℕ) (row : A → List ℕ) (wide : (x : A) → lengt
         ∙ ap (λ rs. withRows z (written xs) (set rs i (row x))) rows-written
         ∙ ap (withRows z (written xs)) (sym (map-set row xs i x))
         ∙ written-again (set xs i x) (rw k h) (rw k l)
+
+    -- ---- one taken out
+    pub taken-written : (i : ℕ) → i < length xs → withRows z (written xs) (removeAt i (rowsOf z (written xs))) ≡ written (removeAt i xs)
+    taken-written i m =
+        let e = length-removeAt i xs m in
+        let n : length xs - 1 ≤ length xs = omega arith in
+        ap (λ rs. withRows z (written xs) (removeAt i rs)) rows-written
+        ∙ ap (withRows z (written xs)) (removeAt-is i (map row xs) ∙ ap₂ _++_ (sym (map-take row i xs)) (sym (map-drop row (i + 1) xs))
+        ∙ sym (map-append row (take i xs) (drop (i + 1) xs)) ∙ ap (map row) (sym (removeAt-is i xs)))
+        ∙ written-again (removeAt i xs) (rw e (omega (arith, mul-le-mul-left z n))) (rw e (omega arith))
 
     -- ---- one more put in, and what stays or moves when the page is divided
     inserted-rows : (i : ℕ) (x : A) → insertAt i (row x) (rowsOf z (written xs)) ≡ map row (insertAt i x xs)

@@ -179,7 +179,7 @@ fn settle_own(p: &mut [u8], i: usize, j: usize, owner: u16, commits: bool) -> us
 }
 
 // An entry as it is when its owner has ended.
-fn settled(e: Entry, commits: bool) -> Entry
+pub fn settled(e: Entry, commits: bool) -> Entry
     ensures { λ r. ⌜ bookEntry r ≡ endOf commits (bookEntry e) ⌝ }
 {
     if commits {

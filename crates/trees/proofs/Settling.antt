@@ -4,13 +4,13 @@ use Prim.Native.Nat.{ℕ, zero, suc, Ordering}
 use mathlib.Core.Path.{_≡_, refl, sym, ap, ap₂, subst, fun-ext, _∙_}
 use mathlib.Core.Logic.{inl, inr}
 use mathlib.Core.Bool.{Bool, true, false, cond, not, _&&_, _||_}
-use mathlib.Core.List.{List, [], _∷_, _++_, map, map-map}
+use mathlib.Core.List.{List, [], _∷_, _++_, map, map-id, map-map}
 use lib.Dec.{isEq, eqb}
 use Rattle.lists.specs.Lists.{all, any, pairs, keep, join, In}
 use Rattle.lists.proofs.Tests.{all-head, all-tail, keep-append}
 use Rattle.lists.proofs.Pairs.{pairs-head, pairs-tail}
 use Rattle.lists.proofs.Elements.{all-in}
-use Rattle.lists.proofs.Joins.{map-alike, map-append, join-append}
+use Rattle.lists.proofs.Joins.{map-same, map-alike, map-append, join-append}
 use Rattle.rules.specs.Kinds.{Book, Ordered, Entry}
 use Rattle.rules.specs.Entries.{present, left, settled, takenOut, changed}
 use Rattle.trees.specs.Trees.{Tree, Index, flat}
@@ -30,6 +30,15 @@ leaves-twice K {A} {B} {C} g f (suc n) t =
     (map-map (withTree (leaves K B C g n)) (withTree (leaves K A B f n)) (t .holds)
     ∙ ap (λ h. map (withTree h) (t .holds)) (fun-ext (leaves-twice K g f n)))
 
+-- what changes no list changes no tree
+leaves-itself : (K A : Type 0) (n : ℕ) (t : Tree K A n) → leaves K A A (λ xs. xs) n t ≡ t
+unfolding leaves
+leaves-itself K A zero t = refl
+leaves-itself K A (suc n) t =
+    ap (λ cs. record { number = t .number; holds = cs })
+    (map-same (withTree (leaves K A A (λ xs. xs) n)) (λ c. c) (t .holds) (λ c i. ap (λ u. record { low = c .low; tree = u }) (leaves-itself K A n (c .tree)))
+    ∙ map-id (t .holds))
+
 -- two functions that take a list piece by piece, and are the same at every item of the tree
 module _ {A B : Type 0} (f g : List A → List B) (e : f [] ≡ g []) (pf : (xs ys : List A) → f (xs ++ ys) ≡ f xs ++ f ys)
     (pg : (xs ys : List A) → g (xs ++ ys) ≡ g xs ++ g ys) where
@@ -46,6 +55,14 @@ module _ {A B : Type 0} (f g : List A → List B) (e : f [] ≡ g []) (pf : (xs 
       ap (λ cs. record { number = t .number; holds = cs })
       (map-alike (withTree (leaves K A B f n)) (withTree (leaves K A B g n)) (λ c. flat K A n (c .tree)) (λ x. f (x ∷ []) ≡ g (x ∷ []))
       (λ c i. ap (λ u. record { low = c .low; tree = u }) (leaves-alike K n (c .tree) i)) (t .holds) h)
+
+-- what leaves every item of the index as it is leaves the index
+pub leaves-none : (K A : Type 0) (f : List A → List A) → f [] ≡ [] → ((xs ys : List A) → f (xs ++ ys) ≡ f xs ++ f ys) → (x : Index K A)
+    → ((a : A) → In a (flat K A (x .level) (x .tree)) → f (a ∷ []) ≡ a ∷ []) → inLeaves K A A f x ≡ x
+unfolding inLeaves
+leaves-none K A f e pieces x h =
+    ap (λ t. record { level = x .level; used = x .used; tree = t })
+    (leaves-alike f (λ xs. xs) e pieces (λ xs ys. refl) K (x .level) (x .tree) h ∙ leaves-itself K A (x .level) (x .tree))
 
 -- whether an item's key is among those of the items that pass p
 module _ {K A : Type 0} {compare : K → K → Ordering} (L : Ordered K compare) (key : A → K) where

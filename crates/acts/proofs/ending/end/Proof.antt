@@ -6,8 +6,8 @@ use Rattle.acts.proofs.Ended.{end-says}
 use Rattle.acts.proofs.ending.end.Statement.{statement}
 use Rattle.acts.proofs.ending.end.Tie as tie
 
-settle-requires : tie.Need-settle-requires
-settle-requires c κs = search needs
+settle-entries-requires : tie.Need-settle-entries-requires
+settle-entries-requires c κs = search needs
 
 drop-request-requires : tie.Need-drop-request-requires
 drop-request-requires c κs = search (needs, whole-few)
@@ -28,7 +28,7 @@ pub end-spec : {M : Type 1} → statement M
 end-spec =
     tie.close
     (tie.spec
-    settle-requires
+    settle-entries-requires
     drop-request-requires
     stop-requires
     same-length

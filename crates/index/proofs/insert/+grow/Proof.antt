@@ -3,7 +3,7 @@
 use borrow.Author.Needs.{needs}
 use native.Mathlib.Omega.{arith}
 use Rattle.index.proofs.Subtrees.{inner-in}
-use Rattle.index.proofs.Widens.{grow-leaf, leaf-grew, grow-child, grow-same, grow-room, grow-more}
+use Rattle.index.proofs.Widens.{grow-leaf, leaf-tried, grow-child, grow-rises, grow-risen}
 use Prim.Native.Nat.{ℕ, _<_}
 use borrow.Fn.Kinds.{In}
 use borrow.Fn.PlainCycle.{Measures, is, falls, and}
@@ -11,8 +11,9 @@ use Rattle.index.proofs.insert.grow.Reads as grow
 use Rattle.index.proofs.insert.grow.Kinds as grow-kinds
 use Rattle.index.proofs.insert.+grow.Lts-grow as grow-lts
 use Rattle.index.proofs.descent.way_to.Reads as way-to-reads
-use Rattle.index.proofs.insert.grow_inner.Reads as grow-inner-reads
+use Rattle.index.proofs.insert.above_child.Reads as above-child-reads
 use Rattle.index.proofs.insert.grow_leaf.Reads as grow-leaf-reads
+use Rattle.index.proofs.insert.grow_up.Reads as grow-up-reads
 use Rattle.index.proofs.insert.+grow.{statement}
 use Rattle.index.proofs.insert.+grow.Tie.{close}
 
@@ -30,22 +31,26 @@ grow-grow-leaf-requires : (t : ℕ) → grow-lts.Need-grow-leaf-requires (
   grow-leaf-reads.Learnt,
   way-to-reads.Asked,
   way-to-reads.Learnt,
+  above-child-reads.Asked,
+  above-child-reads.Learnt,
   grow-below t,
   grow.Post,
-  grow-inner-reads.Asked,
-  grow-inner-reads.Learnt,
+  grow-up-reads.Asked,
+  grow-up-reads.Learnt,
 ) (grow-at t) grow.Post
-grow-grow-leaf-requires t c κs = search (needs, grow-leaf)
+grow-grow-leaf-requires t c κs = (search (needs, grow-leaf), omega arith)
 
 grow-same-length : (t : ℕ) → grow-lts.Need-same-length (
   grow-leaf-reads.Asked,
   grow-leaf-reads.Learnt,
   way-to-reads.Asked,
   way-to-reads.Learnt,
+  above-child-reads.Asked,
+  above-child-reads.Learnt,
   grow-below t,
   grow.Post,
-  grow-inner-reads.Asked,
-  grow-inner-reads.Learnt,
+  grow-up-reads.Asked,
+  grow-up-reads.Learnt,
 ) (grow-at t) grow.Post
 grow-same-length t c = search needs
 
@@ -54,34 +59,54 @@ grow-returns : (t : ℕ) → grow-lts.Need-returns (
   grow-leaf-reads.Learnt,
   way-to-reads.Asked,
   way-to-reads.Learnt,
+  above-child-reads.Asked,
+  above-child-reads.Learnt,
   grow-below t,
   grow.Post,
-  grow-inner-reads.Asked,
-  grow-inner-reads.Learnt,
+  grow-up-reads.Asked,
+  grow-up-reads.Learnt,
 ) (grow-at t) grow.Post
-grow-returns t c = search (needs, leaf-grew)
+grow-returns t c = search (needs, leaf-tried)
 
 grow-way-to-requires : (t : ℕ) → grow-lts.Need-way-to-requires (
   grow-leaf-reads.Asked,
   grow-leaf-reads.Learnt,
   way-to-reads.Asked,
   way-to-reads.Learnt,
+  above-child-reads.Asked,
+  above-child-reads.Learnt,
   grow-below t,
   grow.Post,
-  grow-inner-reads.Asked,
-  grow-inner-reads.Learnt,
+  grow-up-reads.Asked,
+  grow-up-reads.Learnt,
 ) (grow-at t) grow.Post
 grow-way-to-requires t c κs = search (needs, inner-in)
+
+grow-above-child-requires : (t : ℕ) → grow-lts.Need-above-child-requires (
+  grow-leaf-reads.Asked,
+  grow-leaf-reads.Learnt,
+  way-to-reads.Asked,
+  way-to-reads.Learnt,
+  above-child-reads.Asked,
+  above-child-reads.Learnt,
+  grow-below t,
+  grow.Post,
+  grow-up-reads.Asked,
+  grow-up-reads.Learnt,
+) (grow-at t) grow.Post
+grow-above-child-requires t c κs = (search (needs, inner-in), omega arith)
 
 grow-sub-grow : (t : ℕ) → grow-lts.Need-sub-grow (
   grow-leaf-reads.Asked,
   grow-leaf-reads.Learnt,
   way-to-reads.Asked,
   way-to-reads.Learnt,
+  above-child-reads.Asked,
+  above-child-reads.Learnt,
   grow-below t,
   grow.Post,
-  grow-inner-reads.Asked,
-  grow-inner-reads.Learnt,
+  grow-up-reads.Asked,
+  grow-up-reads.Learnt,
 ) (grow-at t) grow.Post
 grow-sub-grow t c = search needs
 
@@ -90,34 +115,54 @@ grow-grow-requires : (t : ℕ) → grow-lts.Need-grow-requires (
   grow-leaf-reads.Learnt,
   way-to-reads.Asked,
   way-to-reads.Learnt,
+  above-child-reads.Asked,
+  above-child-reads.Learnt,
   grow-below t,
   grow.Post,
-  grow-inner-reads.Asked,
-  grow-inner-reads.Learnt,
+  grow-up-reads.Asked,
+  grow-up-reads.Learnt,
 ) (grow-at t) grow.Post
-grow-grow-requires t c κs = (omega arith, search (needs, grow-child))
+grow-grow-requires t c κs = (omega arith, (search (needs, grow-child), omega arith))
 
-grow-enum-known-g : (t : ℕ) → grow-lts.Need-enum-known-g (
+grow-add-grow-up : (t : ℕ) → grow-lts.Need-add-grow-up (
   grow-leaf-reads.Asked,
   grow-leaf-reads.Learnt,
   way-to-reads.Asked,
   way-to-reads.Learnt,
+  above-child-reads.Asked,
+  above-child-reads.Learnt,
   grow-below t,
   grow.Post,
-  grow-inner-reads.Asked,
-  grow-inner-reads.Learnt,
+  grow-up-reads.Asked,
+  grow-up-reads.Learnt,
 ) (grow-at t) grow.Post
-grow-enum-known-g t c = search needs
+grow-add-grow-up t c = search needs
+
+grow-grow-up-requires : (t : ℕ) → grow-lts.Need-grow-up-requires (
+  grow-leaf-reads.Asked,
+  grow-leaf-reads.Learnt,
+  way-to-reads.Asked,
+  way-to-reads.Learnt,
+  above-child-reads.Asked,
+  above-child-reads.Learnt,
+  grow-below t,
+  grow.Post,
+  grow-up-reads.Asked,
+  grow-up-reads.Learnt,
+) (grow-at t) grow.Post
+grow-grow-up-requires t c κs = search (needs, grow-rises)
 
 grow-same-length-2 : (t : ℕ) → grow-lts.Need-same-length-2 (
   grow-leaf-reads.Asked,
   grow-leaf-reads.Learnt,
   way-to-reads.Asked,
   way-to-reads.Learnt,
+  above-child-reads.Asked,
+  above-child-reads.Learnt,
   grow-below t,
   grow.Post,
-  grow-inner-reads.Asked,
-  grow-inner-reads.Learnt,
+  grow-up-reads.Asked,
+  grow-up-reads.Learnt,
 ) (grow-at t) grow.Post
 grow-same-length-2 t c = search needs
 
@@ -126,72 +171,14 @@ grow-returns-2 : (t : ℕ) → grow-lts.Need-returns-2 (
   grow-leaf-reads.Learnt,
   way-to-reads.Asked,
   way-to-reads.Learnt,
+  above-child-reads.Asked,
+  above-child-reads.Learnt,
   grow-below t,
   grow.Post,
-  grow-inner-reads.Asked,
-  grow-inner-reads.Learnt,
+  grow-up-reads.Asked,
+  grow-up-reads.Learnt,
 ) (grow-at t) grow.Post
-grow-returns-2 t c = search (needs, grow-same)
-
-grow-enum-known-g-2 : (t : ℕ) → grow-lts.Need-enum-known-g-2 (
-  grow-leaf-reads.Asked,
-  grow-leaf-reads.Learnt,
-  way-to-reads.Asked,
-  way-to-reads.Learnt,
-  grow-below t,
-  grow.Post,
-  grow-inner-reads.Asked,
-  grow-inner-reads.Learnt,
-) (grow-at t) grow.Post
-grow-enum-known-g-2 t c = search needs
-
-grow-add-grow-inner : (t : ℕ) → grow-lts.Need-add-grow-inner (
-  grow-leaf-reads.Asked,
-  grow-leaf-reads.Learnt,
-  way-to-reads.Asked,
-  way-to-reads.Learnt,
-  grow-below t,
-  grow.Post,
-  grow-inner-reads.Asked,
-  grow-inner-reads.Learnt,
-) (grow-at t) grow.Post
-grow-add-grow-inner t c = search needs
-
-grow-grow-inner-requires : (t : ℕ) → grow-lts.Need-grow-inner-requires (
-  grow-leaf-reads.Asked,
-  grow-leaf-reads.Learnt,
-  way-to-reads.Asked,
-  way-to-reads.Learnt,
-  grow-below t,
-  grow.Post,
-  grow-inner-reads.Asked,
-  grow-inner-reads.Learnt,
-) (grow-at t) grow.Post
-grow-grow-inner-requires t c κs = search (needs, grow-room)
-
-grow-same-length-3 : (t : ℕ) → grow-lts.Need-same-length-3 (
-  grow-leaf-reads.Asked,
-  grow-leaf-reads.Learnt,
-  way-to-reads.Asked,
-  way-to-reads.Learnt,
-  grow-below t,
-  grow.Post,
-  grow-inner-reads.Asked,
-  grow-inner-reads.Learnt,
-) (grow-at t) grow.Post
-grow-same-length-3 t c = search needs
-
-grow-returns-3 : (t : ℕ) → grow-lts.Need-returns-3 (
-  grow-leaf-reads.Asked,
-  grow-leaf-reads.Learnt,
-  way-to-reads.Asked,
-  way-to-reads.Learnt,
-  grow-below t,
-  grow.Post,
-  grow-inner-reads.Asked,
-  grow-inner-reads.Learnt,
-) (grow-at t) grow.Post
-grow-returns-3 t c = search (needs, grow-more)
+grow-returns-2 t c = search (needs, grow-risen)
 
 pub +grow-spec : {M : Type 1} → statement M
 +grow-spec = close μ-grow λ t. grow-lts.spec (
@@ -199,10 +186,12 @@ pub +grow-spec : {M : Type 1} → statement M
   grow-leaf-reads.Learnt,
   way-to-reads.Asked,
   way-to-reads.Learnt,
+  above-child-reads.Asked,
+  above-child-reads.Learnt,
   grow-below t,
   grow.Post,
-  grow-inner-reads.Asked,
-  grow-inner-reads.Learnt,
+  grow-up-reads.Asked,
+  grow-up-reads.Learnt,
 )
     (grow-at t)
     grow.Post
@@ -210,13 +199,10 @@ pub +grow-spec : {M : Type 1} → statement M
     (grow-same-length t)
     (grow-returns t)
     (grow-way-to-requires t)
+    (grow-above-child-requires t)
     (grow-sub-grow t)
     (grow-grow-requires t)
-    (grow-enum-known-g t)
+    (grow-add-grow-up t)
+    (grow-grow-up-requires t)
     (grow-same-length-2 t)
     (grow-returns-2 t)
-    (grow-enum-known-g-2 t)
-    (grow-add-grow-inner t)
-    (grow-grow-inner-requires t)
-    (grow-same-length-3 t)
-    (grow-returns-3 t)

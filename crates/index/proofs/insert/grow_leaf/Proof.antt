@@ -1,7 +1,7 @@
 -- `index::insert::grow_leaf` meets its contract: with room the entry is put in, without the leaf is divided.
 -- Assumes nothing.
 use borrow.Author.Needs.{needs}
-use Rattle.index.proofs.Grows.{grow-few, leaf-more, leaf-is-full, leaf-divided}
+use Rattle.index.proofs.Grows.{grow-few, leaf-more, leaf-over, leaf-divided}
 use Rattle.index.proofs.insert.grow_leaf.Statement.{statement}
 use Rattle.index.proofs.insert.grow_leaf.Tie as tie
 
@@ -59,14 +59,14 @@ same-length c = search needs
 returns : tie.Need-returns
 returns c = search (needs, leaf-more)
 
-split-leaf-requires : tie.Need-split-leaf-requires
-split-leaf-requires c κs = search (needs, leaf-is-full)
+divide-leaf-requires : tie.Need-divide-leaf-requires
+divide-leaf-requires c κs = search (needs, leaf-over)
 
 same-length-2 : tie.Need-same-length-2
 same-length-2 c = search needs
 
 returns-2 : tie.Need-returns-2
-returns-2 c = search (needs, leaf-divided, leaf-is-full)
+returns-2 c = search (needs, leaf-divided)
 
 pub grow-leaf-spec : {M : Type 1} → statement M
 grow-leaf-spec =
@@ -90,6 +90,6 @@ grow-leaf-spec =
     insert-entry-requires
     same-length
     returns
-    split-leaf-requires
+    divide-leaf-requires
     same-length-2
     returns-2)

@@ -1,4 +1,4 @@
--- `index::replacing::leaf_for` meets its contract: a leaf is itself the one, and in an inner page it is that of the child.
+-- `index::descent::leaf_for` meets its contract: a leaf is itself the one, and in an inner page it is that of the child.
 -- The level falls with each call. Assumes nothing.
 use borrow.Author.Needs.{needs}
 use native.Mathlib.Omega.{arith}
@@ -7,12 +7,12 @@ use Rattle.index.proofs.Belongs.{own-leaf, way-child, way-leaf}
 use Prim.Native.Nat.{ℕ, _<_}
 use borrow.Fn.Kinds.{In}
 use borrow.Fn.PlainCycle.{Measures, is, falls, and}
-use Rattle.index.proofs.replacing.leaf_for.Reads as leaf-for
-use Rattle.index.proofs.replacing.leaf_for.Kinds as leaf-for-kinds
-use Rattle.index.proofs.replacing.+leaf_for.Lts-leaf_for as leaf-for-lts
+use Rattle.index.proofs.descent.leaf_for.Reads as leaf-for
+use Rattle.index.proofs.descent.leaf_for.Kinds as leaf-for-kinds
+use Rattle.index.proofs.descent.+leaf_for.Lts-leaf_for as leaf-for-lts
 use Rattle.index.proofs.descent.way_to.Reads as way-to-reads
-use Rattle.index.proofs.replacing.+leaf_for.{statement}
-use Rattle.index.proofs.replacing.+leaf_for.Tie.{close}
+use Rattle.index.proofs.descent.+leaf_for.{statement}
+use Rattle.index.proofs.descent.+leaf_for.Tie.{close}
 
 abbrev μ-leaf-for : Measures 1 leaf-for-kinds.ps ℕ
 μ-leaf-for κs a = a .1 .0
