@@ -1,8 +1,9 @@
 // For the tests: the index through C linkage, on a page buffer of any bytes. Each door judges the buffer itself and does nothing where it is
 // not whole. An entry passes as key, owner, now and before; a record that is absent passes as a number above every record.
+mod fields;
+
 ghost use Rattle.index.specs.Pictures.{WholePages};
 ghost use Rattle.shelves.specs.Judging.{Held, Sees};
-use codecs::leaf;
 use entries::Entry;
 use entries::Key;
 use index::Found;
@@ -75,7 +76,7 @@ pub extern "C" fn shelf_find(pages: &[u8], lo: u64, hi: u64, asker: u16, out: &m
     let f = index::find(pages, w);
     match f {
         Found::Here(e) => {
-            leaf::put_fields(out, e);
+            fields::put_fields(out, e);
             return 1;
         }
         Found::Nothing => {
@@ -97,8 +98,8 @@ pub extern "C" fn shelf_add(pages: &mut [u8], key: u64, owner: u16, now: u64, be
     if has_key(pages, k) {
         return REFUSED;
     }
-    let is = codecs::records::value_of(now);
-    let was = codecs::records::value_of(before);
+    let is = fields::value_of(now);
+    let was = fields::value_of(before);
     let e = Entry {
         key: k,
         owner: owner,
@@ -119,7 +120,7 @@ pub extern "C" fn shelf_replace(
     if !is_whole(pages) {
         return false;
     }
-    index::replace(pages, leaf::entry_of(Key(key), owner, now, before));
+    index::replace(pages, fields::entry_of(Key(key), owner, now, before));
     true
 }
 

@@ -10,13 +10,14 @@ use desk::pictures::{FAR, all_locks_s, all_locks_x, settled};
 use model::desk::Picture;
 use model::key::Key;
 use model::picture::Tables;
-use timing::{Times, single_calls};
-use work::{Session, in_any_slots, read_on, reader, with_lock_on};
+use timing::{Times, commits, single_calls};
+use work::{Commit, Session, in_any_slots, read_on, reader, with_lock_on};
 
 fn main() {
     println!("{}", machine::description());
     judging();
-    one_call();
+    one_read();
+    one_commit();
     many_calls();
 }
 
@@ -59,7 +60,7 @@ fn judging() {
     );
 }
 
-fn one_call() {
+fn one_read() {
     head("One call: a read", "µs");
     let pictures = [
         ("empty", reader(0, 0)),
@@ -75,6 +76,13 @@ fn one_call() {
     for (name, library, plain) in shares {
         println!("| {name} | {:.0} % | {:.0} % |", 100.0 * library, 100.0 * plain);
     }
+}
+
+fn one_commit() {
+    head("One call: a commit, 778 entries", "µs");
+    row("one entry owned", &commits(&Commit::of(1, 0)));
+    row("256 entries owned", &commits(&Commit::of(256, 0)));
+    row("one entry owned, 15 waiting to read it", &commits(&Commit::of(1, 15)));
 }
 
 fn many_calls() {

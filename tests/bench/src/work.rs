@@ -1,13 +1,14 @@
-//! What the desks are given to do: pictures to judge and read from, and sessions.
+//! What the desks are given to do: pictures to judge and read from, commits, and sessions.
 
 use crate::timing::{PLAIN, SESSION_ROUNDS, Times, median};
+use desk::pictures::all_running;
 use desk::under_test::{LIBRARY, UnderTest};
 use model::desk::{Picture, fresh};
 use model::generators::random::Random;
 use model::generators::requests::{Bias, Requests};
 use model::key::Key;
 use model::layout::answer::Answer;
-use model::layout::desk::{LOCK_COUNT, Lock, Mode, Slot, Transaction};
+use model::layout::desk::{LOCK_COUNT, Lock, Mode, Slot};
 use model::layout::request::{KeyRequest, Request, RequestKind};
 use model::picture::Tables;
 use std::collections::BTreeMap;
@@ -30,16 +31,13 @@ pub fn with_lock_on(name: Key, mut tables: Tables) -> Tables {
 /// A picture with so many entries and S locks of sixteen holders. Transaction 1 holds S on the key
 /// in the middle, or on the end of an empty index.
 pub fn reader(keys: u64, locks: usize) -> Picture {
-    let mut tables = desk::pictures::settled(keys);
+    let mut tables = all_running(keys);
     let own = Lock { name: middle(keys), holder: 1, mode: Mode::S };
     tables.desk.slots[0] = Slot::Taken(own);
     for slot in 1..locks {
         let name = Key(1 + (slot as u64 / 16) * 16);
         let holder = (slot % 16) as u16 + 1;
         tables.desk.slots[slot] = Slot::Taken(Lock { name, holder, mode: Mode::S });
-    }
-    for transaction in 1..=16 {
-        tables.desk.set_transaction(transaction, Transaction::Running);
     }
     in_any_slots(tables)
 }
@@ -57,6 +55,46 @@ pub fn read_on(picture: &Picture) -> Vec<u8> {
     let key = middle(tables.index.entries().count() as u64).min(Key::HIGHEST);
     let read = KeyRequest::Read { lo: key, hi: key };
     Request { transaction: 1, kind: RequestKind::Keys(read) }.encode()
+}
+
+/// A commit of transaction 1: the picture that it is asked on, and what the model answers and leaves.
+pub struct Commit {
+    pub before: Picture,
+    pub request: Vec<u8>,
+    pub answers: Vec<u8>,
+    pub after: Picture,
+}
+
+/// As many entries as fill the pages, where each of their keys is above the one before.
+const ENTRIES: u64 = 778;
+
+impl Commit {
+    /// Transaction 1 has deleted so many of 778 entries, spread evenly, and so many others wait to
+    /// read the first of these: each is answered once it is gone.
+    pub fn of(owned: u64, waiting: u16) -> Commit {
+        let mut tables = all_running(ENTRIES);
+        let mut ask = |transaction, request| {
+            tables.answer(Request { transaction, kind: RequestKind::Keys(request) });
+        };
+        let apart = ENTRIES / owned;
+        let first = Key(1 + apart / 2);
+        for place in 0..owned {
+            ask(1, KeyRequest::Delete { key: first.up(place * apart) });
+        }
+        for transaction in 2..=waiting + 1 {
+            ask(transaction, KeyRequest::Read { lo: first, hi: first });
+        }
+        let commit = Commit::on(in_any_slots(tables));
+        assert_eq!(commit.answers.len(), 20 * (1 + usize::from(waiting)), "all are answered");
+        commit
+    }
+
+    fn on(before: Picture) -> Commit {
+        let mut tables = before.decode().expect("a whole picture follows the layouts");
+        let request = Request { transaction: 1, kind: RequestKind::Commit };
+        let answers = tables.answer(request).iter().flat_map(Answer::encode).collect();
+        Commit { before, request: request.encode(), answers, after: tables.encode() }
+    }
 }
 
 /// Requests of a mixed session with sixteen transactions, and where it starts and ends.

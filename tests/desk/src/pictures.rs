@@ -58,8 +58,7 @@ pub fn settled_apart(keys: u64, apart: u64) -> Tables {
 /// All slots in use by S locks: sixteen transactions have each read the same sixteen keys of an
 /// index with so many, this far apart.
 pub fn all_locks_s(keys: u64, apart: u64) -> Tables {
-    let mut tables = settled_apart(keys, apart);
-    run_all(&mut tables);
+    let mut tables = running(settled_apart(keys, apart));
     for slot in 0..LOCK_COUNT {
         let name = Key((1 + (slot / 16) as u64 * (keys / 16)) * apart);
         let holder = (slot % 16) as u16 + 1;
@@ -71,8 +70,7 @@ pub fn all_locks_s(keys: u64, apart: u64) -> Tables {
 /// All slots in use by X locks on as many entries, of an index with so many, that sixteen
 /// transactions have deleted.
 pub fn all_locks_x(keys: u64) -> Tables {
-    let mut tables = settled(keys);
-    run_all(&mut tables);
+    let mut tables = all_running(keys);
     for place in 0..LOCK_COUNT as u64 {
         let key = Key(1 + place * (keys / LOCK_COUNT as u64));
         let transaction = (place % 16) as u16 + 1;
@@ -82,8 +80,14 @@ pub fn all_locks_x(keys: u64) -> Tables {
     tables
 }
 
-fn run_all(tables: &mut Tables) {
+/// So many ascending keys, each settled, and sixteen transactions that run.
+pub fn all_running(keys: u64) -> Tables {
+    running(settled(keys))
+}
+
+fn running(mut tables: Tables) -> Tables {
     for transaction in 1..=TRANSACTION_COUNT {
         tables.desk.set_transaction(transaction, Transaction::Running);
     }
+    tables
 }

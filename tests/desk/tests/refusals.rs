@@ -1,12 +1,13 @@
 //! Numbers 10, 11 and 12: every cause, which comes first, and nothing changed (document 01, What
 //! the desk says; Records and pages). Each call is also held to the model's.
 
-use desk::beside::{Lent, any_bytes, call};
-use desk::pictures::not_at_rest;
+use desk::beside::{Beside, Lent, any_bytes, call};
+use desk::pictures::{all_running, not_at_rest};
 use desk::under_test::LIBRARY;
-use keydesk::{ANSWERS, DESK, PAGES};
+use keydesk::{ANSWERS, DESK, PAGES, Returned};
 use model::desk::{Picture, fresh};
 use model::generators::random::Random;
+use model::layout::request::Request;
 
 const BEGIN: [u8; 8] = [8, 0, 1, 0, 1, 0, 0, 0];
 const COMMIT: [u8; 8] = [8, 0, 2, 0, 1, 0, 0, 0];
@@ -119,6 +120,57 @@ fn twelve_for_every_cause() {
             assert_refused(12, &lent, &request, &format!("{cause}: {request:?}"));
         }
     }
+}
+
+/// Asks each record on a picture in which all run, so that a good one acts on its own fields: those
+/// that the model reads are answered as it answers them, and 12 refuses the others. Gives how many
+/// of each there were. The picture is whole, and the model need not judge it each time.
+fn served_and_refused(records: impl Iterator<Item = Vec<u8>>) -> (usize, usize) {
+    let picture = all_running(10).encode();
+    let lent = Lent::with_space(&mut Random::new(5), picture.clone());
+    let (mut served, mut refused) = (0, 0);
+    for record in records {
+        if let Some(request) = Request::decode(&record) {
+            Beside::from(LIBRARY, 5, picture.clone()).ask(request);
+            served += 1;
+            continue;
+        }
+        let mut after = lent.clone();
+        let Picture { pages, desk } = &mut after.picture;
+        let returned = (LIBRARY.serve)(pages, desk, &mut after.answers, &record);
+        assert_eq!(returned, Returned { number: 12, bytes: 0 }, "{record:?}");
+        after.assert_is(&lent, "a refusal");
+        refused += 1;
+    }
+    (served, refused)
+}
+
+/// Each byte of a record of each kind, with every value that it can have.
+#[test]
+fn every_byte_of_every_kind_with_every_value() {
+    let of_byte = |good, at| (0..=u8::MAX).map(move |value| with(good, at, &[value]));
+    let of_kind = |good: &'static [u8]| (0..good.len()).flat_map(move |at| of_byte(good, at));
+    let (served, refused) = served_and_refused(GOOD.into_iter().flat_map(of_kind));
+    assert_eq!(served + refused, (8 + 8 + 8 + 24 + 24 + 16) * 256);
+    assert!(served > 7_000 && refused > 14_000, "{served} served, {refused} refused");
+}
+
+/// Heads of records in front of anything, of any length.
+#[test]
+fn made_up_records() {
+    let mut random = Random::new(6);
+    let made_up = |_| {
+        let any_length = random.between(0, 40);
+        let length = random.pick(&[8, 16, 24, any_length]).expect("there are lengths");
+        let told = if random.chance(80) { length } else { any_length };
+        let head = [told as u8, 0, random.below(8) as u8, 0, random.below(18) as u8, 0, 0, 0];
+        let mut record = any_bytes(&mut random, length);
+        let told_bytes = length.min(head.len());
+        record[..told_bytes].copy_from_slice(&head[..told_bytes]);
+        record
+    };
+    let (served, refused) = served_and_refused((0..20_000).map(made_up));
+    assert!(served > 1_000 && refused > 10_000, "{served} served, {refused} refused");
 }
 
 /// Every wrong length of each slice, with the others right and wrong, on a whole and on a broken

@@ -44,7 +44,15 @@ impl Beside {
         let mut probes = Random::new(seed);
         let mut bytes: Vec<u8> = (0..PAGES_LENGTH).map(|_| probes.bits() as u8).collect();
         assert_eq!(doors::fresh(&mut bytes), Ok(()));
-        let index = Tables::fresh().index;
+        Beside::at(bytes, Tables::fresh().index, probes)
+    }
+
+    /// From an index of the model's; the seed is for the searches.
+    pub fn from(seed: u64, index: Index) -> Beside {
+        Beside::at(index.encode(), index, Random::new(seed))
+    }
+
+    fn at(bytes: Vec<u8>, index: Index, probes: Random) -> Beside {
         let mut beside = Beside { bytes, index, reached: Reached::default(), probes };
         beside.compare();
         beside

@@ -31,6 +31,20 @@ pub fn any_record(random: &mut Random) -> u32 {
     }
 }
 
+/// An entry with this key: settled, or as one of the owners' inserts and deletes leave it.
+pub fn any_entry(random: &mut Random, key: Key) -> Entry {
+    let (record, owner) = (any_record(random), any_owner(random));
+    let settled = Entry::settled(key, record);
+    let inserted = Entry::inserted(key, record, owner);
+    match random.below(5) {
+        0 => settled,
+        1 => settled.deleted(owner),
+        2 => settled.deleted(owner).inserted_again(any_record(random)),
+        3 => inserted,
+        _ => inserted.deleted(owner),
+    }
+}
+
 /// One of `count` keys that are spread over all keys; sometimes a mark.
 pub fn any_key(random: &mut Random, count: u64) -> Key {
     match random.below(100) {

@@ -1,5 +1,0 @@
-//! Links the crate `codecs`.
-
-fn main() {
-    linking::link("codecs");
-}
