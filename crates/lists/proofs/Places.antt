@@ -118,6 +118,13 @@ module _ {A : Type 0} where
       go false e = ap (λ zs. x ∷ zs) e
 
   -- ---- one taken out
+  pub removeAt-is : (i : ℕ) (xs : List A) → removeAt i xs ≡ take i xs ++ drop (i + 1) xs
+  unfolding removeAt
+  removeAt-is zero [] = refl
+  removeAt-is (suc i) [] = rw add-one
+  removeAt-is zero (x ∷ xs) = refl
+  removeAt-is (suc i) (x ∷ xs) = rw suc-add (ap (λ r. x ∷ r) (removeAt-is i xs))
+
   pub length-removeAt : (i : ℕ) (xs : List A) → i < length xs → length (removeAt i xs) ≡ length xs - 1
   unfolding removeAt
   length-removeAt i [] h = refl

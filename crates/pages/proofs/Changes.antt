@@ -1,4 +1,4 @@
--- What each change of a page comes to, in the very facts that the code has there: an entry or a child put in, a page divided.
+-- What each change of a page comes to, in the very facts that the code has there: an entry or a child put in, taken out, divided.
 -- Each is a law of rows at the width of an entry or a child. Assumes nothing.
 use mathlib.Core.Path.{_≡_, refl, ap, _∙_}
 use mathlib.Core.List.{List}
@@ -7,19 +7,19 @@ use native.Mathlib.Omega.{arith}
 use lib.Dec.{lit≤}
 use lib.ListN.{length, drop}
 use Rattle.lists.specs.Lists.{insertAt}
-use Rattle.numbers.specs.Numbers.{numberAt, putNumber, widthOf, moved}
+use Rattle.numbers.specs.Numbers.{numberAt, putNumber, widthOf, moved, zeroed}
 use Rattle.rules.specs.Kinds.{Entry}
 use Rattle.pages.specs.declared.Child.{Child}
 use Rattle.pages.specs.Layout.{countOf, entryWidths, entryFields, putEntry, childWidths, childFields, putChild}
-use Rattle.pages.specs.Rows.{rowsOf, entryRow, childRow, entryPut, childPut, Divided, asTheyAre, fromZero, firstLow}
+use Rattle.pages.specs.Rows.{rowsOf, entryRow, childRow, entryPut, entryTaken, childPut, Divided, asTheyAre, fromZero, firstLow}
 use Rattle.pages.specs.Steps.{Parted}
 use Rattle.pages.proofs.WithRows.{Fit}
-use Rattle.pages.proofs.Moves.{row-in, first-from-zero}
+use Rattle.pages.proofs.Moves.{row-in, row-out, first-from-zero}
 use Rattle.pages.proofs.Divisions.{length-go, fit-go, divided-low, divided-high, first-low}
 use Rattle.pages.proofs.Entries.{one-entry}
 use Rattle.pages.proofs.Children.{one-child}
 
--- ---- one put in
+-- ---- one put in, one taken out
 pub entry-in : (p p₁ p₂ p₃ : List ℕ) (i n : ℕ) (e : Entry ℕ ℕ) → n ≡ countOf p → p₁ ≡ moved (20 * (n - i)) (16 + 20 * i) (16 + 20 * i + 20) p
     → p₂ ≡ putEntry p₁ i e → p₃ ≡ putNumber 2 p₂ 4 (n + 1) → length p ≡ 512 → countOf p ≤ 23 → i ≤ countOf p → p₃ ≡ entryPut p i e
 unfolding entryPut putEntry entryRow widthOf
@@ -29,6 +29,11 @@ pub child-in : (p p₁ p₂ p₃ : List ℕ) (i n : ℕ) (x : Child) → n ≡ c
     → p₂ ≡ putChild p₁ i x → p₃ ≡ putNumber 2 p₂ 4 (n + 1) → length p ≡ 512 → countOf p ≤ 29 → i ≤ countOf p → p₃ ≡ childPut p i x
 unfolding childPut putChild childRow widthOf
 child-in p p₁ p₂ p₃ i n x a b c d l h k = rw (d, c, b, a) (row-in 16 p childWidths (childFields x) i refl k (omega arith))
+
+pub entry-out : (p p₁ p₂ : List ℕ) (i n : ℕ) → n ≡ countOf p → p₁ ≡ moved (20 * (n - 1 - i)) (16 + 20 * i + 20) (16 + 20 * i) p
+    → p₂ ≡ putNumber 2 (zeroed 20 (16 + 20 * (n - 1)) p₁) 4 (n - 1) → length p ≡ 512 → countOf p ≤ 24 → i < countOf p → p₂ ≡ entryTaken p i
+unfolding entryTaken
+entry-out p p₁ p₂ i n a b c l h k = rw (c, b, a) (row-out 20 p i k (omega arith))
 
 -- ---- a leaf: 24 entries and one, of which 13 stay
 module _ (l r l₁ r₁ : List ℕ) (i : ℕ) (e : Entry ℕ ℕ) where

@@ -1,17 +1,17 @@
--- What the code does to a page's bytes: rows moved up by one, cut off, copied to another page, a row written over. Each is a page
+-- What the code does to a page's bytes: rows moved up or down by one, cut off, copied to another page, a row written over. Each is a page
 -- with other rows. All that is written comes to one part put at byte 16. Assumes nothing.
 use mathlib.Core.Path.{_≡_, sym, ap, ap₂, _∙_}
-use mathlib.Core.List.{List, [], _∷_, _++_, append-nil}
+use mathlib.Core.List.{List, [], _∷_, _++_, append-assoc, append-nil}
 use Prim.Native.Nat.{ℕ, suc, _+_, _-_, _*_, _/_, _%_, _≤_, _<_}
-use native.Mathlib.Nat.{mul-le-mul-left, mul-sub, mul-zero, zero-add, div-one}
+use native.Mathlib.Nat.{mul-le-mul-left, mul-sub, mul-zero, mul-one, zero-add, div-one}
 use native.Mathlib.Numerals.{add-one}
 use native.Mathlib.Omega.{arith}
 use native.Mathlib.Decide.{decLt}
 use lib.Dec.{lit<}
 use lib.ListN.{length, getD, set, length-set, take, drop, replicate, length-replicate, length-drop, List·getD-append}
 use lib.Seq.{ext-getD, set-split, length-take-le, getD-append-add}
-use Rattle.lists.specs.Lists.{join, insertAt}
-use Rattle.lists.proofs.Places.{insertAt-is, length-insertAt}
+use Rattle.lists.specs.Lists.{join, insertAt, removeAt}
+use Rattle.lists.proofs.Places.{insertAt-is, removeAt-is, length-insertAt, length-removeAt}
 use Rattle.lists.proofs.Joins.{join-append}
 use Rattle.numbers.specs.Numbers.{putNumber, widthOf, putFields, part, putPart, copied, moved, zeroed}
 use Rattle.numbers.proofs.Numbers.{length-putNumber, getD-putNumber-in, getD-putNumber-out}
@@ -49,6 +49,31 @@ inserted-bytes z p i r h =
     ∙ join-append (λ r. r) (take i (rowsOf z p)) (r ∷ drop i (rowsOf z p))
     ∙ ap₂ (λ x y. x ++ (r ++ y)) (bytes-take z p i h) (bytes-drop z p i)
 
+removed-bytes : (z : ℕ) (p : List ℕ) (i : ℕ) → i ≤ countOf p
+    → bytesOf (removeAt i (rowsOf z p)) ≡ part 16 (z * i) p ++ part (16 + z * (i + 1)) (z * (countOf p - (i + 1))) p
+removed-bytes z p i h =
+    ap bytesOf (removeAt-is i (rowsOf z p))
+    ∙ join-append (λ r. r) (take i (rowsOf z p)) (drop (i + 1) (rowsOf z p))
+    ∙ ap₂ (λ x y. x ++ y) (bytes-take z p i h) (bytes-drop z p (i + 1))
+
+-- with the zeros behind them, where there was a row more
+removed-strip : (z : ℕ) (p : List ℕ) (i : ℕ) → i < countOf p
+    → bytesOf (removeAt i (rowsOf z p)) ++ replicate (z * (countOf p - (countOf p - 1))) 0
+    ≡ part 16 (z * i) p ++ (part (16 + z * i + z) (z * (countOf p - 1 - i)) p ++ replicate z 0)
+removed-strip z p i h =
+    ap₂ (λ b k. b ++ replicate (z * k) 0) (removed-bytes z p i (omega arith) ∙ ap₂ (λ x k. part 16 (z * i) p ++ part x (z * k) p) a b) c
+    ∙ ap (λ k. part 16 (z * i) p ++ part (16 + z * i + z) (z * (countOf p - 1 - i)) p ++ replicate k 0) (mul-one z)
+    ∙ append-assoc (part 16 (z * i) p) (part (16 + z * i + z) (z * (countOf p - 1 - i)) p) (replicate z 0)
+  where
+    a : 16 + z * (i + 1) ≡ 16 + z * i + z
+    a = omega arith
+
+    b : countOf p - (i + 1) ≡ countOf p - 1 - i
+    b = omega arith
+
+    c : countOf p - (countOf p - 1) ≡ 1
+    c = omega arith
+
 -- ---- a row put in: the rows from i on moved up, and its fields written
 pub row-in : (z : ℕ) (p : List ℕ) (ws vs : List ℕ) (i : ℕ) → widthOf ws ≡ z → i ≤ countOf p → 16 + z * (countOf p + 1) ≤ length p
     → putNumber 2 (putFields ws (moved (z * (countOf p - i)) (16 + z * i) (16 + z * i + z) p) (16 + z * i) vs) 4 (countOf p + 1)
@@ -84,6 +109,39 @@ row-in z p ws vs i w h l =
 
     bytes : bytesOf (insertAt i r (rowsOf z p)) ++ replicate (z * (n - (n + 1))) 0 ≡ part 16 (z * i) p ++ (r ++ part at rest p)
     bytes = nothing-freed z n (n + 1) (bytesOf (insertAt i r (rowsOf z p))) (omega arith) ∙ inserted-bytes z p i r h
+
+-- ---- a row taken out: the rows behind i moved down, and the last one's bytes freed
+pub row-out : (z : ℕ) (p : List ℕ) (i : ℕ) → i < countOf p → 16 + z * countOf p ≤ length p
+    → putNumber 2 (zeroed z (16 + z * (countOf p - 1)) (moved (z * (countOf p - 1 - i)) (16 + z * i + z) (16 + z * i) p)) 4 (countOf p - 1)
+    ≡ withRows z p (removeAt i (rowsOf z p))
+unfolding copied zeroed
+row-out z p i h l =
+    ap (λ u. putNumber 2 u 4 (n - 1))
+    (ap (λ x. putPart x (replicate z 0) (moved rest (at + z) at p)) b
+    ∙ putPart-behind at rest (part (at + z) rest p) (replicate z 0) p (length-part (at + z) rest p a) (omega (arith, a))
+    ∙ from-16 (z * i) (part (at + z) rest p ++ replicate z 0) p (omega (arith, a)))
+    ∙ with-is z p (removeAt i (rowsOf z p)) (n - 1) (part 16 (z * i) p ++ (part (at + z) rest p ++ replicate z 0)) len (removed-strip z p i h)
+  where
+    n : ℕ
+    n = countOf p
+
+    at : ℕ
+    at = 16 + z * i
+
+    rest : ℕ
+    rest = z * (n - 1 - i)
+
+    room : z * i + z + rest ≡ z * n
+    room = let e : i + 1 + (n - 1 - i) ≡ n = omega arith in omega (arith, ap (λ x. z * x) e)
+
+    a : at + z + rest ≤ length p
+    a = omega (arith, room)
+
+    b : 16 + z * (n - 1) ≡ at + rest
+    b = let e : i + (n - 1 - i) ≡ n - 1 = omega arith in omega (arith, ap (λ x. z * x) e)
+
+    len : length (removeAt i (rowsOf z p)) ≡ n - 1
+    len = length-removeAt i (rowsOf z p) (rw (length-rowsOf z p) h) ∙ ap (λ m. m - 1) (length-rowsOf z p)
 
 -- ---- a row written over; the count's bytes are those of a number
 count-same : (u : List ℕ) (n : ℕ) → 6 ≤ length u → getD u 4 0 ≡ n % 256 → getD u 5 0 ≡ n / 256 % 256 → putNumber 2 u 4 n ≡ u

@@ -1,4 +1,4 @@
--- A page as its rows, each the z bytes of an entry or a child: what is put in, settled or divided is said of the list of rows, and
+-- A page as its rows, each the z bytes of an entry or a child: what is put in, taken out, settled or divided is said of the list of rows, and
 -- every byte of the page follows. Assumes nothing.
 use Prim.Native.Nat.{ℕ, _+_, _*_, _-_}
 use mathlib.Core.Path.{_≡_}
@@ -6,7 +6,7 @@ use mathlib.Core.Bool.{Bool, cond}
 use mathlib.Core.List.{List, [], _∷_, _++_, map}
 use lib.Dec.{eqb}
 use lib.ListN.{length, replicate, take, drop}
-use Rattle.lists.specs.Lists.{tab, join, insertAt}
+use Rattle.lists.specs.Lists.{tab, join, insertAt, removeAt}
 use Rattle.numbers.specs.Numbers.{numberAt, putNumber, part, putPart, fieldsAt, putFields}
 use Rattle.rules.specs.Kinds.{Entry}
 use Rattle.rules.specs.Entries.{left, committed, rolledBack}
@@ -31,9 +31,12 @@ entryRow e = putFields entryWidths (replicate 20 0) 0 (entryFields e)
 unfoldable pub childRow : Child → List ℕ
 childRow c = putFields childWidths (replicate 16 0) 0 (childFields c)
 
--- an entry put in; a child put in
+-- an entry put in and taken out; a child put in
 unfoldable pub entryPut : List ℕ → ℕ → Entry ℕ ℕ → List ℕ
 entryPut p i e = withRows 20 p (insertAt i (entryRow e) (rowsOf 20 p))
+
+unfoldable pub entryTaken : List ℕ → ℕ → List ℕ
+entryTaken p i = withRows 20 p (removeAt i (rowsOf 20 p))
 
 unfoldable pub childPut : List ℕ → ℕ → Child → List ℕ
 childPut p i c = withRows 16 p (insertAt i (childRow c) (rowsOf 16 p))

@@ -7,7 +7,7 @@ ghost use Rattle.numbers.specs.Numbers.{moved};
 ghost use Rattle.entries.specs.Meaning.{bookEntry, bookValue};
 ghost use Rattle.entries.specs.Records.{orZero};
 ghost use Rattle.pages.specs.Layout.{countOf, ifBit, bit, EntryFits, entryAt, putEntry};
-ghost use Rattle.pages.specs.Rows.{rowsOf, entryRow, entryPut, endOf, leafSettled, Divided, asTheyAre};
+ghost use Rattle.pages.specs.Rows.{rowsOf, entryRow, entryPut, entryTaken, endOf, leafSettled, Divided, asTheyAre};
 ghost use Rattle.pages.specs.Steps.{RowSettled, PackedAs};
 ghost use Rattle.pages.specs.Places.{EntryPlace};
 use super::head;
@@ -97,6 +97,19 @@ pub fn insert_entry(p: &mut [u8], i: usize, e: Entry)
     numbers::move_up(p, at, at + 20, 20 * (n - i));
     put_entry(p, i, e);
     head::put_count(p, n + 1);
+}
+
+// Takes the entry at a place out. Those behind it move down by one, and the last one's bytes are zero.
+pub fn take_entry(p: &mut [u8], i: usize)
+    requires { ⌜ length (now p) ≡ 512 ⌝ }
+    requires { ⌜ countOf (now p) ≤ 24 ⌝ }
+    requires { ⌜ i < countOf (now p) ⌝ }
+    ensures { λ _. ⌜ now (p .exit) ≡ entryTaken (now (p .entry)) i ⌝ }
+{
+    let last = head::count_of(p) - 1;
+    let at = 16 + 20 * i;
+    numbers::move_down(p, at + 20, at, 20 * (last - i));
+    super::cut_rows(p, 20 * last, 20, last);
 }
 
 // Puts an entry in at a place of a full leaf. The lowest 13 stay, the others go to a leaf that has none yet.
