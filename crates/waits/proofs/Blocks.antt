@@ -4,17 +4,16 @@ use Prim.Native.Nat.{ℕ, _-_, _≤_, _<_, compare}
 use mathlib.Core.Path.{_≡_, refl, sym, ap, ap₂, _∙_}
 use mathlib.Core.Bool.{Bool, true, false, cond, not, _&&_}
 use mathlib.Core.List.{List, [], _++_}
-use mathlib.Core.Option.{Option}
 use native.Mathlib.Nat.{sub-zero}
 use borrow.Author.Tests.{lt-ltb, le-ltb}
 use lib.Dec.{eqb, ltb}
 use Rattle.lists.specs.Lists.{any, isNil, tab}
 use Rattle.lists.proofs.Tests.{nil-append, nil-kept}
-use Rattle.rules.specs.Kinds.{Name, Lock, Paging}
+use Rattle.rules.specs.Kinds.{Name, Paging}
 use Rattle.rules.specs.Locks as K
 use Rattle.trees.specs.Trees.{documentSizes}
 use Rattle.trees.specs.Shapes.{treePaging}
-use Rattle.tables.specs.Layout.{locksMost, inPlace, queuedAt, slotAt, slotsOf, nameIn, bookMode}
+use Rattle.tables.specs.Layout.{locksMost, queuedAt, slotsOf, bookMode}
 use Rattle.tables.specs.Moves.{isSlotAgainst, heldIn}
 use Rattle.tables.proofs.Values.{same-name}
 use Rattle.tables.proofs.Holders.{holders-none}
@@ -30,10 +29,6 @@ use Rattle.waits.proofs.Scanning.{seen-own}
 
 abbrev pub paging : Paging ℕ
 paging = treePaging compare 0 documentSizes
-
-pub slots-start : (p : Option (Lock ℕ) → Bool) (d : List ℕ) → any p (slotsOf d) ≡ any p (tab (locksMost - 0) 0 (slotAt d))
-unfolding slotsOf
-slots-start p d = refl
 
 -- ---- one want, and one request, against another
 pub clash-at : (v w : Want) (b c : Bool) → b ≡ eqb (v .name .0) (w .name .0) → c ≡ K.conflict (bookMode (v .mode)) (bookMode (w .mode))

@@ -17,7 +17,6 @@ use Rattle.waits.specs.declared.Looked.{Looked}
 use Rattle.waits.specs.declared.Next.{Next}
 use Rattle.waits.specs.declared.Turn.{Turn}
 use Rattle.waits.specs.declared.Turn.the-variants.{Runs, Nobody}
-use Rattle.waits.specs.Choices.{bookWant}
 use Rattle.waits.specs.Blocks.{wantedAt, WantAt}
 use Rattle.waits.specs.Notes.{notedAt, Noted, LookedAt, NotedIn}
 
@@ -25,11 +24,17 @@ module _ (p d ns ms : List ℕ) where
   pub noted-none : length ns ≡ transactionsMost → length ms ≡ transactionsMost → Noted p d ns ms 0
   noted-none h l = record { names = h; modes = l; wants = λ i z. absurd (omega arith) }
 
+  -- ---- fewer of them
+  fewer : (q : ℕ) → Noted p d ns ms q → (i : ℕ) → i ≤ q → Noted p d ns ms i
+  fewer q k i h = record { names = k .names; modes = k .modes; wants = λ j l. k .wants j (omega arith) }
+
   pub noted-to : (q : ℕ) → Noted p d ns ms (q + 1) → (i : ℕ) → i < q → Noted p d ns ms (i + 1)
-  noted-to q k i h = record { names = k .names; modes = k .modes; wants = λ j l. k .wants j (omega arith) }
+  noted-to q k i h = fewer (q + 1) k (i + 1) (omega arith)
 
   pub noted-queued : (n : ℕ) → Noted p d ns ms (queued d) → n ≡ queued d → (q : ℕ) → q < n → Noted p d ns ms (q + 1)
-  noted-queued n k e q h = record { names = k .names; modes = k .modes; wants = λ j l. k .wants j (omega arith) }
+  noted-queued n k e q h = fewer (queued d) k (q + 1) (omega arith)
+
+  -- ---- one more
 
   module _ (q : ℕ) (k : Noted p d ns ms q) where
     pub noted-more : (w : Want) (m : ℕ) → q < transactionsMost → WantAt p d q w → m ≡ modeNumber (bookMode (w .mode))
