@@ -12,7 +12,7 @@ use Rattle.lists.specs.Lists.{In}
 use Rattle.lists.proofs.Joins.{map-same}
 use Rattle.rules.specs.Kinds.{Mode, Name, on, Ask}
 use Rattle.rules.specs.Entries.{same, changed}
-use Rattle.rules.specs.Locks.{target, itself}
+use Rattle.rules.specs.Locks.{target, named, itself}
 use Rattle.rules.specs.Runs.{Sy, locksShort}
 use Rattle.rules.specs.Good.{ascending}
 use Rattle.rules.proofs.Orders.{numbers-ordered}
@@ -25,7 +25,8 @@ use Rattle.entries.specs.declared.Says as D
 use Rattle.entries.specs.declared.Says.the-variants as DV
 use Rattle.entries.specs.Meaning.{bookEntry, bookSays}
 use Rattle.tables.specs.Layout.{transactionsMost, queued, inPlace, nameIn}
-use Rattle.tables.specs.Moves.{lockTaken, queueLeft}
+use Rattle.tables.specs.Moves.{heldIn, freeIn, takenAt, lockTaken, queueLeft}
+use Rattle.tables.proofs.Takes.{taken-there}
 use Rattle.tables.proofs.Frames.{only-taken, queued-beside, place-beside}
 use Rattle.index.specs.declared.Found.{Found}
 use Rattle.index.specs.declared.Found.the-variants as FV
@@ -78,19 +79,22 @@ one-changed p d w m x h p′ e i f g b =
     }
 
 -- ---- the entry of the key, where the target is of that key
-module _ (p d : List ℕ) (w : Whole p d) (t : ℕ) (ask : Ask ℕ ℕ) (key : Key) (there : Found)
-    (i : bookFound there ≡ itself book (key .0) (target book (entriesIn p) t ask)) (e : E.Entry) (h : there ≡ FV.Here e) where
-  is-target : (target book (entriesIn p) t ask ≡ some (bookEntry e)) × (eqb (e .key .0) (key .0) ≡ true)
-  is-target = itself-is book (key .0) (target book (entriesIn p) t ask) (bookEntry e) (sym i ∙ ap bookFound h)
+module _ (p d : List ℕ) (w : Whole p d) (t : ℕ) (ask : Ask ℕ ℕ) (found : Found) (f : bookFound found ≡ target book (entriesIn p) t ask) (key : Key)
+    (there : Found) (i : bookFound there ≡ itself book (key .0) (bookFound found)) (e : E.Entry) (h : there ≡ FV.Here e) where
+  is-target : (bookFound found ≡ some (bookEntry e)) × (eqb (e .key .0) (key .0) ≡ true)
+  is-target = itself-is book (key .0) (bookFound found) (bookEntry e) (sym i ∙ ap bookFound h)
 
   pub stands-in : In (bookEntry e) (entriesIn p)
-  stands-in = target-in book (entriesIn p) t ask (bookEntry e) (is-target .0)
+  stands-in = target-in book (entriesIn p) t ask (bookEntry e) (sym f ∙ is-target .0)
 
   pub stands-fits : NameFits (on (e .key .0))
-  stands-fits = target-fits p d w t ask (FV.Here e) (sym (is-target .0))
+  stands-fits = target-fits p d w t ask (FV.Here e) (sym (is-target .0) ∙ f)
 
   pub stands-name : nameIn (key .0) ≡ on (e .key .0)
   stands-name = ap nameIn (sym (eqb-true (e .key .0) (key .0) (is-target .1))) ∙ name-read (on (e .key .0)) stands-fits
+
+  pub stands-named : named book (bookFound found) ≡ nameIn (key .0)
+  stands-named = ap (named book) (is-target .0) ∙ sym stands-name
 
 -- ---- the code's answers: whether a target is of the key, and whether its entry was exchanged
 module _ (found : Found) (key : Key) (e : E.Entry) (f : found ≡ FV.Here e) (b : Bool) (s : b ≡ eqb (e .key .0) (key .0)) where
@@ -99,10 +103,6 @@ module _ (found : Found) (key : Key) (e : E.Entry) (f : found ≡ FV.Here e) (b 
 
   pub standing-other : b ≡ false → bookFound FV.Nothing ≡ itself book (key .0) (bookFound found)
   standing-other h = let z : eqb (e .key .0) (key .0) ≡ false = sym s ∙ h in rw (f, z)
-
-pub entry-there : (p : List ℕ) (t : ℕ) (ask : Ask ℕ ℕ) (key : Key) (found r : Found) → bookFound found ≡ target book (entriesIn p) t ask
-    → bookFound r ≡ itself book (key .0) (bookFound found) → bookFound r ≡ itself book (key .0) (target book (entriesIn p) t ask)
-entry-there p t ask key found r f i = i ∙ ap (itself book (key .0)) f
 
 -- b: the lock is given; x: the entry is to be exchanged
 module _ (b x : Bool) (z : Item) where
@@ -135,18 +135,22 @@ module _ (b : Bool) where
     goes-says h = ap₂ (λ u v. cond u (cond v m n) locksShort) (sym (not-false b g)) (sym (not-false r h) ∙ e)
 
 -- ---- what the lock leaves of the queue
-module _ (d : List ℕ) (q t : ℕ) (n : Name ℕ) (m : Mode) (d₁ : List ℕ) (e : d₁ ≡ lockTaken d t n m) where
+module _ (d : List ℕ) (q own free t : ℕ) (n : Name ℕ) (m : Mode) (o : own ≡ heldIn d t n) (f : free ≡ freeIn d) (d₁ : List ℕ)
+    (taken : d₁ ≡ takenAt d own free t n m) where
+  locked : d₁ ≡ lockTaken d t n m
+  locked = taken-there d own free t n o f m d₁ taken
+
   pub locked-inside : q < queued d → q < queued d₁
-  locked-inside h = omega (arith, ap queued e ∙ queued-beside (only-taken d t n m) (omega arith))
+  locked-inside h = omega (arith, ap queued locked ∙ queued-beside (only-taken d t n m) (omega arith))
 
   pub locked-few : queued d ≤ transactionsMost → queued d₁ ≤ transactionsMost
-  locked-few h = omega (arith, ap queued e ∙ queued-beside (only-taken d t n m) (omega arith))
+  locked-few h = omega (arith, ap queued locked ∙ queued-beside (only-taken d t n m) (omega arith))
 
   pub locked-asker : q < queued d → queued d ≤ transactionsMost → inPlace d q ≤ transactionsMost → inPlace d₁ q ≤ transactionsMost
-  locked-asker h f l =
+  locked-asker h few l =
       let i : q < transactionsMost = omega arith in
-      let s = ap (λ x. inPlace x q) e ∙ place-beside (only-taken d t n m) q (omega (arith, i)) in
+      let s = ap (λ x. inPlace x q) locked ∙ place-beside (only-taken d t n m) q (omega (arith, i)) in
       omega (arith, s, l)
 
   pub locked-left : (d₂ : List ℕ) → d₂ ≡ queueLeft d₁ q → d₂ ≡ queueLeft (lockTaken d t n m) q
-  locked-left d₂ h = h ∙ ap (λ x. queueLeft x q) e
+  locked-left d₂ h = h ∙ ap (λ x. queueLeft x q) locked

@@ -36,9 +36,6 @@ module _ (p d : List ℕ) (w : Whole p d) (q : ℕ) (c : Clear p d q) (key : Key
       ap₂ (λ u y. runOn book (stateOf p d) u y (target book (entriesIn p) u y)) (sym a) k ∙ ap (runOn book (stateOf p d) t (delete (key .0))) (sym f)
       ∙ ap (deleteAs book (stateOf p d) t (named book (bookFound found))) (sym i)
 
-  at : bookFound there ≡ itself book (key .0) (target book (entriesIn p) t (delete (key .0)))
-  at = i ∙ ap (itself book (key .0)) f
-
   -- the target is of another key, or the end
   pub delete-missing : there ≡ FV.Nothing → (name : Key) → name .0 ≡ nameNumber (named book (bookFound found)) → (d′ : List ℕ) (b : Bool)
       → d′ ≡ queueLeft (lockTaken d t (nameIn (name .0)) S) q → b ≡ lockGiven d t (nameIn (name .0))
@@ -59,8 +56,8 @@ module _ (p d : List ℕ) (w : Whole p d) (q : ℕ) (c : Clear p d q) (key : Key
   unfolding deleteAs deleteThere
   delete-there e h d′ b e₁ g p′ ex x says =
       let ask : Ask ℕ ℕ = delete (key .0) in
-      let n = stands-name p d w t ask key there at e h in
-      acted p d w q c t a (on (e .key .0)) X (stands-fits p d w t ask key there at e h)
+      let n = stands-name p d w t ask found f key there i e h in
+      acted p d w q c t a (on (e .key .0)) X (stands-fits p d w t ask found f key there i e h)
       (deleteThere book (stateOf p d) t (bookEntry e) (bookValue (e .now)))
       (goes ∙ ap (λ o. deleteAs book (stateOf p d) t (named book (bookFound found)) (bookFound o)) h) d′
       (e₁ ∙ ap (λ u. queueLeft (lockTaken d t u X) q) n) p′ b x (g ∙ ap (lockGiven d t) n) (does (bookValue (e .now)) refl)
@@ -69,7 +66,7 @@ module _ (p d : List ℕ) (w : Whole p d) (q : ℕ) (c : Clear p d q) (key : Key
       does : (o : Option ℕ) → bookValue (e .now) ≡ o → b ≡ true → Done p′ (deleteThere book (stateOf p d) t (bookEntry e) o) x
       does (some was) v l =
           one-changed p d w done x (says ∙ ap₂ (λ u o. cond u (cond (isThere o) done nothing) locksShort) l v) p′ (bookEntry e)
-          (stands-in p d w t (delete (key .0)) key there at e h) (deleted t) refl (ex .changed (ap₂ (λ u o. u && isThere o) l v))
+          (stands-in p d w t (delete (key .0)) found f key there i e h) (deleted t) refl (ex .changed (ap₂ (λ u o. u && isThere o) l v))
       does none v l =
           subst (λ s. Done s (locked book (stateOf p d) nothing) x) (sym (ex .kept (ap₂ (λ u o. u && isThere o) l v)))
           (only-locked p d w nothing x (says ∙ ap₂ (λ u o. cond u (cond (isThere o) done nothing) locksShort) l v))

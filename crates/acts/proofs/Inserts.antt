@@ -29,15 +29,17 @@ use Rattle.acts.proofs.Runs.{Done, only-locked, acted}
 use Rattle.acts.proofs.Changes.{one-changed, stands-in, stands-fits, stands-name}
 
 module _ (p d : List ℕ) (w : Whole p d) (q : ℕ) (c : Clear p d q) (key : Key) (rec : ℕ) (k : queuedAt d q .asks ≡ insert (key .0) rec) (t : ℕ)
-    (a : t ≡ inPlace d q) (there : Found) (i : bookFound there ≡ itself book (key .0) (target book (entriesIn p) t (insert (key .0) rec))) where
+    (a : t ≡ inPlace d q) (found : Found) (f : bookFound found ≡ target book (entriesIn p) t (insert (key .0) rec)) (there : Found)
+    (i : bookFound there ≡ itself book (key .0) (bookFound found)) where
   goes : run book (stateOf p d) (queuedAt d q) ≡ insertAs book (stateOf p d) t (key .0) rec (bookFound there)
   unfolding run runOn stateOf queuedAt
   goes =
-      ap₂ (λ u y. runOn book (stateOf p d) u y (target book (entriesIn p) u y)) (sym a) k ∙ ap (insertAs book (stateOf p d) t (key .0) rec) (sym i)
+      ap₂ (λ u y. runOn book (stateOf p d) u y (target book (entriesIn p) u y)) (sym a) k
+      ∙ ap (runOn book (stateOf p d) t (insert (key .0) rec)) (sym f) ∙ ap (insertAs book (stateOf p d) t (key .0) rec) (sym i)
 
   -- the key is missing where its entry is not found
   pub insert-missing : there ≡ FV.Nothing → missing compare keyOf (key .0) (entriesIn p) ≡ true
-  insert-missing h = is-missing p d w (key .0) t rec there i h
+  insert-missing h = is-missing p d w (key .0) t rec there (i ∙ ap (itself book (key .0)) f) h
 
   pub insert-there : (e : E.Entry) → there ≡ FV.Here e → (d′ : List ℕ) (b : Bool) → d′ ≡ queueLeft (lockTaken d t (nameIn (key .0)) S) q
       → b ≡ lockGiven d t (nameIn (key .0)) → (p′ : List ℕ) → Exchanged p p′ (b && ghost (bookEntry e)) (revived t rec (bookEntry e))
@@ -46,8 +48,8 @@ module _ (p d : List ℕ) (w : Whole p d) (q : ℕ) (c : Clear p d q) (key : Key
   unfolding insertAs insertThere
   insert-there e h d′ b e₁ g p′ ex x says =
       let ask : Ask ℕ ℕ = insert (key .0) rec in
-      let n = stands-name p d w t ask key there i e h in
-      acted p d w q c t a (on (e .key .0)) S (stands-fits p d w t ask key there i e h)
+      let n = stands-name p d w t ask found f key there i e h in
+      acted p d w q c t a (on (e .key .0)) S (stands-fits p d w t ask found f key there i e h)
       (insertThere book (stateOf p d) t rec (bookEntry e) (bookValue (e .now)))
       (goes ∙ ap (λ o. insertAs book (stateOf p d) t (key .0) rec (bookFound o)) h) d′
       (e₁ ∙ ap (λ u. queueLeft (lockTaken d t u S) q) n) p′ b x (g ∙ ap (lockGiven d t) n) (does (bookValue (e .now)) refl)
@@ -63,4 +65,4 @@ module _ (p d : List ℕ) (w : Whole p d) (q : ℕ) (c : Clear p d q) (key : Key
           (only-locked p d w m x (says ∙ ap₂ told l v))
       does none v l =
           one-changed p d w done x (says ∙ ap₂ told l v) p′ (bookEntry e)
-          (stands-in p d w t (insert (key .0) rec) key there i e h) (revived t rec) refl (ex .changed (ap₂ (λ u o. u && not (isThere o)) l v))
+          (stands-in p d w t (insert (key .0) rec) found f key there i e h) (revived t rec) refl (ex .changed (ap₂ (λ u o. u && not (isThere o)) l v))

@@ -8,4 +8,5 @@ pub mod Missing
 pub mod Changes
 pub mod Deletes
 pub mod Inserts
+pub mod Next
 pub mod Asked

@@ -27,8 +27,8 @@ use Rattle.entries.specs.declared.Entry as E
 use Rattle.entries.specs.declared.Says.the-variants as S
 use Rattle.entries.specs.Meaning.{bookEntry}
 use Rattle.tables.specs.Layout.{locksMost, inPlace, queuedAt, slotsOf, nameIn}
-use Rattle.tables.specs.Moves.{freeIn, lockTaken, lockGiven, queueLeft}
-use Rattle.tables.proofs.Takes.{holds-is, refused-same}
+use Rattle.tables.specs.Moves.{heldIn, freeIn, lockTaken, lockGiven, queueLeft}
+use Rattle.tables.proofs.Takes.{holds-is, none-held, refused-same}
 use Rattle.index.specs.declared.Found.{Found}
 use Rattle.index.specs.declared.Found.the-variants as FV
 use Rattle.index.specs.Searches.{bookFound}
@@ -104,6 +104,10 @@ module _ (p d : List ℕ) (w : Whole p d) (q : ℕ) (c : A.Clear p d q) (k rec :
         ap₂ (λ u y. runOn book (stateOf p d) u y (target book (entriesIn p) u y)) (sym a) asks
         ∙ ap (insertAs book (stateOf p d) t k rec) (not-target p d w k m t rec)
 
+    -- t has no lock on the key
+    pub none-own : locksMost ≡ heldIn d t (nameIn k)
+    none-own = none-held (book .paging) d t (on k) (no-lock p d w k m t) ∙ ap (heldIn d t) (sym (name-read (on k) key-fits))
+
     abbrev withLock : List ℕ
     withLock = lockTaken d t (on k) X
 
@@ -128,13 +132,13 @@ module _ (p d : List ℕ) (w : Whole p d) (q : ℕ) (c : A.Clear p d q) (k rec :
         go (some ks) h = absurd (true≢false (sym (free-if (some ks) h) ∙ none-free))
 
     -- a slot is free: the lock can be had, and the rest goes by the pages
-    module _ (room : freeIn d < locksMost) (e : E.Entry) (new : bookEntry e ≡ inserted t k rec) (p′ : List ℕ) (b : Bool)
+    module _ (free : ℕ) (is : free ≡ freeIn d) (room : free < locksMost) (e : E.Entry) (new : bookEntry e ≡ inserted t k rec) (p′ : List ℕ) (b : Bool)
         (added : Added p p′ (bookEntry e) b) where
       with-slots : {T : Type 0} → ((ks : Slots book) → taken book (slotsOf d) t (on k) X ≡ some ks → T) → T
       with-slots {T} f = go (taken book (slotsOf d) t (on k) X) refl
         where
           go : (o : Option (Slots book)) → taken book (slotsOf d) t (on k) X ≡ o → T
-          go none h = absurd (true≢false (sym (lt-ltb (freeIn d) locksMost room) ∙ free-if none h))
+          go none h = absurd (true≢false (sym (lt-ltb free locksMost room) ∙ ap (λ x. ltb x locksMost) is ∙ free-if none h))
           go (some ks) h = f ks h
 
       fits : b ≡ book .paging .fits (shape keyOf (indexOf p)) k

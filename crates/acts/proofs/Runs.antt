@@ -61,7 +61,7 @@ module _ (p d : List ℕ) (w : Whole p d) (q : ℕ) (c : A.Clear p d q) where
   clear-place = let h = c .inside in omega (arith, whole-few p d w)
 
   module _ (t : ℕ) (a : t ≡ inPlace d q) where
-    pub clear-low : 1 ≤ t
+    clear-low : 1 ≤ t
     unfolding queuedAt
     clear-low = let h = asker-fits .some in omega arith
 

@@ -8,19 +8,20 @@ ghost use Rattle.entries.specs.Meaning.{bookEntry, bookSays};
 ghost use Rattle.tables.specs.Layout.{queuedAt};
 ghost use Rattle.index.specs.Pictures.{WholePages};
 ghost use Rattle.desks.specs.Whole.{Whole};
+ghost use Rattle.waits.specs.Choices.{Known};
 ghost use Rattle.acts.specs.Acts.{Clear, Ran};
 ghost use Rattle.acts.specs.Exchanges.{Exchanged};
 use super::locking::lock_and_leave;
 use super::reading::unless_short;
 use super::standing::standing;
 use entries::Answer;
-use entries::Ask;
 use entries::Entry;
 use entries::Key;
 use entries::Says;
 use index::Found;
 use tables::Mode;
 use tables::queue;
+use waits::Next;
 use waits::targets;
 
 // Deletes the entry of the key for t, if it has the lock and the entry is not absent already. Gives what is said.
@@ -40,24 +41,28 @@ fn delete_there(pages: &mut [u8], given: bool, t: u16, e: Entry) -> Says
     Says::Done
 }
 
-// Runs the delete at place q of the queue, which nobody blocks.
-pub fn run_delete(pages: &mut [u8], desk: &mut [u8], q: usize, key: Key) -> Answer
+// Runs the delete that is next, which nobody blocks.
+pub fn run_delete(pages: &mut [u8], desk: &mut [u8], next: Next, key: Key) -> Answer
     requires { ⌜ Whole (now pages) (now desk) ⌝ }
-    requires { ⌜ Clear (now pages) (now desk) q ⌝ }
-    requires { ⌜ queuedAt (now desk) q .asks ≡ delete (key .0) ⌝ }
-    ensures { λ r. ⌜ Ran (now (pages .entry)) (now (desk .entry)) (now (pages .exit)) (now (desk .exit)) q r ⌝ }
+    requires { ⌜ Clear (now pages) (now desk) (next .place) ⌝ }
+    requires { ⌜ Known (now pages) (now desk) next ⌝ }
+    requires { ⌜ queuedAt (now desk) (next .place) .asks ≡ delete (key .0) ⌝ }
+    ensures { λ r. ⌜ Ran (now (pages .entry)) (now (desk .entry)) (now (pages .exit)) (now (desk .exit)) (next .place) r ⌝ }
 {
+    let q = next.place;
+    let own = next.own;
+    let free = next.free;
+    let found = next.target;
     let t = queue::in_place(desk, q);
-    let found = targets::target_of(pages, t, Ask::Delete(key));
     let there = standing(found, key);
     let Found::Here(e) = there else {
-        let given = lock_and_leave(desk, q, t, targets::name_of(found), Mode::S);
+        let given = lock_and_leave(desk, q, own, free, t, targets::name_of(found), Mode::S);
         return Answer {
             asker: t,
             says: unless_short(given, Says::Nothing),
         };
     };
-    let given = lock_and_leave(desk, q, t, key, Mode::X);
+    let given = lock_and_leave(desk, q, own, free, t, key, Mode::X);
     Answer {
         asker: t,
         says: delete_there(pages, given, t, e),

@@ -11,34 +11,42 @@ ghost use Rattle.tables.specs.Layout.{locksMost, queuedAt};
 ghost use Rattle.tables.specs.Moves.{freeIn};
 ghost use Rattle.index.specs.Pictures.{keyOf, entriesIn, WholePages};
 ghost use Rattle.desks.specs.Whole.{Whole};
+ghost use Rattle.waits.specs.Choices.{Known};
 ghost use Rattle.acts.specs.Acts.{Clear, Ran};
 ghost use Rattle.acts.specs.Exchanges.{Exchanged};
 use super::locking::lock_and_leave;
-use super::standing::entry_of;
+use super::standing::standing;
 use entries::Answer;
-use entries::Ask;
 use entries::Entry;
 use entries::Key;
 use entries::Says;
 use index::Found;
 use tables::LOCKS;
 use tables::Mode;
-use tables::locks;
 use tables::queue;
+use waits::Next;
 
 // Puts the entry of a missing key in, if the pages have room for it, and takes the lock on it only then; a slot is free.
-// The request leaves the queue.
-fn put_missing(pages: &mut [u8], desk: &mut [u8], q: usize, key: Key, rec: u32) -> Answer
+// No lock stands on a missing key, so a new one is taken. The request leaves the queue.
+fn put_missing(
+    pages: &mut [u8],
+    desk: &mut [u8],
+    q: usize,
+    free: usize,
+    key: Key,
+    rec: u32,
+) -> Answer
     requires { ⌜ Whole (now pages) (now desk) ⌝ }
     requires { ⌜ Clear (now pages) (now desk) q ⌝ }
     requires { ⌜ queuedAt (now desk) q .asks ≡ insert (key .0) rec ⌝ }
     requires { ⌜ missing compare keyOf (key .0) (entriesIn (now pages)) ≡ true ⌝ }
-    requires { ⌜ freeIn (now desk) < locksMost ⌝ }
+    requires { ⌜ free ≡ freeIn (now desk) ⌝ }
+    requires { ⌜ free < locksMost ⌝ }
     ensures { λ r. ⌜ Ran (now (pages .entry)) (now (desk .entry)) (now (pages .exit)) (now (desk .exit)) q r ⌝ }
 {
     let t = queue::in_place(desk, q);
     if index::add(pages, Entry::inserted(t, key, rec)) {
-        lock_and_leave(desk, q, t, key, Mode::X);
+        lock_and_leave(desk, q, LOCKS, free, t, key, Mode::X);
         return Answer {
             asker: t,
             says: Says::Done,
@@ -52,16 +60,24 @@ fn put_missing(pages: &mut [u8], desk: &mut [u8], q: usize, key: Key, rec: u32) 
 }
 
 // Runs the insert at place q of the queue, which nobody blocks, where its key is missing.
-// No lock stands on a missing key, so a new one is needed.
-fn insert_missing(pages: &mut [u8], desk: &mut [u8], q: usize, key: Key, rec: u32) -> Answer
+// No lock stands on a missing key, so a free slot is needed.
+fn insert_missing(
+    pages: &mut [u8],
+    desk: &mut [u8],
+    q: usize,
+    free: usize,
+    key: Key,
+    rec: u32,
+) -> Answer
     requires { ⌜ Whole (now pages) (now desk) ⌝ }
     requires { ⌜ Clear (now pages) (now desk) q ⌝ }
     requires { ⌜ queuedAt (now desk) q .asks ≡ insert (key .0) rec ⌝ }
     requires { ⌜ missing compare keyOf (key .0) (entriesIn (now pages)) ≡ true ⌝ }
+    requires { ⌜ free ≡ freeIn (now desk) ⌝ }
     ensures { λ r. ⌜ Ran (now (pages .entry)) (now (desk .entry)) (now (pages .exit)) (now (desk .exit)) q r ⌝ }
 {
-    if locks::free_slot(desk) < LOCKS {
-        return put_missing(pages, desk, q, key, rec);
+    if free < LOCKS {
+        return put_missing(pages, desk, q, free, key, rec);
     }
     let t = queue::in_place(desk, q);
     queue::leave_queue(desk, q);
@@ -89,19 +105,24 @@ fn insert_there(pages: &mut [u8], given: bool, t: u16, e: Entry, rec: u32) -> Sa
     Says::Done
 }
 
-// Runs the insert at place q of the queue, which nobody blocks.
-pub fn run_insert(pages: &mut [u8], desk: &mut [u8], q: usize, key: Key, rec: u32) -> Answer
+// Runs the insert that is next, which nobody blocks.
+pub fn run_insert(pages: &mut [u8], desk: &mut [u8], next: Next, key: Key, rec: u32) -> Answer
     requires { ⌜ Whole (now pages) (now desk) ⌝ }
-    requires { ⌜ Clear (now pages) (now desk) q ⌝ }
-    requires { ⌜ queuedAt (now desk) q .asks ≡ insert (key .0) rec ⌝ }
-    ensures { λ r. ⌜ Ran (now (pages .entry)) (now (desk .entry)) (now (pages .exit)) (now (desk .exit)) q r ⌝ }
+    requires { ⌜ Clear (now pages) (now desk) (next .place) ⌝ }
+    requires { ⌜ Known (now pages) (now desk) next ⌝ }
+    requires { ⌜ queuedAt (now desk) (next .place) .asks ≡ insert (key .0) rec ⌝ }
+    ensures { λ r. ⌜ Ran (now (pages .entry)) (now (desk .entry)) (now (pages .exit)) (now (desk .exit)) (next .place) r ⌝ }
 {
+    let q = next.place;
+    let own = next.own;
+    let free = next.free;
+    let found = next.target;
     let t = queue::in_place(desk, q);
-    let there = entry_of(pages, t, Ask::Insert(key, rec), key);
+    let there = standing(found, key);
     let Found::Here(e) = there else {
-        return insert_missing(pages, desk, q, key, rec);
+        return insert_missing(pages, desk, q, free, key, rec);
     };
-    let given = lock_and_leave(desk, q, t, key, Mode::S);
+    let given = lock_and_leave(desk, q, own, free, t, key, Mode::S);
     Answer {
         asker: t,
         says: insert_there(pages, given, t, e, rec),

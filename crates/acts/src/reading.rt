@@ -8,15 +8,16 @@ ghost use Rattle.tables.specs.Layout.{queuedAt};
 ghost use Rattle.index.specs.Searches.{bookFound};
 ghost use Rattle.desks.specs.States.{book};
 ghost use Rattle.desks.specs.Whole.{Whole};
+ghost use Rattle.waits.specs.Choices.{Known};
 ghost use Rattle.acts.specs.Acts.{Clear, Ran};
 use super::locking::lock_and_leave;
 use entries::Answer;
-use entries::Ask;
 use entries::Key;
 use entries::Says;
 use index::Found;
 use tables::Mode;
 use tables::queue;
+use waits::Next;
 use waits::targets;
 
 // What is said if the lock was given, and otherwise number 17.
@@ -42,17 +43,19 @@ fn read_says(found: Found, hi: Key) -> Says
     }
 }
 
-// Runs the read at place q of the queue, which nobody blocks.
-pub fn run_read(pages: &[u8], desk: &mut [u8], q: usize, lo: Key, hi: Key) -> Answer
+// Runs the read that is next, which nobody blocks.
+pub fn run_read(pages: &[u8], desk: &mut [u8], next: Next, lo: Key, hi: Key) -> Answer
     requires { ⌜ Whole (now pages) (now desk) ⌝ }
-    requires { ⌜ Clear (now pages) (now desk) q ⌝ }
-    requires { ⌜ queuedAt (now desk) q .asks ≡ read (lo .0) (hi .0) ⌝ }
-    ensures { λ r. ⌜ Ran (now (pages .entry)) (now (desk .entry)) (now (pages .entry)) (now (desk .exit)) q r ⌝ }
+    requires { ⌜ Clear (now pages) (now desk) (next .place) ⌝ }
+    requires { ⌜ Known (now pages) (now desk) next ⌝ }
+    requires { ⌜ queuedAt (now desk) (next .place) .asks ≡ read (lo .0) (hi .0) ⌝ }
+    ensures { λ r. ⌜ Ran (now (pages .entry)) (now (desk .entry)) (now (pages .entry)) (now (desk .exit)) (next .place) r ⌝ }
 {
+    let q = next.place;
+    let found = next.target;
     let t = queue::in_place(desk, q);
-    let found = targets::target_of(pages, t, Ask::Read(lo, hi));
     let name = targets::name_of(found);
-    let given = lock_and_leave(desk, q, t, name, Mode::S);
+    let given = lock_and_leave(desk, q, next.own, next.free, t, name, Mode::S);
     let says = unless_short(given, read_says(found, hi));
     Answer {
         asker: t,

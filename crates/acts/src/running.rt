@@ -1,5 +1,6 @@
 // The run of a request. (Document 01, "Working the queue".)
 ghost use Rattle.desks.specs.Whole.{Whole};
+ghost use Rattle.waits.specs.Choices.{Known};
 ghost use Rattle.acts.specs.Acts.{Clear, Ran};
 use super::deleting::run_delete;
 use super::inserting::run_insert;
@@ -8,18 +9,20 @@ use entries::Answer;
 use entries::Ask;
 use tables::queue;
 use tables::transactions;
+use waits::Next;
 
-// Runs the request at place q of the queue, which nobody blocks.
-pub fn run_at(pages: &mut [u8], desk: &mut [u8], q: usize) -> Answer
+// Runs the request that is next, which nobody blocks.
+pub fn run_at(pages: &mut [u8], desk: &mut [u8], next: Next) -> Answer
     requires { ⌜ Whole (now pages) (now desk) ⌝ }
-    requires { ⌜ Clear (now pages) (now desk) q ⌝ }
-    ensures { λ r. ⌜ Ran (now (pages .entry)) (now (desk .entry)) (now (pages .exit)) (now (desk .exit)) q r ⌝ }
+    requires { ⌜ Clear (now pages) (now desk) (next .place) ⌝ }
+    requires { ⌜ Known (now pages) (now desk) next ⌝ }
+    ensures { λ r. ⌜ Ran (now (pages .entry)) (now (desk .entry)) (now (pages .exit)) (now (desk .exit)) (next .place) r ⌝ }
 {
-    let t = queue::in_place(desk, q);
+    let t = queue::in_place(desk, next.place);
     let ask = transactions::ask_at(desk, t);
     match ask {
-        Ask::Read(lo, hi) => run_read(pages, desk, q, lo, hi),
-        Ask::Insert(key, rec) => run_insert(pages, desk, q, key, rec),
-        Ask::Delete(key) => run_delete(pages, desk, q, key),
+        Ask::Read(lo, hi) => run_read(pages, desk, next, lo, hi),
+        Ask::Insert(key, rec) => run_insert(pages, desk, next, key, rec),
+        Ask::Delete(key) => run_delete(pages, desk, next, key),
     }
 }

@@ -69,17 +69,16 @@ pub extern "C" fn codec_find_lock(d: &[u8], t: u16, name: u64) -> u64 {
     tables::locks::find_lock(d, t, Key(name)) as u64
 }
 
+// 1 where the lock was taken, 0 where neither number is that of a slot.
 #[no_mangle]
-pub extern "C" fn codec_free_slot(d: &[u8]) -> u64 {
-    if d.len() != 4672 {
-        return REFUSED;
-    }
-    tables::locks::free_slot(d) as u64
-}
-
-// 1 where the lock was taken, 0 where no slot was free.
-#[no_mangle]
-pub extern "C" fn codec_take_lock(d: &mut [u8], t: u16, name: u64, mode: u16) -> u64 {
+pub extern "C" fn codec_take_at(
+    d: &mut [u8],
+    own: usize,
+    free: usize,
+    t: u16,
+    name: u64,
+    mode: u16,
+) -> u64 {
     if d.len() != 4672 {
         return REFUSED;
     }
@@ -89,7 +88,7 @@ pub extern "C" fn codec_take_lock(d: &mut [u8], t: u16, name: u64, mode: u16) ->
     if mode > 2 {
         return REFUSED;
     }
-    if tables::locks::take_lock(d, t, Key(name), Mode::of(mode)) {
+    if tables::locks::take_at(d, own, free, t, Key(name), Mode::of(mode)) {
         1
     } else {
         0

@@ -2,7 +2,7 @@
 -- the place of the first. A scan that has passed i places has what is sought in the rest from i on. Assumes nothing.
 use Prim.Native.Nat.{ℕ, suc, _+_, _-_, _≤_, _<_}
 use mathlib.Core.Path.{_≡_, refl, sym, ap, _∙_}
-use mathlib.Core.Bool.{Bool, true, false, cond, _||_, false≢true, _&&_, not}
+use mathlib.Core.Bool.{Bool, true, false, cond, _||_, true≢false, false≢true, _&&_, not}
 use mathlib.Core.List.{List, [], _∷_}
 use native.Mathlib.Nat.{sub-zero}
 use native.Mathlib.Omega.{arith}
@@ -48,7 +48,7 @@ module _ {A : Type 0} (p : A → Bool) where
     pub scan-done : (i : ℕ) → n ≤ i → i ≤ n → whole ≡ i + place p (tab (n - i) i f) → n ≡ whole
     scan-done i h l e = let r = ap (place p) (tab-done n i f h) ∙ none-left in omega arith
 
-  -- ---- the list: some element passes where the place is one of its places, and the one there passes
+  -- ---- the list: some element passes where the place is one of its places, and the one there passes; where none does it is the length
   pub place-any : (xs : List A) → any p xs ≡ ltb (place p xs) (length xs)
   unfolding any place
   place-any [] = refl
@@ -67,6 +67,15 @@ module _ {A : Type 0} (p : A → Bool) where
           → p (getD (x ∷ xs) (cond b 0 (suc (place p xs))) d) ≡ true
       go true q e r = q
       go false q e r = r e
+
+  pub place-none : (xs : List A) → any p xs ≡ false → length xs ≡ place p xs
+  unfolding any place
+  place-none [] e = refl
+  place-none (x ∷ xs) e = go (p x) e (place-none xs)
+    where
+      go : (b : Bool) → (b || any p xs) ≡ false → (any p xs ≡ false → length xs ≡ place p xs) → suc (length xs) ≡ cond b 0 (suc (place p xs))
+      go true e r = absurd (true≢false e)
+      go false e r = ap suc (r e)
 
 -- ---- whether all pass, and whether one does
 module _ {A : Type 0} (p : A → Bool) (f : ℕ → A) (whole : Bool) (n i : ℕ) where

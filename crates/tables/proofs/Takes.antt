@@ -12,7 +12,7 @@ use lib.Dec.{eqb, ltb}
 use lib.ListN.{length, getD, set}
 use Rattle.lists.specs.Lists.{all, any, pairs, place}
 use Rattle.lists.proofs.Tests.{and-left, and-right}
-use Rattle.lists.proofs.Scans.{place-any, place-passes}
+use Rattle.lists.proofs.Scans.{place-any, place-passes, place-none}
 use Rattle.rules.specs.Kinds.{Book, Paging, Mode, Name, Lock}
 use Rattle.rules.specs.Entries.{isThere}
 use Rattle.rules.specs.Locks.{Slots, inUse, stronger, sameName, isOf, holds, raised, behind, added, taken}
@@ -20,37 +20,42 @@ use Rattle.rules.specs.Good.{together}
 use Rattle.rules.specs.Document.{document, endless}
 use Rattle.tables.specs.declared.Slot as Sl
 use Rattle.tables.specs.Layout.{deskSize, locksMost, nameIn, slotAt, putSlot, slotsOf, bookSlot}
-use Rattle.tables.specs.Moves.{isSlotOf, strengthened, heldIn, freeIn, lockTaken, lockGiven}
+use Rattle.tables.specs.Moves.{isSlotOf, strengthened, heldIn, freeIn, takenAt, givenAt, lockTaken, lockGiven}
 use Rattle.tables.proofs.Values.{names-any, same-is, same-itself}
 use Rattle.tables.proofs.Slots.{lock, lock-fits, lock-back, slots-put, length-slots, slot-in}
 
 -- ---- the code's cases: t has the name, a slot is free, none is
-module _ (d : List ℕ) (t : ℕ) (n : Name ℕ) (i : ℕ) (e : i ≡ heldIn d t n) where
-  pub given-held : i < locksMost → true ≡ lockGiven d t n
+module _ (i j : ℕ) where
+  pub given-held : i < locksMost → true ≡ givenAt i j
+  given-held h = rw (lt-ltb i locksMost h)
+
+  pub given-new : locksMost ≤ i → j < locksMost → true ≡ givenAt i j
+  given-new h l = rw (le-ltb i locksMost h, lt-ltb j locksMost l)
+
+  pub given-none : locksMost ≤ i → locksMost ≤ j → false ≡ givenAt i j
+  given-none h l = rw (le-ltb i locksMost h, le-ltb j locksMost l)
+
+  module _ (d : List ℕ) (t : ℕ) (n : Name ℕ) (m : Mode) where
+    pub taken-held : (u : List ℕ) (s x : Sl.Slot) → i < locksMost → bookSlot s ≡ slotAt d i → bookSlot x ≡ strengthened m (bookSlot s)
+        → u ≡ putSlot d i (bookSlot x) → u ≡ takenAt d i j t n m
+    taken-held u s x h p q r = rw (lt-ltb i locksMost h, r, q, p)
+
+    pub taken-new : (u : List ℕ) → locksMost ≤ i → j < locksMost → u ≡ putSlot d j (some (record { name = n; holder = t; mode = m }))
+        → u ≡ takenAt d i j t n m
+    taken-new u h l r = rw (le-ltb i locksMost h, lt-ltb j locksMost l) r
+
+    pub taken-none : locksMost ≤ i → locksMost ≤ j → d ≡ takenAt d i j t n m
+    taken-none h l = rw (le-ltb i locksMost h, le-ltb j locksMost l)
+
+-- where these are t's own slot and the lowest free one
+module _ (d : List ℕ) (i j t : ℕ) (n : Name ℕ) (e : i ≡ heldIn d t n) (f : j ≡ freeIn d) where
+  pub given-there : (b : Bool) → b ≡ givenAt i j → b ≡ lockGiven d t n
   unfolding lockGiven
-  given-held h = rw (← e, lt-ltb i locksMost h)
+  given-there b h = h ∙ ap₂ givenAt e f
 
-  pub taken-held : (m : Mode) (u : List ℕ) (s x : Sl.Slot) → i < locksMost → bookSlot s ≡ slotAt d i → bookSlot x ≡ strengthened m (bookSlot s)
-      → u ≡ putSlot d i (bookSlot x) → u ≡ lockTaken d t n m
+  pub taken-there : (m : Mode) (u : List ℕ) → u ≡ takenAt d i j t n m → u ≡ lockTaken d t n m
   unfolding lockTaken
-  taken-held m u s x h p q r = rw (← e, lt-ltb i locksMost h, r, q, p)
-
-  module _ (h : locksMost ≤ i) (j : ℕ) (f : j ≡ freeIn d) where
-    pub given-new : j < locksMost → true ≡ lockGiven d t n
-    unfolding lockGiven
-    given-new l = rw (← e, le-ltb i locksMost h, ← f, lt-ltb j locksMost l)
-
-    pub taken-new : (m : Mode) (u : List ℕ) → j < locksMost → u ≡ putSlot d j (some (record { name = n; holder = t; mode = m })) → u ≡ lockTaken d t n m
-    unfolding lockTaken
-    taken-new m u l r = rw (← e, le-ltb i locksMost h, ← f, lt-ltb j locksMost l) r
-
-    pub given-none : locksMost ≤ j → false ≡ lockGiven d t n
-    unfolding lockGiven
-    given-none l = rw (← e, le-ltb i locksMost h, ← f, le-ltb j locksMost l)
-
-    pub taken-none : (m : Mode) → locksMost ≤ j → d ≡ lockTaken d t n m
-    unfolding lockTaken
-    taken-none m l = rw (← e, le-ltb i locksMost h, ← f, le-ltb j locksMost l)
+  taken-there m u h = h ∙ ap₂ (λ x y. takenAt d x y t n m) e f
 
 -- ---- lists of slots
 module _ (P : Paging ℕ) (t : ℕ) (n : Name ℕ) where
@@ -151,6 +156,10 @@ free-any d = place-any isFree (slotsOf d) ∙ ap (ltb (place isFree (slotsOf d))
 
 pub holds-is : (P : Paging ℕ) (d : List ℕ) (t : ℕ) (n : Name ℕ) → holds (document P) (slotsOf d) t n ≡ ltb (heldIn d t n) locksMost
 holds-is P d t n = holds-any P t n (slotsOf d) ∙ held-any d t n
+
+pub none-held : (P : Paging ℕ) (d : List ℕ) (t : ℕ) (n : Name ℕ) → holds (document P) (slotsOf d) t n ≡ false → locksMost ≡ heldIn d t n
+unfolding heldIn
+none-held P d t n h = sym (length-slots d) ∙ place-none (isSlotOf t n) (slotsOf d) (sym (holds-any P t n (slotsOf d)) ∙ h)
 
 -- ---- taking
 -- t's lock on n, strengthened, is a lock of t on n

@@ -34,16 +34,24 @@ abbrev pub strengthened : Mode → Option (Lock ℕ) → Option (Lock ℕ)
 strengthened m none = none
 strengthened m (some l) = some (record { name = l .name; holder = l .holder; mode = stronger (l .mode) m })
 
--- "X replaces S in its slot and is never weakened"; "A new lock takes the lowest free slot"; where none is free nothing changes
-unfoldable pub lockTaken : List ℕ → ℕ → Name ℕ → Mode → List ℕ
-lockTaken d t n m =
-    cond (ltb (heldIn d t n) locksMost)
-    (putSlot d (heldIn d t n) (strengthened m (slotAt d (heldIn d t n))))
-    (cond (ltb (freeIn d) locksMost) (putSlot d (freeIn d) (some (record { name = n; holder = t; mode = m }))) d)
+-- "X replaces S in its slot and is never weakened": the lock in slot i strengthened; where i is no slot, a new one in slot j; where j is none
+-- either, nothing changes
+abbrev pub takenAt : List ℕ → ℕ → ℕ → ℕ → Name ℕ → Mode → List ℕ
+takenAt d i j t n m =
+    cond (ltb i locksMost)
+    (putSlot d i (strengthened m (slotAt d i)))
+    (cond (ltb j locksMost) (putSlot d j (some (record { name = n; holder = t; mode = m }))) d)
 
 -- whether t has the lock then
+abbrev pub givenAt : ℕ → ℕ → Bool
+givenAt i j = cond (ltb i locksMost) true (ltb j locksMost)
+
+-- t's own lock on the name is strengthened; "A new lock takes the lowest free slot"
+unfoldable pub lockTaken : List ℕ → ℕ → Name ℕ → Mode → List ℕ
+lockTaken d t n m = takenAt d (heldIn d t n) (freeIn d) t n m
+
 unfoldable pub lockGiven : List ℕ → ℕ → Name ℕ → Bool
-lockGiven d t n = cond (ltb (heldIn d t n) locksMost) true (ltb (freeIn d) locksMost)
+lockGiven d t n = givenAt (heldIn d t n) (freeIn d)
 
 -- "a released one is zeroed": the slots of t zero, the others as they are
 abbrev pub rowFreed : ℕ → List ℕ → List ℕ

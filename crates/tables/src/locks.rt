@@ -1,12 +1,10 @@
 // The lock table: its slots read and written, a lock found, taken and released. (Document 01, "Locks".)
 ghost use mathlib.Core.Path.{_≡_};
-ghost use mathlib.Core.Bool.{not};
 ghost use mathlib.Core.List.{[], _∷_};
 ghost use Prim.Native.Nat.{_<_};
 ghost use Rattle.numbers.specs.Numbers.{putFields};
-ghost use Rattle.rules.specs.Entries.{isThere};
 ghost use Rattle.tables.specs.Layout.{deskSize, locksMost, lockWidths, lockPlace, nameIn, slotAt, putSlot, bookMode, bookSlot};
-ghost use Rattle.tables.specs.Moves.{isSlotOf, heldIn, freeIn, lockTaken, lockGiven, rowReleased, locksReleased};
+ghost use Rattle.tables.specs.Moves.{isSlotOf, heldIn, takenAt, givenAt, rowReleased, locksReleased};
 use crate::LOCKS;
 use crate::Lock;
 use crate::Mode;
@@ -95,47 +93,21 @@ pub fn find_lock(d: &[u8], t: u16, name: Key) -> usize
     LOCKS
 }
 
-// Whether slot i is free.
-fn is_free_at(d: &[u8], i: usize) -> bool
+// Takes a lock for t: strengthens the one in slot `own`, or puts a new one into slot `free`. Where there is no such slot, each is the number
+// of slots. False, and nothing changed, where there is neither.
+pub fn take_at(d: &mut [u8], own: usize, free: usize, t: u16, name: Key, mode: Mode) -> bool
     requires { do ⌜ (← ⟦d.len()⟧) ≡ deskSize ⌝ }
-    requires { ⌜ i < locksMost ⌝ }
-    ensures { λ r. ⌜ r ≡ not (isThere (slotAt (now (d .entry)) i)) ⌝ }
+    ensures taken { λ _. ⌜ now (d .exit) ≡ takenAt (now (d .entry)) own free t (nameIn (name .0)) (bookMode mode) ⌝ }
+    ensures given { λ r. ⌜ r ≡ givenAt own free ⌝ }
 {
-    slot_at(d, i).is_free()
-}
-
-// The lowest free slot, or the number of slots where none is free.
-pub fn free_slot(d: &[u8]) -> usize
-    requires { do ⌜ (← ⟦d.len()⟧) ≡ deskSize ⌝ }
-    ensures { λ r. ⌜ r ≡ freeIn (now (d .entry)) ⌝ }
-{
-    let mut j: usize = 0;
-    while j < LOCKS {
-        if is_free_at(d, j) {
-            return j;
-        }
-        j += 1;
-    }
-    LOCKS
-}
-
-// Takes a lock for t: strengthens the one that t has on the name, or puts a new one into the lowest free slot.
-// False, and nothing changed, where a new one is needed and no slot is free.
-pub fn take_lock(d: &mut [u8], t: u16, name: Key, mode: Mode) -> bool
-    requires { do ⌜ (← ⟦d.len()⟧) ≡ deskSize ⌝ }
-    ensures taken { λ _. ⌜ now (d .exit) ≡ lockTaken (now (d .entry)) t (nameIn (name .0)) (bookMode mode) ⌝ }
-    ensures given { λ r. ⌜ r ≡ lockGiven (now (d .entry)) t (nameIn (name .0)) ⌝ }
-{
-    let i = find_lock(d, t, name);
-    if i < LOCKS {
-        put_slot(d, i, slot_at(d, i).strengthened(mode));
+    if own < LOCKS {
+        put_slot(d, own, slot_at(d, own).strengthened(mode));
         return true;
     }
-    let j = free_slot(d);
-    if j < LOCKS {
+    if free < LOCKS {
         put_slot(
             d,
-            j,
+            free,
             Slot::Held(Lock {
                 name: name,
                 holder: t,

@@ -40,8 +40,14 @@ fn any_request(random: &mut Random) -> KeyRequest {
 }
 
 /// Where a slot that is so stands, or how many slots there are.
-fn position(desk: &Desk, is_so: impl Fn(&Slot) -> bool) -> u64 {
-    desk.slots.iter().position(is_so).unwrap_or(LOCK_COUNT) as u64
+fn position(desk: &Desk, is_so: impl Fn(&Slot) -> bool) -> usize {
+    desk.slots.iter().position(is_so).unwrap_or(LOCK_COUNT)
+}
+
+/// Where a transaction's lock on a name stands, or how many slots there are.
+fn own_slot(desk: &Desk, holder: u16, name: Key) -> usize {
+    let is_it = |slot: &Slot| matches!(slot, Slot::Taken(lock) if lock.holder == holder && lock.name == name);
+    position(desk, is_it)
 }
 
 #[test]
@@ -70,7 +76,6 @@ fn every_field_of_a_desk_is_read() {
         for (slot, expected) in desk.slots.iter().enumerate() {
             assert_eq!(slot_at(&bytes, slot), Some(*expected));
         }
-        assert_eq!(doors::free_slot(&bytes), position(&desk, |slot| *slot == Slot::Free));
     }
 }
 
@@ -86,10 +91,9 @@ fn locks_are_found_where_the_model_has_them() {
         names.extend([Key::END, any_key(&mut random)]);
         for name in names {
             for holder in 1..=TRANSACTION_COUNT {
-                let is_it = |slot: &Slot| matches!(slot, Slot::Taken(lock) if lock.holder == holder && lock.name == name);
-                let expected = position(&desk, is_it);
-                assert_eq!(doors::find_lock(&bytes, holder, name.0), expected);
-                if expected < LOCK_COUNT as u64 { held += 1 } else { missing += 1 }
+                let expected = own_slot(&desk, holder, name);
+                assert_eq!(doors::find_lock(&bytes, holder, name.0), expected as u64);
+                if expected < LOCK_COUNT { held += 1 } else { missing += 1 }
             }
         }
     }
@@ -134,10 +138,12 @@ fn locks_are_taken_until_all_are_in_use_and_released() {
                 None if is_given => new += 1,
                 None => full += 1,
             }
+            let own = own_slot(&tables.desk, holder, name);
+            let free = position(&tables.desk, |slot| *slot == Slot::Free);
             if is_given {
                 tables.take_lock(holder, Target { name, mode });
             }
-            let taken = doors::take_lock(&mut desk, holder, name.0, mode_number(mode));
+            let taken = doors::take_at(&mut desk, own, free, holder, name.0, mode_number(mode));
             assert_eq!(taken, is_given.into());
             assert_eq!(desk, tables.desk.encode());
             if random.below(500) == 0 {
@@ -327,7 +333,7 @@ fn what_no_desk_has_changes_nothing() {
         let change = |d: &mut [u8]| {
             doors::join_queue(d, transaction, kind, 1, 2, 3)
                 || doors::put_ask(d, transaction, kind, 1, 2, 3)
-                || doors::take_lock(d, transaction, 1, mode) != REFUSED
+                || doors::take_at(d, 0, 0, transaction, 1, mode) != REFUSED
                 || (mode != 0 && doors::put_slot(d, 1, 1, 2, mode))
         };
         assert_eq!(lent(&mut random, &bytes, change), (false, bytes.clone()));
@@ -365,7 +371,6 @@ fn what_is_no_desk_is_refused() {
             doors::is_running(&bytes, 1),
             doors::is_waiting(&bytes, 1),
             doors::find_lock(&bytes, 1, 1),
-            doors::free_slot(&bytes),
         ] {
             assert_eq!(read, REFUSED);
         }
@@ -373,7 +378,7 @@ fn what_is_no_desk_is_refused() {
         assert_eq!(slot_at(&bytes, 0), None);
         let change = |d: &mut [u8]| {
             change_by_all(d, 0, 1, 5)
-                || doors::take_lock(d, 1, 1, 1) != REFUSED
+                || doors::take_at(d, 0, 0, 1, 1, 1) != REFUSED
                 || doors::release_locks(d, 1)
         };
         assert_eq!(lent(&mut random, &bytes, change), (false, bytes));

@@ -2,16 +2,14 @@
 -- Assumes nothing.
 use borrow.Author.Needs.{needs}
 use Rattle.acts.proofs.Tables.{whole-few}
-use Rattle.acts.proofs.Runs.{clear-place, clear-low, clear-high}
+use Rattle.acts.proofs.Runs.{clear-place, clear-high}
 use Rattle.acts.proofs.Deletes.{delete-missing, delete-there}
+use Rattle.acts.proofs.Next.{next-target, own-named, own-there}
 use Rattle.acts.proofs.deleting.run_delete.Statement.{statement}
 use Rattle.acts.proofs.deleting.run_delete.Tie as tie
 
 in-place-requires : tie.Need-in-place-requires
 in-place-requires c κs = search (needs, clear-place)
-
-target-of-requires : tie.Need-target-of-requires
-target-of-requires c κs = search (needs, clear-low)
 
 standing-requires : tie.Need-standing-requires
 standing-requires c κs = search needs
@@ -26,7 +24,7 @@ name-of-requires : tie.Need-name-of-requires
 name-of-requires c κs = search needs
 
 lock-and-leave-requires : tie.Need-lock-and-leave-requires
-lock-and-leave-requires c κs = (search needs, (search needs, (search (needs, whole-few), search (needs, clear-high))))
+lock-and-leave-requires c κs = (search needs, (search needs, (search (needs, whole-few), (search (needs, clear-high), (search (needs, own-named), search needs)))))
 
 unless-short-requires : tie.Need-unless-short-requires
 unless-short-requires c κs = search needs
@@ -34,33 +32,29 @@ unless-short-requires c κs = search needs
 same-length : tie.Need-same-length
 same-length c = search needs
 
-same-length-2 : tie.Need-same-length-2
-same-length-2 c = search needs
-
 returns : tie.Need-returns
-returns c = search delete-missing
+returns c = search (delete-missing, next-target)
 
 lock-and-leave-requires-2 : tie.Need-lock-and-leave-requires-2
-lock-and-leave-requires-2 c κs = (search needs, (search needs, (search (needs, whole-few), search (needs, clear-high))))
+lock-and-leave-requires-2 c κs = (search needs, (search needs, (search (needs, whole-few), (search (needs, clear-high), (search (needs, own-there), search needs)))))
 
 delete-there-requires : tie.Need-delete-there-requires
 delete-there-requires c κs = search needs
 
+same-length-2 : tie.Need-same-length-2
+same-length-2 c = search needs
+
 same-length-3 : tie.Need-same-length-3
 same-length-3 c = search needs
 
-same-length-4 : tie.Need-same-length-4
-same-length-4 c = search needs
-
 returns-2 : tie.Need-returns-2
-returns-2 c = search delete-there
+returns-2 c = search (delete-there, next-target)
 
 pub run-delete-spec : {M : Type 1} → statement M
 run-delete-spec =
     tie.close
     (tie.spec
     in-place-requires
-    target-of-requires
     standing-requires
     enum-known-there
     enum-told
@@ -68,10 +62,9 @@ run-delete-spec =
     lock-and-leave-requires
     unless-short-requires
     same-length
-    same-length-2
     returns
     lock-and-leave-requires-2
     delete-there-requires
+    same-length-2
     same-length-3
-    same-length-4
     returns-2)

@@ -7,11 +7,8 @@ use Rattle.acts.proofs.Missing.{locks-short}
 use Rattle.acts.proofs.inserting.insert_missing.Statement.{statement}
 use Rattle.acts.proofs.inserting.insert_missing.Tie as tie
 
-free-slot-requires : tie.Need-free-slot-requires
-free-slot-requires c κs = search needs
-
 put-missing-requires : tie.Need-put-missing-requires
-put-missing-requires c κs = (search needs, (search needs, (search needs, (search needs, search needs))))
+put-missing-requires c κs = (search needs, (search needs, (search needs, (search needs, (search needs, search needs)))))
 
 same-length : tie.Need-same-length
 same-length c = search needs
@@ -38,7 +35,6 @@ pub insert-missing-spec : {M : Type 1} → statement M
 insert-missing-spec =
     tie.close
     (tie.spec
-    free-slot-requires
     put-missing-requires
     same-length
     same-length-2

@@ -3,7 +3,7 @@
 use borrow.Author.Needs.{needs}
 use Rattle.acts.proofs.Tables.{whole-few}
 use Rattle.acts.proofs.Runs.{clear-place, clear-high}
-use Rattle.acts.proofs.Missing.{entry-fits, entry-missing, pages-short, put-in}
+use Rattle.acts.proofs.Missing.{entry-fits, entry-missing, none-own, pages-short, put-in}
 use Rattle.acts.proofs.inserting.put_missing.Statement.{statement}
 use Rattle.acts.proofs.inserting.put_missing.Tie as tie
 
@@ -17,7 +17,7 @@ add-requires : tie.Need-add-requires
 add-requires c κs = (search needs, (search (needs, entry-fits), search (needs, entry-missing)))
 
 lock-and-leave-requires : tie.Need-lock-and-leave-requires
-lock-and-leave-requires c κs = (search needs, (search needs, (search (needs, whole-few), search (needs, clear-high))))
+lock-and-leave-requires c κs = (search needs, (search needs, (search (needs, whole-few), (search (needs, clear-high), (search (needs, none-own), search needs)))))
 
 same-length : tie.Need-same-length
 same-length c = search needs

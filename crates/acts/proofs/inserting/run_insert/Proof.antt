@@ -2,16 +2,17 @@
 -- Assumes nothing.
 use borrow.Author.Needs.{needs}
 use Rattle.acts.proofs.Tables.{whole-few}
-use Rattle.acts.proofs.Runs.{clear-place, clear-low, clear-high}
+use Rattle.acts.proofs.Runs.{clear-place, clear-high}
 use Rattle.acts.proofs.Inserts.{insert-missing, insert-there}
+use Rattle.acts.proofs.Next.{next-target, own-there}
 use Rattle.acts.proofs.inserting.run_insert.Statement.{statement}
 use Rattle.acts.proofs.inserting.run_insert.Tie as tie
 
 in-place-requires : tie.Need-in-place-requires
 in-place-requires c κs = search (needs, clear-place)
 
-entry-of-requires : tie.Need-entry-of-requires
-entry-of-requires c κs = search (needs, clear-low)
+standing-requires : tie.Need-standing-requires
+standing-requires c κs = search needs
 
 enum-known-there : tie.Need-enum-known-there
 enum-known-there c = search needs
@@ -20,7 +21,7 @@ enum-told : tie.Need-enum-told
 enum-told c = search needs
 
 insert-missing-requires : tie.Need-insert-missing-requires
-insert-missing-requires c κs = (search needs, (search needs, (search needs, search (needs, insert-missing))))
+insert-missing-requires c κs = (search needs, (search needs, (search needs, (search (needs, insert-missing, next-target), search needs))))
 
 same-length : tie.Need-same-length
 same-length c = search needs
@@ -32,7 +33,7 @@ returns : tie.Need-returns
 returns c = search needs
 
 lock-and-leave-requires : tie.Need-lock-and-leave-requires
-lock-and-leave-requires c κs = (search needs, (search needs, (search (needs, whole-few), search (needs, clear-high))))
+lock-and-leave-requires c κs = (search needs, (search needs, (search (needs, whole-few), (search (needs, clear-high), (search (needs, own-there), search needs)))))
 
 insert-there-requires : tie.Need-insert-there-requires
 insert-there-requires c κs = search needs
@@ -44,14 +45,14 @@ same-length-4 : tie.Need-same-length-4
 same-length-4 c = search needs
 
 returns-2 : tie.Need-returns-2
-returns-2 c = search insert-there
+returns-2 c = search (insert-there, next-target)
 
 pub run-insert-spec : {M : Type 1} → statement M
 run-insert-spec =
     tie.close
     (tie.spec
     in-place-requires
-    entry-of-requires
+    standing-requires
     enum-known-there
     enum-told
     insert-missing-requires

@@ -1,12 +1,13 @@
 -- `acts::locking::lock_and_leave` meets its contract: the queue stands as it did when the lock has been taken.
 -- Assumes nothing.
 use borrow.Author.Needs.{needs}
+use Rattle.tables.proofs.Takes.{given-there}
 use Rattle.acts.proofs.Changes.{locked-inside, locked-few, locked-asker, locked-left}
 use Rattle.acts.proofs.locking.lock_and_leave.Statement.{statement}
 use Rattle.acts.proofs.locking.lock_and_leave.Tie as tie
 
-take-lock-requires : tie.Need-take-lock-requires
-take-lock-requires c κs = search needs
+take-at-requires : tie.Need-take-at-requires
+take-at-requires c κs = search needs
 
 leave-queue-requires : tie.Need-leave-queue-requires
 leave-queue-requires c κs = (search needs, (search (needs, locked-inside), (search (needs, locked-few), search (needs, locked-asker))))
@@ -15,8 +16,8 @@ same-length : tie.Need-same-length
 same-length c = search needs
 
 returns : tie.Need-returns
-returns c = (search (needs, locked-left), search needs)
+returns c = (search (needs, locked-left), search (needs, given-there))
 
 pub lock-and-leave-spec : {M : Type 1} → statement M
 lock-and-leave-spec =
-    tie.close (tie.spec take-lock-requires leave-queue-requires same-length returns)
+    tie.close (tie.spec take-at-requires leave-queue-requires same-length returns)

@@ -2,22 +2,20 @@
 -- Assumes nothing.
 use borrow.Author.Needs.{needs}
 use Rattle.acts.proofs.Tables.{whole-few}
-use Rattle.acts.proofs.Runs.{clear-place, clear-low, clear-high}
+use Rattle.acts.proofs.Runs.{clear-place, clear-high}
 use Rattle.acts.proofs.Looks.{read-ran}
+use Rattle.acts.proofs.Next.{next-target, own-named}
 use Rattle.acts.proofs.reading.run_read.Statement.{statement}
 use Rattle.acts.proofs.reading.run_read.Tie as tie
 
 in-place-requires : tie.Need-in-place-requires
 in-place-requires c κs = search (needs, clear-place)
 
-target-of-requires : tie.Need-target-of-requires
-target-of-requires c κs = search (needs, clear-low)
-
 name-of-requires : tie.Need-name-of-requires
 name-of-requires c κs = search needs
 
 lock-and-leave-requires : tie.Need-lock-and-leave-requires
-lock-and-leave-requires c κs = (search needs, (search needs, (search (needs, whole-few), search (needs, clear-high))))
+lock-and-leave-requires c κs = (search needs, (search needs, (search (needs, whole-few), (search (needs, clear-high), (search (needs, own-named), search needs)))))
 
 read-says-requires : tie.Need-read-says-requires
 read-says-requires c κs = search needs
@@ -29,14 +27,13 @@ same-length : tie.Need-same-length
 same-length c = search needs
 
 returns : tie.Need-returns
-returns c = search (needs, read-ran)
+returns c = search (needs, read-ran, next-target)
 
 pub run-read-spec : {M : Type 1} → statement M
 run-read-spec =
     tie.close
     (tie.spec
     in-place-requires
-    target-of-requires
     name-of-requires
     lock-and-leave-requires
     read-says-requires

@@ -16,19 +16,19 @@ enum-known-ask : tie.Need-enum-known-ask
 enum-known-ask c = search needs
 
 run-read-requires : tie.Need-run-read-requires
-run-read-requires c κs = (search needs, (search needs, search (needs, read-asked)))
+run-read-requires c κs = (search needs, (search needs, (search needs, search (needs, read-asked))))
 
 enum-known-ask-2 : tie.Need-enum-known-ask-2
 enum-known-ask-2 c = search needs
 
 run-insert-requires : tie.Need-run-insert-requires
-run-insert-requires c κs = (search needs, (search needs, search (needs, insert-asked)))
+run-insert-requires c κs = (search needs, (search needs, (search needs, search (needs, insert-asked))))
 
 enum-known-ask-3 : tie.Need-enum-known-ask-3
 enum-known-ask-3 c = search needs
 
 run-delete-requires : tie.Need-run-delete-requires
-run-delete-requires c κs = (search needs, (search needs, search (needs, delete-asked)))
+run-delete-requires c κs = (search needs, (search needs, (search needs, search (needs, delete-asked))))
 
 same-length : tie.Need-same-length
 same-length c = search needs
