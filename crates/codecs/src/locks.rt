@@ -61,14 +61,6 @@ pub extern "C" fn codec_put_slot(
     true
 }
 
-#[no_mangle]
-pub extern "C" fn codec_find_lock(d: &[u8], t: u16, name: u64) -> u64 {
-    if d.len() != 4672 {
-        return REFUSED;
-    }
-    tables::locks::find_lock(d, t, Key(name)) as u64
-}
-
 // 1 where the lock was taken, 0 where neither number is that of a slot.
 #[no_mangle]
 pub extern "C" fn codec_take_at(

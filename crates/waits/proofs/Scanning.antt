@@ -1,15 +1,15 @@
 -- A scan of the lock table, slot by slot: the first slot to pass a test, of those seen and one more, is the first of those seen, unless
 -- there is none. Assumes nothing.
-use Prim.Native.Nat.{ℕ, suc, _+_, _≤_, _<_}
+use Prim.Native.Nat.{ℕ, _+_, _≤_, _<_}
 use mathlib.Core.Path.{_≡_, refl, sym, ap, ap₂, subst, _∙_}
 use mathlib.Core.Bool.{Bool, true, false, cond, not, _&&_, _||_}
-use mathlib.Core.List.{List, [], _∷_, _++_}
+use mathlib.Core.List.{List, [], _∷_}
 use mathlib.Core.Option.{Option}
 use native.Mathlib.Omega.{arith}
-use lib.Dec.{eqb, eqb·zero-suc, eqb·suc-suc}
-use lib.ListN.{length}
+use lib.Dec.{eqb}
 use Rattle.lists.specs.Lists.{any, place, tab}
 use Rattle.lists.proofs.Tables.{tab-last, length-tab}
+use Rattle.lists.proofs.Scans.{place-last}
 use Rattle.lists.proofs.Tests.{any-append}
 use Rattle.lists.proofs.Elements.{in-any, in-tab}
 use Rattle.rules.specs.Kinds.{Name, Lock}
@@ -33,35 +33,14 @@ module _ (k i : ℕ) (b : Bool) where
   first-stays e = sym (ap (λ c. cond c (i + 1) k) e)
 
 module _ {A : Type 0} (p : A → Bool) where
-  place-last : (xs : List A) (x : A) → place p (xs ++ (x ∷ [])) ≡ firstTo (place p xs) (length xs) (p x)
-  unfolding place
-  place-last [] x = go (p x)
-    where
-      go : (b : Bool) → cond b 0 1 ≡ firstTo 0 0 b
-      go true = refl
-      go false = refl
-  place-last (y ∷ ys) x = go (p y) (place-last ys x)
-    where
-      on : (b : Bool) (k n : ℕ) → suc (cond b (n + 1) k) ≡ cond b (suc n + 1) (suc k)
-      on true k n = omega arith
-      on false k n = refl
-
-      go : (b : Bool) → place p (ys ++ (x ∷ [])) ≡ firstTo (place p ys) (length ys) (p x)
-          → cond b 0 (suc (place p (ys ++ (x ∷ [])))) ≡ firstTo (cond b 0 (suc (place p ys))) (suc (length ys)) (p x)
-      go true r = sym (ap (λ c. cond (c && not (p x)) (suc (length ys) + 1) 0) (eqb·zero-suc (length ys)))
-      go false r =
-          ap suc r
-          ∙ on (eqb (place p ys) (length ys) && not (p x)) (place p ys) (length ys)
-          ∙ sym (ap (λ c. cond (c && not (p x)) (suc (length ys) + 1) (suc (place p ys))) (eqb·suc-suc (place p ys) (length ys)))
-
   pub place-to : (f : ℕ → A) (i k : ℕ) (b : Bool) → b ≡ p (f i) → k ≡ place p (tab i 0 f) → firstTo k i b ≡ place p (tab (i + 1) 0 f)
   place-to f i k b h e =
       ap₂ (λ j c. firstTo j i c) e h
-      ∙ sym (ap (place p) (sym (tab-last i f)) ∙ place-last (tab i 0 f) (f i) ∙ ap (λ n. firstTo (place p (tab i 0 f)) n (p (f i))) (length-tab i 0 f))
+      ∙ sym (ap (place p) (sym (tab-last i f)) ∙ place-last p (tab i 0 f) (f i) ∙ ap (λ n. firstTo (place p (tab i 0 f)) n (p (f i))) (length-tab i 0 f))
 
-  pub place-none : (f : ℕ → A) → 0 ≡ place p (tab 0 0 f)
+  pub place-start : (f : ℕ → A) → 0 ≡ place p (tab 0 0 f)
   unfolding place tab
-  place-none f = refl
+  place-start f = refl
 
 -- ---- t's lock on what it wants, the free slots, and that none stands against it
 pub seen-next : (s : Seen) (i t k j : ℕ) (n : Name ℕ) (x : Slot) (b c : Bool) → b ≡ isSlotOf t n (bookSlot x) → k ≡ firstTo (s .own) i b
@@ -74,7 +53,7 @@ module _ (d : List ℕ) (t : ℕ) (w : K.Want book) where
 
   pub seen-start : SeenTo d t w 0 (record { own = 0; free = 0 })
   unfolding any tab
-  seen-start = record { clear = refl; own = place-none (isSlotOf t (w .name)) (slotAt d); free = place-none (λ x. not (isThere x)) (slotAt d) }
+  seen-start = record { clear = refl; own = place-start (isSlotOf t (w .name)) (slotAt d); free = place-start (λ x. not (isThere x)) (slotAt d) }
 
   module _ (i : ℕ) (x : Slot) (e : bookSlot x ≡ slotAt d i) (b : Bool) (a : b ≡ isSlotAgainst t (w .name) (w .mode) (bookSlot x)) where
     pub sight-against : b ≡ true → SightAt d t w i Against

@@ -33,7 +33,7 @@ use Rattle.waits.specs.Blocks.{ahead, WantAt, blockersAt, isRival, Holde
 use Rattle.waits.specs.Slots.{firstTo, collectedWith, Scanned}
 use Rattle.waits.proofs.Known.{whole-order}
 use Rattle.waits.proofs.Blocks.{paging, holds-by, blockers-are}
-use Rattle.waits.proofs.Scanning.{place-to, place-none}
+use Rattle.waits.proofs.Scanning.{place-to, place-start}
 
 -- ---- lists and sets
 module _ (m : ℕ) (us : List ℕ) (s : SetOf m us) where
@@ -102,7 +102,7 @@ module _ (t : ℕ) (w : K.Want book) where
 module _ (d : List ℕ) (t : ℕ) (w : K.Want book) where
   pub scan-start : Scanned d t w 0 (record { against = 0; own = 0 })
   unfolding tab K.holders K.inUse keep
-  scan-start = record { against = set-none; own = place-none (isSlotOf t (w .name)) (slotAt d) }
+  scan-start = record { against = set-none; own = place-start (isSlotOf t (w .name)) (slotAt d) }
 
   pub scan-turn : (i : ℕ) (c r : Collected) (x : Slot) → HoldersKnown d → i < locksMost → bookSlot x ≡ slotAt d i
       → r ≡ collectedWith c i t w (bookSlot x) → Scanned d t w i c → Scanned d t w (i + 1) r

@@ -1,7 +1,7 @@
 // All who block each queued request, as sets, and the newest request that lies on a circle. (Document 01, "Working the queue".)
 // What each request wants is noted.
 ghost use mathlib.Core.Path.{_≡_};
-ghost use Prim.Native.Nat.{_+_, _<_, _≤_};
+ghost use Prim.Native.Nat.{_+_, _<_};
 ghost use Rattle.rules.specs.Locks.{earlier};
 ghost use Rattle.tables.specs.Layout.{deskSize, locksMost, queued, queuedAt, bookSlot};
 ghost use Rattle.index.specs.Pictures.{entriesIn};

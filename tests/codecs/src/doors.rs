@@ -96,6 +96,5 @@ door!(clear_ask is codec_clear_ask(d: &mut [u8], t: u16,) -> bool);
 // The desk's locks.
 door!(slot_at is codec_slot_at(d: &[u8], i: usize, out: &mut [u8],) -> u64);
 door!(put_slot is codec_put_slot(d: &mut [u8], i: usize, name: u64, holder: u16, mode: u16,) -> bool);
-door!(find_lock is codec_find_lock(d: &[u8], t: u16, name: u64,) -> u64);
 door!(take_at is codec_take_at(d: &mut [u8], own: usize, free: usize, t: u16, name: u64, mode: u16,) -> u64);
 door!(release_locks is codec_release_locks(d: &mut [u8], t: u16,) -> bool);

@@ -79,27 +79,6 @@ fn every_field_of_a_desk_is_read() {
     }
 }
 
-/// Every lock that there is, and the names of all locks for all others.
-#[test]
-fn locks_are_found_where_the_model_has_them() {
-    let mut random = Random::new(72);
-    let (mut held, mut missing) = (0, 0);
-    for _ in 0..400 {
-        let Tables { desk, .. } = any_tables(&mut random);
-        let bytes = desk.encode();
-        let mut names: Vec<Key> = desk.locks().map(|lock| lock.name).take(12).collect();
-        names.extend([Key::END, any_key(&mut random)]);
-        for name in names {
-            for holder in 1..=TRANSACTION_COUNT {
-                let expected = own_slot(&desk, holder, name);
-                assert_eq!(doors::find_lock(&bytes, holder, name.0), expected as u64);
-                if expected < LOCK_COUNT { held += 1 } else { missing += 1 }
-            }
-        }
-    }
-    assert!(held > 1_000 && missing > 10_000, "{held} held, {missing} missing");
-}
-
 #[test]
 fn slots_are_written() {
     let mut random = Random::new(73);
@@ -370,7 +349,6 @@ fn what_is_no_desk_is_refused() {
             doors::place_in_queue(&bytes, 1),
             doors::is_running(&bytes, 1),
             doors::is_waiting(&bytes, 1),
-            doors::find_lock(&bytes, 1, 1),
         ] {
             assert_eq!(read, REFUSED);
         }
