@@ -3,11 +3,11 @@
 use Prim.Native.Nat.{ℕ, suc, _+_, _-_, _≤_, _<_}
 use mathlib.Core.Path.{_≡_, refl, sym, ap, _∙_}
 use mathlib.Core.Bool.{Bool, true, false, cond, _||_, true≢false, false≢true, _&&_, not}
-use mathlib.Core.List.{List, [], _∷_}
+use mathlib.Core.List.{List, [], _∷_, _++_}
 use native.Mathlib.Nat.{sub-zero}
 use native.Mathlib.Omega.{arith}
 use borrow.Author.Tests.{lt-ltb, not-false, not-true}
-use lib.Dec.{ltb, leb·suc-suc}
+use lib.Dec.{ltb, leb·suc-suc, eqb, eqb·zero-suc, eqb·suc-suc}
 use lib.ListN.{length, getD}
 use Rattle.lists.specs.Lists.{any, tab, place, all}
 use Rattle.lists.proofs.Tables.{tab-next, tab-done, all-done, all-next, any-done, any-next}
@@ -23,11 +23,8 @@ module _ {A : Type 0} (p : A → Bool) where
 
   -- ---- the loop
   module _ (n : ℕ) (f : ℕ → A) where
-    pub scan-start : place p (tab n 0 f) ≡ 0 + place p (tab n 0 f)
-    scan-start = omega arith
-
     pub scan-start-of : (m : ℕ) → m ≡ n → place p (tab n 0 f) ≡ 0 + place p (tab (m - 0) 0 f)
-    scan-start-of m e = rw (sub-zero, e) scan-start
+    scan-start-of m e = rw (sub-zero, e) (omega arith)
 
   module _ (n : ℕ) (f : ℕ → A) (whole : ℕ) where
     module _ (i : ℕ) (b : Bool) (q : b ≡ p (f i)) (h : i < n) (e : whole ≡ i + place p (tab (n - i) i f)) where
@@ -76,6 +73,32 @@ module _ {A : Type 0} (p : A → Bool) where
       go : (b : Bool) → (b || any p xs) ≡ false → (any p xs ≡ false → length xs ≡ place p xs) → suc (length xs) ≡ cond b 0 (suc (place p xs))
       go true e r = absurd (true≢false e)
       go false e r = ap suc (r e)
+
+  -- ---- with one element more: the place stays, unless there was none and the last does not pass either
+  pub place-last : (xs : List A) (x : A) → place p (xs ++ (x ∷ [])) ≡ cond (eqb (place p xs) (length xs) && not (p x)) (length xs + 1) (place p xs)
+  unfolding place
+  place-last [] x = go (p x)
+    where
+      go : (b : Bool) → _≡_ {A = ℕ} (cond b 0 1) (cond (not b) 1 0)
+      go true = refl
+      go false = refl
+  place-last (y ∷ ys) x = go (p y) (place-last ys x)
+    where
+      none : Bool
+      none = eqb (place p ys) (length ys) && not (p x)
+
+      on : (b : Bool) (k n : ℕ) → suc (cond b (n + 1) k) ≡ cond b (suc n + 1) (suc k)
+      on true k n = omega arith
+      on false k n = refl
+
+      go : (b : Bool) → place p (ys ++ (x ∷ [])) ≡ cond none (length ys + 1) (place p ys)
+          → cond b 0 (suc (place p (ys ++ (x ∷ []))))
+          ≡ cond (eqb (cond b 0 (suc (place p ys))) (suc (length ys)) && not (p x)) (suc (length ys) + 1) (cond b 0 (suc (place p ys)))
+      go true r = sym (ap (λ c. cond (c && not (p x)) (suc (length ys) + 1) 0) (eqb·zero-suc (length ys)))
+      go false r =
+          ap suc r
+          ∙ on none (place p ys) (length ys)
+          ∙ sym (ap (λ c. cond (c && not (p x)) (suc (length ys) + 1) (suc (place p ys))) (eqb·suc-suc (place p ys) (length ys)))
 
 -- ---- whether all pass, and whether one does
 module _ {A : Type 0} (p : A → Bool) (f : ℕ → A) (whole : Bool) (n i : ℕ) where

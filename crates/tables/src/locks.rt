@@ -1,11 +1,11 @@
-// The lock table: its slots read and written, a lock found, taken and released. (Document 01, "Locks".)
+// The lock table: its slots read and written, a lock taken, and those of a transaction released. (Document 01, "Locks".)
 ghost use mathlib.Core.Path.{_≡_};
 ghost use mathlib.Core.List.{[], _∷_};
 ghost use Prim.Native.Nat.{_+_, _*_, _<_};
 ghost use lib.ListN.{getD};
 ghost use Rattle.numbers.specs.Numbers.{numberAt, putFields, zeroAt};
 ghost use Rattle.tables.specs.Layout.{deskSize, locksMost, lockWidths, lockPlace, nameIn, slotAt, putSlot, bookMode, bookSlot};
-ghost use Rattle.tables.specs.Moves.{isSlotOf, heldIn, takenAt, givenAt, rowReleased, locksReleased};
+ghost use Rattle.tables.specs.Moves.{takenAt, givenAt, rowReleased, locksReleased};
 use crate::LOCKS;
 use crate::Lock;
 use crate::Mode;
@@ -131,30 +131,6 @@ pub fn put_slot(d: &mut [u8], i: usize, s: Slot)
             put_row(d, i, name, l.holder, mode.number());
         }
     }
-}
-
-// Whether slot i is t's lock on a name.
-fn is_lock_of(d: &[u8], i: usize, t: u16, name: Key) -> bool
-    requires { do ⌜ (← ⟦d.len()⟧) ≡ deskSize ⌝ }
-    requires { ⌜ i < locksMost ⌝ }
-    ensures { λ r. ⌜ r ≡ isSlotOf t (nameIn (name .0)) (slotAt (now (d .entry)) i) ⌝ }
-{
-    slot_at(d, i).is_of(t, name)
-}
-
-// The slot of t's lock on a name, or the number of slots where t has none.
-pub fn find_lock(d: &[u8], t: u16, name: Key) -> usize
-    requires { do ⌜ (← ⟦d.len()⟧) ≡ deskSize ⌝ }
-    ensures { λ r. ⌜ r ≡ heldIn (now (d .entry)) t (nameIn (name .0)) ⌝ }
-{
-    let mut i: usize = 0;
-    while i < LOCKS {
-        if is_lock_of(d, i, t, name) {
-            return i;
-        }
-        i += 1;
-    }
-    LOCKS
 }
 
 // Takes a lock for t: strengthens the one in slot `own`, or puts a new one into slot `free`. Where there is no such slot, each is the number

@@ -29,7 +29,11 @@ use Rattle.desks.specs.Whole.{Whole}
 use Rattle.waits.specs.declared.Place.{Place}
 use Rattle.waits.specs.declared.Place.the-variants.{At, Nowhere}
 use Rattle.waits.proofs.Known.{asker-high}
-use Rattle.waits.specs.Choices.{requestAt, requestOf, Inside, Chosen, OldestAt, NewestAt}
+use Rattle.waits.specs.declared.Next.{Next}
+use Rattle.waits.specs.declared.Turn.{Turn}
+use Rattle.waits.specs.declared.Turn.the-variants.{Runs, Nobody}
+use Rattle.waits.specs.Choices.{requestAt, requestOf, Inside, Chosen, NewestAt, Known, placeIn, KnownIn, OldestIs}
+use Rattle.waits.specs.Notes.{Noted, NotedIn}
 use Rattle.acts.specs.Acts as A
 use Rattle.acts.proofs.Places.{place-waits}
 use Rattle.acts.proofs.Moves.{way-says}
@@ -85,35 +89,45 @@ module _ (p d : List ℕ) (w : Whole p d) where
       go (inr (inr x)) = absurd (eqb-false b a (not-true (eqb b a) x) (sym same))
 
   -- ---- the oldest that isn't blocked
-  module _ (r : Place) (h : OldestAt p d r) where
-    pub oldest-clear : (q : ℕ) → r ≡ At q → A.Clear p d q
-    unfolding oldest
-    oldest-clear q e =
-        let v = chosen-is d (oldest book (stateOf p d)) r h q e in
-        let l = chosen-inside d (oldest book (stateOf p d)) r h q e in
-        record {
-          inside = l;
-          nobody =
-              sym (one-wait q l (v .0) (oldest-waits book (stateOf p d) (v .0) (v .1)) (v .2))
-              ∙ nil-is (v .0 .behind) (first-in (λ x. isNil (x .behind)) (waits book (stateOf p d)) (v .0) (v .1) .1);
-        }
+  module _ (r : Turn) (h : OldestIs p d r) where
+    module _ (x : Next) (e : r ≡ Runs x) where
+      pub next-known : Known p d x
+      next-known = subst (KnownIn p d) e (h .known)
 
-    pub turned-ran : (q : ℕ) → r ≡ At q → (p′ d′ : List ℕ) (a : Answer) → A.Ran p d p′ d′ q a → Turns p d p′ d′ (Said a)
-    unfolding turn A.ranAt
-    turned-ran q e p′ d′ a ran =
-        let s = stateOf p d in
-        let v = chosen-is d (oldest book s) r h q e in
-        record {
-          whole = ran .says .whole;
-          turned =
-              ap (served book s) (v .1)
-              ∙ ap (λ x. some (left book s x (run book s x))) (v .2)
-              ∙ ap₂ (λ x y. some (record { state = x; answer = y })) (sym (ran .says .state)) (sym (ran .answer));
-          still = tt;
-        }
+      picked : (v : Wait book) × (oldest book (stateOf p d) ≡ some v) × (v .request ≡ queuedAt d (x .place))
+      picked = chosen-is d (oldest book (stateOf p d)) (placeIn r) (h .chosen) (x .place) (ap placeIn e)
 
-    pub oldest-nobody : r ≡ Nowhere → oldest book (stateOf p d) ≡ none
-    oldest-nobody = chosen-none d (oldest book (stateOf p d)) r h
+      pub next-clear : A.Clear p d (x .place)
+      unfolding oldest
+      next-clear =
+          let v = picked in
+          let l = next-known .inside in
+          record {
+            inside = l;
+            nobody =
+                sym (one-wait (x .place) l (v .0) (oldest-waits book (stateOf p d) (v .0) (v .1)) (v .2))
+                ∙ nil-is (v .0 .behind) (first-in (λ y. isNil (y .behind)) (waits book (stateOf p d)) (v .0) (v .1) .1);
+          }
+
+      pub turned-ran : (p′ d′ : List ℕ) (a : Answer) → A.Ran p d p′ d′ (x .place) a → Turns p d p′ d′ (Said a)
+      unfolding turn A.ranAt
+      turned-ran p′ d′ a ran =
+          let s = stateOf p d in
+          let v = picked in
+          record {
+            whole = ran .says .whole;
+            turned =
+                ap (served book s) (v .1)
+                ∙ ap (λ y. some (left book s y (run book s y))) (v .2)
+                ∙ ap₂ (λ y z. some (record { state = y; answer = z })) (sym (ran .says .state)) (sym (ran .answer));
+            still = tt;
+          }
+
+    pub oldest-nobody : r ≡ Nobody → oldest book (stateOf p d) ≡ none
+    oldest-nobody e = chosen-none d (oldest book (stateOf p d)) (placeIn r) (h .chosen) (ap placeIn e)
+
+  pub nobody-noted : (r : Turn) (ns ms : List ℕ) → NotedIn p d ns ms r → r ≡ Nobody → Noted p d ns ms (queued d)
+  nobody-noted r ns ms k e = subst (NotedIn p d ns ms) e k
 
   -- ---- none of them; the newest on a circle
   module _ (nobody : oldest book (stateOf p d) ≡ none) (l : Place) (k : NewestAt p d l) where

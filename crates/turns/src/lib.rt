@@ -7,11 +7,13 @@ ghost use Rattle.rules.specs.Queue.{oldest};
 ghost use Rattle.tables.specs.Layout.{queued};
 ghost use Rattle.desks.specs.States.{book, stateOf};
 ghost use Rattle.desks.specs.Whole.{Whole};
+ghost use Rattle.waits.specs.Notes.{Noted};
 ghost use Rattle.turns.specs.Working.{GaveWay, Turns, Wrote, workedOf};
 use entries::Answer;
 use entries::Says;
 use tables::queue;
 use waits::Place;
+use waits::Turn;
 
 // What a turn of the queue brought: an answer, or the desk is at rest.
 pub enum Turned {
@@ -33,29 +35,32 @@ fn give_way(pages: &[u8], desk: &mut [u8], q: usize) -> Answer
     }
 }
 
-// A turn where nobody can run: the newest request that lies on a circle gives way, or the desk is at rest.
-fn circle_turn(pages: &[u8], desk: &mut [u8]) -> Turned
+// A turn where nobody can run, and what each request wants is noted: the newest that lies on a circle gives way, or the desk is at rest.
+fn circle_turn(pages: &[u8], desk: &mut [u8], names: &[u64], modes: &[u16]) -> Turned
     requires { ⌜ Whole (now pages) (now desk) ⌝ }
     requires { ⌜ oldest book (stateOf (now pages) (now desk)) ≡ none ⌝ }
+    requires { ⌜ Noted (now pages) (now desk) (now names) (now modes) (queued (now desk)) ⌝ }
     ensures { λ r. ⌜ Turns (now (pages .entry)) (now (desk .entry)) (now (pages .entry)) (now (desk .exit)) r ⌝ }
 {
-    let newest = waits::newest_on_circle(pages, desk);
+    let newest = waits::newest_on_circle(pages, desk, names, modes);
     let Place::At(q) = newest else {
         return Turned::Rest;
     };
     Turned::Said(give_way(pages, desk, q))
 }
 
-// One turn: the oldest request that nobody blocks runs; where each is blocked, a circle is looked for.
+// One turn: the oldest request that nobody blocks runs; where each is blocked, a circle is looked for. What each wants is searched for once.
 fn turn(pages: &mut [u8], desk: &mut [u8]) -> Turned
     requires { ⌜ Whole (now pages) (now desk) ⌝ }
     ensures { λ r. ⌜ Turns (now (pages .entry)) (now (desk .entry)) (now (pages .exit)) (now (desk .exit)) r ⌝ }
 {
-    let oldest = waits::oldest(pages, desk);
-    let Place::At(q) = oldest else {
-        return circle_turn(pages, desk);
+    let mut names: [u64; 16] = [0; 16];
+    let mut modes: [u16; 16] = [0; 16];
+    let oldest = waits::oldest(pages, desk, &mut names, &mut modes);
+    let Turn::Runs(next) = oldest else {
+        return circle_turn(pages, desk, &names, &modes);
     };
-    Turned::Said(acts::run_at(pages, desk, q))
+    Turned::Said(acts::run_at(pages, desk, next))
 }
 
 // Works the queue to rest. The answers are written one after the other from a place on; it gives the place where they end.

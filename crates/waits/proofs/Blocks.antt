@@ -4,18 +4,16 @@ use Prim.Native.Nat.{ℕ, _-_, _≤_, _<_, compare}
 use mathlib.Core.Path.{_≡_, refl, sym, ap, ap₂, _∙_}
 use mathlib.Core.Bool.{Bool, true, false, cond, not, _&&_}
 use mathlib.Core.List.{List, [], _++_}
-use mathlib.Core.Option.{Option}
 use native.Mathlib.Nat.{sub-zero}
 use borrow.Author.Tests.{lt-ltb, le-ltb}
 use lib.Dec.{eqb, ltb}
 use Rattle.lists.specs.Lists.{any, isNil, tab}
 use Rattle.lists.proofs.Tests.{nil-append, nil-kept}
-use Rattle.rules.specs.Kinds.{Name, Mode, Lock, Paging}
+use Rattle.rules.specs.Kinds.{Name, Paging}
 use Rattle.rules.specs.Locks as K
 use Rattle.trees.specs.Trees.{documentSizes}
 use Rattle.trees.specs.Shapes.{treePaging}
-use Rattle.tables.specs.declared.Slot.{Slot}
-use Rattle.tables.specs.Layout.{locksMost, inPlace, queuedAt, slotAt, slotsOf, nameIn, bookMode, bookSlot}
+use Rattle.tables.specs.Layout.{locksMost, queuedAt, slotsOf, bookMode}
 use Rattle.tables.specs.Moves.{isSlotAgainst, heldIn}
 use Rattle.tables.proofs.Values.{same-name}
 use Rattle.tables.proofs.Holders.{holders-none}
@@ -23,45 +21,47 @@ use Rattle.tables.proofs.Takes.{holds-is}
 use Rattle.index.specs.Pictures.{entriesIn}
 use Rattle.desks.specs.States.{book}
 use Rattle.waits.specs.declared.Want.{Want}
+use Rattle.waits.specs.declared.Seen.{Seen}
 use Rattle.waits.specs.Choices.{bookWant}
-use Rattle.waits.specs.Blocks.{ahead, blockersAt, isRival, isBehind}
+use Rattle.waits.specs.Blocks.{ahead, WantAt, blockersAt, isRival, isBehind}
+use Rattle.waits.specs.Slots.{SeenTo}
+use Rattle.waits.proofs.Scanning.{seen-own}
 
 abbrev pub paging : Paging ℕ
 paging = treePaging compare 0 documentSizes
 
-pub slots-start : (p : Option (Lock ℕ) → Bool) (d : List ℕ) → any p (slotsOf d) ≡ any p (tab (locksMost - 0) 0 (slotAt d))
-unfolding slotsOf
-slots-start p d = refl
+-- ---- one want, and one request, against another
+pub clash-at : (v w : Want) (b c : Bool) → b ≡ eqb (v .name .0) (w .name .0) → c ≡ K.conflict (bookMode (v .mode)) (bookMode (w .mode))
+    → (not (eqb (v .asker) (w .asker)) && (b && c)) ≡ (not (eqb (v .asker) (w .asker)) && K.clash book (bookWant v) (bookWant w))
+clash-at v w b c x y = ap₂ (λ u z. not (eqb (v .asker) (w .asker)) && (u && z)) (x ∙ sym (same-name paging (v .name .0) (w .name .0))) y
 
--- ---- one lock, and one request, against another
-pub against-at : (d : List ℕ) (i t : ℕ) (n : Name ℕ) (m : Mode) (s : Slot) (b : Bool) → bookSlot s ≡ slotAt d i → b ≡ isSlotAgainst t n m (bookSlot s)
-    → b ≡ isSlotAgainst t n m (slotAt d i)
-against-at d i t n m s b e h = h ∙ ap (isSlotAgainst t n m) e
-
-pub rival-at : (p d : List ℕ) (i t u : ℕ) (v w : Want) (b c : Bool) → u ≡ inPlace d i → bookWant v ≡ K.wanted book (entriesIn p) (queuedAt d i)
-    → b ≡ eqb (v .name .0) (w .name .0) → c ≡ K.conflict (bookMode (v .mode)) (bookMode (w .mode))
-    → (not (eqb u t) && (b && c)) ≡ isRival p t (bookWant w) (queuedAt d i)
+pub rival-at : (p d : List ℕ) (i : ℕ) (v w : Want) (b : Bool) → WantAt p d i v
+    → b ≡ (not (eqb (v .asker) (w .asker)) && K.clash book (bookWant v) (bookWant w)) → b ≡ isRival p (w .asker) (bookWant w) (queuedAt d i)
 unfolding queuedAt
-rival-at p d i t u v w b c e h x y =
-    ap₂ (λ a z. not (eqb a t) && z) e
-    (ap₂ _&&_ (x ∙ sym (same-name paging (v .name .0) (w .name .0))) y ∙ ap (λ z. K.clash book z (bookWant w)) h)
+rival-at p d i v w b k x =
+    x ∙ ap₂ (λ a z. not (eqb a (w .asker)) && z) (k .asker) (ap (λ z. K.clash book z (bookWant w)) (k .want))
 
 -- ---- behind another's: where t holds no lock on what it wants, a scan of those ahead
-module _ (p d : List ℕ) (q t : ℕ) (w : Want) (k : ℕ) (e : k ≡ heldIn d t (nameIn (w .name .0))) where
-  pub holds-by : K.holds book (slotsOf d) t (nameIn (w .name .0)) ≡ ltb k locksMost
-  holds-by = holds-is paging d t (nameIn (w .name .0)) ∙ ap (λ x. ltb x locksMost) (sym e)
+pub holds-by : (d : List ℕ) (t k : ℕ) (n : Name ℕ) → k ≡ heldIn d t n → K.holds book (slotsOf d) t n ≡ ltb k locksMost
+holds-by d t k n e = holds-is paging d t n ∙ ap (λ x. ltb x locksMost) (sym e)
 
-  pub behind-held : k < locksMost → false ≡ isBehind p d q t (bookWant w)
+module _ (p d : List ℕ) (q t : ℕ) (w : K.Want book) (s : Seen) (z : SeenTo d t w locksMost s) where
+  holds-seen : K.holds book (slotsOf d) t (w .name) ≡ ltb (s .own) locksMost
+  holds-seen = holds-by d t (s .own) (w .name) (seen-own d t w s z)
+
+  pub behind-held : s .own < locksMost → false ≡ isBehind p d q t w
   unfolding isBehind
-  behind-held h = sym (ap (λ b. not b && any (isRival p t (bookWant w)) (ahead d q)) (holds-by ∙ lt-ltb k locksMost h))
+  behind-held h = sym (ap (λ b. not b && any (isRival p t w) (ahead d q)) (holds-seen ∙ lt-ltb (s .own) locksMost h))
 
-  pub behind-start : locksMost ≤ k → isBehind p d q t (bookWant w) ≡ any (isRival p t (bookWant w)) (tab (q - 0) 0 (queuedAt d))
+  pub behind-start : locksMost ≤ s .own → isBehind p d q t w ≡ any (isRival p t w) (tab (q - 0) 0 (queuedAt d))
   unfolding isBehind ahead
-  behind-start h =
-      rw sub-zero (ap (λ b. not b && any (isRival p t (bookWant w)) (tab q 0 (queuedAt d))) (holds-by ∙ le-ltb k locksMost h))
+  behind-start h = rw sub-zero (ap (λ b. not b && any (isRival p t w) (tab q 0 (queuedAt d))) (holds-seen ∙ le-ltb (s .own) locksMost h))
 
 -- ---- the request at a place, with what it wants
-module _ (p d : List ℕ) (q t : ℕ) (w : Want) (a : t ≡ inPlace d q) (e : bookWant w ≡ K.wanted book (entriesIn p) (queuedAt d q)) where
+module _ (p d : List ℕ) (q : ℕ) (w : Want) (k : WantAt p d q w) where
+  abbrev t : ℕ
+  t = w .asker
+
   abbrev holding : List ℕ
   holding = K.holders book (slotsOf d) t (bookWant w)
 
@@ -72,7 +72,7 @@ module _ (p d : List ℕ) (q t : ℕ) (w : Want) (a : t ≡ inPlace d q) (e : bo
   unfolding blockersAt K.blockers queuedAt
   blockers-are =
       ap₂ (λ u v. K.holders book (slotsOf d) u v ++ cond (K.holds book (slotsOf d) u (v .name)) [] (K.earlier book (entriesIn p) (ahead d q) u v))
-      (sym a) (sym e)
+      (sym (k .asker)) (sym (k .want))
 
   abbrev isHeld : Bool
   isHeld = any (isSlotAgainst t (bookWant w .name) (bookWant w .mode)) (slotsOf d)

@@ -60,8 +60,11 @@ module _ (p d : List ℕ) (w : Whole p d) where
   pub whole-holders : HoldersKnown d
   whole-holders =
       record {
-        low = λ i l h e. leb-true 1 (l .holder) (and-left (leb 1 (l .holder)) (leb (l .holder) transactionsMost) (holder-known i l h e));
-        high = λ i l h e. leb-true (l .holder) transactionsMost (and-right (leb 1 (l .holder)) (leb (l .holder) transactionsMost) (holder-known i l h e));
+        each = λ i h.
+            record {
+              low = λ l e. leb-true 1 (l .holder) (and-left (leb 1 (l .holder)) (leb (l .holder) transactionsMost) (holder-known i l h e));
+              high = λ l e. leb-true (l .holder) transactionsMost (and-right (leb 1 (l .holder)) (leb (l .holder) transactionsMost) (holder-known i l h e));
+            };
       }
 
   module _ (q : ℕ) (h : q < queued d) where

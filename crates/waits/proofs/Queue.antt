@@ -1,7 +1,7 @@
 -- The oldest request that nobody blocks, place by place: what is chosen from the whole queue is chosen from the places that are left.
 -- A place is passed where its request is blocked, and chosen where it isn't. Assumes nothing.
 use Prim.Native.Nat.{ℕ, _+_, _-_, _≤_, _<_}
-use mathlib.Core.Path.{_≡_, refl, sym, ap, _∙_}
+use mathlib.Core.Path.{_≡_, refl, sym, ap, ap₂, subst, _∙_}
 use mathlib.Core.Bool.{Bool, true, false, cond}
 use mathlib.Core.List.{List, [], _∷_, _++_}
 use mathlib.Core.Option.{Option, none, some}
@@ -9,20 +9,27 @@ use native.Mathlib.Nat.{sub-zero}
 use native.Mathlib.Omega.{arith}
 use Rattle.lists.specs.Lists.{any, first, isNil, tab}
 use Rattle.lists.proofs.Tables.{tab-next, tab-done, tab-last}
-use Rattle.lists.proofs.Scans.{any-hit, any-end}
-use Rattle.rules.specs.Kinds.{Entry, Lock}
+use Rattle.rules.specs.Kinds.{Entry}
 use Rattle.rules.specs.Locks as K
 use Rattle.rules.specs.Queue.{Wait, waitsFrom, waits, oldest}
-use Rattle.tables.specs.Layout.{locksMost, queued, inPlace, queuedAt, queueOf, slotAt, slotsOf}
-use Rattle.tables.specs.Moves.{isSlotAgainst}
+use Rattle.tables.specs.Layout.{locksMost, queued, queuedAt, queueOf, slotsOf}
+use Rattle.tables.specs.Moves.{isSlotAgainst, heldIn}
 use Rattle.index.specs.Pictures.{entriesIn}
 use Rattle.desks.specs.States.{book, stateOf}
 use Rattle.waits.specs.declared.Want.{Want}
-use Rattle.waits.specs.declared.Place.{Place}
-use Rattle.waits.specs.declared.Place.the-variants.{At, Nowhere}
-use Rattle.waits.specs.Choices.{bookWant, Chosen}
+use Rattle.waits.specs.declared.Looked.{Looked}
+use Rattle.waits.specs.declared.Seen.{Seen}
+use Rattle.waits.specs.declared.Sight.{Sight}
+use Rattle.waits.specs.declared.Sight.the-variants.{Against}
+use Rattle.waits.specs.declared.Next.{Next}
+use Rattle.waits.specs.declared.Turn.{Turn}
+use Rattle.waits.specs.declared.Turn.the-variants.{Runs, Nobody}
+use Rattle.waits.specs.Choices.{bookWant, OldestIs}
 use Rattle.waits.specs.Blocks.{ahead, blockersAt, isBehind}
+use Rattle.waits.specs.Notes.{LookedAt, RunsAt, TurnAt}
+use Rattle.waits.specs.Slots.{SeenTo, SightAt}
 use Rattle.waits.proofs.Blocks.{blocked-held, blocked-behind, blocked-not}
+use Rattle.waits.proofs.Scanning.{seen-against, seen-clear, seen-own, seen-free}
 
 -- the request at a place, with all who block it
 abbrev pub waitAt : List ℕ → List ℕ → ℕ → Wait book
@@ -63,38 +70,55 @@ module _ (p d : List ℕ) where
 
   -- ---- the code's turns
   module _ (n q : ℕ) (e : n ≡ queued d) (o : oldest book (stateOf p d) ≡ oldestFrom p d q) where
-    pub turn-left : (found : Place) → n ≤ q → found ≡ Nowhere → Chosen d (oldest book (stateOf p d)) found
-    turn-left found h f = rw (f, o, oldest-end q (omega arith)) (record { inside = tt; request = refl })
+    pub turn-left : (turn : Turn) → n ≤ q → turn ≡ Nobody → OldestIs p d turn
+    turn-left turn h f = rw f (record { chosen = rw (o, oldest-end q (omega arith)) (record { inside = tt; request = refl }); known = tt })
 
-    module _ (h : q < n) (q′ : ℕ) (s : q′ ≡ q) where
-      passed : isNil (blockersAt p d q) ≡ false → oldest book (stateOf p d) ≡ oldestFrom p d (q′ + 1)
-      passed b =
-          o ∙ oldest-next q (omega arith) ∙ ap (λ x. cond x (some (waitAt p d q)) (oldestFrom p d (q + 1))) b ∙ ap (λ k. oldestFrom p d (k + 1)) (sym s)
+    module _ (h : q < n) where
+      passed : isNil (blockersAt p d q) ≡ false → oldest book (stateOf p d) ≡ oldestFrom p d (q + 1)
+      passed b = o ∙ oldest-next q (omega arith) ∙ ap (λ x. cond x (some (waitAt p d q)) (oldestFrom p d (q + 1))) b
 
-      chosen : isNil (blockersAt p d q) ≡ true → oldest book (stateOf p d) ≡ some (waitAt p d q)
-      chosen b = o ∙ oldest-next q (omega arith) ∙ ap (λ x. cond x (some (waitAt p d q)) (oldestFrom p d (q + 1))) b
+      picked : isNil (blockersAt p d q) ≡ true → oldest book (stateOf p d) ≡ some (waitAt p d q)
+      picked b = o ∙ oldest-next q (omega arith) ∙ ap (λ x. cond x (some (waitAt p d q)) (oldestFrom p d (q + 1))) b
 
-      module _ (t : ℕ) (w : Want) (a : t ≡ inPlace d q) (v : bookWant w ≡ K.wanted book (entriesIn p) (queuedAt d q)) (i : ℕ)
-          (r : any (isSlotAgainst t (bookWant w .name) (bookWant w .mode)) (slotsOf d)
-          ≡ any (isSlotAgainst t (bookWant w .name) (bookWant w .mode)) (tab (locksMost - i) i (slotAt d))) where
-        abbrev against : Option (Lock ℕ) → Bool
-        against = isSlotAgainst t (bookWant w .name) (bookWant w .mode)
+      pub turn-held : (ns ms : List ℕ) (g : Looked) (i : ℕ) (x : Sight) → LookedAt p d ns ms q g → i < locksMost
+          → SightAt d (g .want .asker) (bookWant (g .want)) i x → x ≡ Against → oldest book (stateOf p d) ≡ oldestFrom p d (q + 1)
+      turn-held ns ms g i x k l u v =
+          passed (blocked-held p d q (g .want) (k .want) (seen-against d (g .want .asker) (bookWant (g .want)) i x l u v))
 
-        pub turn-held : (b : Bool) → i < locksMost → b ≡ isSlotAgainst t (bookWant w .name) (bookWant w .mode) (slotAt d i) → b ≡ true
-            → oldest book (stateOf p d) ≡ oldestFrom p d (q′ + 1)
-        turn-held b l x y =
-            passed (blocked-held p d q t w a v (sym (any-hit against (slotAt d) (any against (slotsOf d)) locksMost i b r l x y)))
+      module _ (turn : Turn) (k : TurnAt p d q turn) where
+        pub turn-passed : turn ≡ Nobody → oldest book (stateOf p d) ≡ oldestFrom p d (q + 1)
+        turn-passed f = passed (subst (TurnAt p d q) f k)
 
-        module _ (l : locksMost ≤ i) (b : Bool) (x : b ≡ isBehind p d q′ t (bookWant w)) where
-          none-against : any against (slotsOf d) ≡ false
-          none-against = sym (any-end against (slotAt d) (any against (slotsOf d)) locksMost i r l)
+        pub turn-chosen : (x : Next) → turn ≡ Runs x → OldestIs p d turn
+        turn-chosen x f =
+            let r : RunsAt p d q x = subst (TurnAt p d q) f k in
+            let l : x .place < queued d = r .known .inside in
+            rw f (record { chosen = rw (picked (r .nobody)) (record { inside = l; request = ap (λ j. some (queuedAt d j)) (r .place) }); known = r .known })
 
-          behind-is : isBehind p d q t (bookWant w) ≡ b
-          behind-is = ap (λ k. isBehind p d k t (bookWant w)) (sym s) ∙ sym x
+  -- ---- the turn of the request at a place
+  module _ (ns ms : List ℕ) (q : ℕ) (g : Looked) (k : LookedAt p d ns ms q g) (s : Seen)
+      (z : SeenTo d (g .want .asker) (bookWant (g .want)) locksMost s) (b : Bool) (x : b ≡ isBehind p d q (g .want .asker) (bookWant (g .want))) where
+    abbrev w : Want
+    w = g .want
 
-          pub turn-behind : b ≡ true → oldest book (stateOf p d) ≡ oldestFrom p d (q′ + 1)
-          turn-behind y = passed (blocked-behind p d q t w a v none-against (behind-is ∙ y))
+    clear : any (isSlotAgainst (w .asker) (bookWant w .name) (bookWant w .mode)) (slotsOf d) ≡ false
+    clear = seen-clear d (w .asker) (bookWant w) s z
 
-          pub turn-free : b ≡ false → Chosen d (oldest book (stateOf p d)) (At q′)
-          turn-free y =
-              rw (s, chosen (blocked-not p d q t w a v none-against (behind-is ∙ y))) (record { inside = omega arith; request = refl })
+    pub turn-behind : b ≡ true → TurnAt p d q Nobody
+    turn-behind y = blocked-behind p d q w (k .want) clear (sym x ∙ y)
+
+    pub turn-free : q < queued d → b ≡ false → TurnAt p d q (Runs (record { place = q; target = g .target; own = s .own; free = s .free }))
+    unfolding K.wanted queuedAt
+    turn-free h y =
+        record {
+          place = refl;
+          nobody = blocked-not p d q w (k .want) clear (sym x ∙ y);
+          known = record {
+            inside = h;
+            target = k .target;
+            own =
+                seen-own d (w .asker) (bookWant w) s z
+                ∙ ap₂ (heldIn d) (k .want .asker) (ap (λ (u : K.Want book). u .name) (k .want .want) ∙ ap (K.named book) (sym (k .target)));
+            free = seen-free d (w .asker) (bookWant w) s z;
+          };
+        }

@@ -1,7 +1,7 @@
 -- All who block a request as a set: the holders a slot at a time, the earlier ones a place at a time, and both together.
 -- Who is collected so far are the rule book's blockers of the slots, or of the places, that are passed. Assumes nothing.
 use Prim.Native.Nat.{ℕ, _+_, _≤_, _<_}
-use mathlib.Core.Path.{_≡_, refl, sym, ap, subst, _∙_}
+use mathlib.Core.Path.{_≡_, refl, sym, ap, ap₂, subst, _∙_}
 use mathlib.Core.Bool.{Bool, true, false, cond, false≢true, _||_}
 use mathlib.Core.List.{List, [], _∷_, _++_, map, append-nil}
 use mathlib.Core.Option.{Option, none, some}
@@ -15,11 +15,9 @@ use Rattle.lists.proofs.Joins.{map-append}
 use Rattle.lists.proofs.Tables.{tab-last}
 use Rattle.rules.specs.Kinds.{Name, Mode, Lock, Queued}
 use Rattle.rules.specs.Locks as K
-use Rattle.tables.specs.declared.Lock as L
 use Rattle.tables.specs.declared.Slot.{Slot}
-use Rattle.tables.specs.declared.Slot.the-variants.{Free, Held}
-use Rattle.tables.specs.Layout.{transactionsMost, locksMost, queued, inPlace, queuedAt, slotAt, slotsOf, nameIn, bookSlot}
-use Rattle.tables.specs.Moves.{isSlotAgainst, heldIn}
+use Rattle.tables.specs.Layout.{transactionsMost, locksMost, queued, inPlace, queuedAt, slotAt, slotsOf, bookSlot}
+use Rattle.tables.specs.Moves.{isSlotOf, isSlotAgainst, heldIn}
 use Rattle.tables.proofs.Holders as H
 use Rattle.index.specs.Pictures.{entriesIn}
 use Rattle.desks.specs.States.{book}
@@ -29,10 +27,13 @@ use Rattle.circles.specs.Search.{withOne}
 use Rattle.circles.proofs.Bits.{has-union}
 use Rattle.circles.proofs.Collected.{set-none, with-last}
 use Rattle.waits.specs.declared.Want.{Want}
+use Rattle.waits.specs.declared.Collected.{Collected}
 use Rattle.waits.specs.Choices.{bookWant}
-use Rattle.waits.specs.Blocks.{ahead, blockersAt, isRival, HoldersKnown, holderOf, withHolder, withRival}
+use Rattle.waits.specs.Blocks.{ahead, WantAt, blockersAt, isRival, HolderKnown, HoldersKnown, holderOf, withHolder, withRival}
+use Rattle.waits.specs.Slots.{firstTo, collectedWith, Scanned}
 use Rattle.waits.proofs.Known.{whole-order}
 use Rattle.waits.proofs.Blocks.{paging, holds-by, blockers-are}
+use Rattle.waits.proofs.Scanning.{place-to, place-start}
 
 -- ---- lists and sets
 module _ (m : ℕ) (us : List ℕ) (s : SetOf m us) where
@@ -52,30 +53,27 @@ module _ (m : ℕ) (us : List ℕ) (s : SetOf m us) where
   set-more false t h = subst (SetOf m) (sym (append-nil us)) s
 
 -- ---- the holders, slot by slot
-pub holder-free : (d : List ℕ) (i : ℕ) (slot : Slot) → bookSlot slot ≡ slotAt d i → slot ≡ Free → 0 ≡ holderOf (slotAt d i)
-holder-free d i slot e f = rw (← e, f)
+module _ (t : ℕ) (w : K.Want book) (x : Option (Lock ℕ)) (b : Bool) (a : b ≡ isSlotAgainst t (w .name) (w .mode) x) where
+  pub slot-against : (m r u : ℕ) → b ≡ true → u ≡ holderOf x → r ≡ withOne m u → r ≡ withHolder m t w x
+  slot-against m r u y e q = q ∙ ap (withOne m) e ∙ sym (ap (λ z. cond z (withOne m (holderOf x)) m) (sym a ∙ y))
 
-pub holder-held : (d : List ℕ) (i : ℕ) (slot : Slot) (l : L.Lock) → bookSlot slot ≡ slotAt d i → slot ≡ Held l → l .holder ≡ holderOf (slotAt d i)
-holder-held d i slot l e f = rw (← e, f)
+  pub slot-not : (m : ℕ) → b ≡ false → m ≡ withHolder m t w x
+  slot-not m y = sym (ap (λ z. cond z (withOne m (holderOf x)) m) (sym a ∙ y))
 
-module _ (d : List ℕ) (i t : ℕ) (w : K.Want book) (b : Bool) (a : b ≡ isSlotAgainst t (w .name) (w .mode) (slotAt d i)) where
-  pub slot-against : (m r u : ℕ) → b ≡ true → u ≡ holderOf (slotAt d i) → r ≡ withOne m u → r ≡ withHolder m t w (slotAt d i)
-  slot-against m r u y e q = q ∙ ap (withOne m) e ∙ sym (ap (λ x. cond x (withOne m (holderOf (slotAt d i))) m) (sym a ∙ y))
-
-  pub slot-not : (m : ℕ) → b ≡ false → m ≡ withHolder m t w (slotAt d i)
-  slot-not m y = sym (ap (λ x. cond x (withOne m (holderOf (slotAt d i))) m) (sym a ∙ y))
-
-module _ (d : List ℕ) (i t : ℕ) (n : Name ℕ) (m : Mode) (k : HoldersKnown d) (h : i < locksMost) where
-  held : (x : Option (Lock ℕ)) → slotAt d i ≡ x → isSlotAgainst t n m x ≡ true → (1 ≤ holderOf x) × (holderOf x ≤ transactionsMost)
+module _ (t : ℕ) (n : Name ℕ) (m : Mode) (x : Option (Lock ℕ)) (k : HolderKnown x) where
+  held : (y : Option (Lock ℕ)) → x ≡ y → isSlotAgainst t n m y ≡ true → (1 ≤ holderOf y) × (holderOf y ≤ transactionsMost)
   held none q z = absurd (false≢true z)
-  held (some l) q z = (k .low i l h q, k .high i l h q)
+  held (some l) q z = (k .low l q, k .high l q)
 
-  module _ (b : Bool) (a : b ≡ isSlotAgainst t n m (slotAt d i)) (y : b ≡ true) (u : ℕ) (e : u ≡ holderOf (slotAt d i)) where
+  module _ (b : Bool) (a : b ≡ isSlotAgainst t n m x) (y : b ≡ true) (u : ℕ) (e : u ≡ holderOf x) where
     pub holder-low : 1 ≤ u
-    holder-low = omega (arith, held (slotAt d i) refl (sym a ∙ y) .0)
+    holder-low = omega (arith, held x refl (sym a ∙ y) .0)
 
     pub holder-fits : u ≤ 64
-    holder-fits = omega (arith, held (slotAt d i) refl (sym a ∙ y) .1)
+    holder-fits = omega (arith, held x refl (sym a ∙ y) .1)
+
+pub holder-at : (d : List ℕ) (i : ℕ) (slot : Slot) → HoldersKnown d → i < locksMost → bookSlot slot ≡ slotAt d i → HolderKnown (bookSlot slot)
+holder-at d i slot k h e = subst HolderKnown (sym e) (k .each i h)
 
 module _ (t : ℕ) (w : K.Want book) where
   abbrev holding : List (Option (Lock ℕ)) → List ℕ
@@ -101,22 +99,30 @@ module _ (t : ℕ) (w : K.Want book) where
   set-slot m us s (some l) h =
       rw (H.holders-next paging t w (some l) []) (set-more m us s (isSlotAgainst t (w .name) (w .mode) (some l)) (l .holder) (h l refl))
 
-module _ (d : List ℕ) (t : ℕ) (w : Want) where
-  pub holders-start : SetOf 0 (K.holders book (tab 0 0 (slotAt d)) t (bookWant w))
+module _ (d : List ℕ) (t : ℕ) (w : K.Want book) where
+  pub scan-start : Scanned d t w 0 (record { against = 0; own = 0 })
   unfolding tab K.holders K.inUse keep
-  holders-start = set-none
+  scan-start = record { against = set-none; own = place-start (isSlotOf t (w .name)) (slotAt d) }
 
-  pub holders-turn : (i m r : ℕ) → HoldersKnown d → i < locksMost → r ≡ withHolder m t (bookWant w) (slotAt d i)
-      → SetOf m (K.holders book (tab i 0 (slotAt d)) t (bookWant w)) → SetOf r (K.holders book (tab (i + 1) 0 (slotAt d)) t (bookWant w))
-  holders-turn i m r k h e s =
-      let us = K.holders book (tab i 0 (slotAt d)) t (bookWant w) in
-      rw (e, ← tab-last i (slotAt d), holders-append t (bookWant w) (tab i 0 (slotAt d)) (slotAt d i ∷ []))
-      (set-slot t (bookWant w) m us s (slotAt d i) (λ l q. k .low i l h q))
+  pub scan-turn : (i : ℕ) (c r : Collected) (x : Slot) → HoldersKnown d → i < locksMost → bookSlot x ≡ slotAt d i
+      → r ≡ collectedWith c i t w (bookSlot x) → Scanned d t w i c → Scanned d t w (i + 1) r
+  scan-turn i c r x k h e f s =
+      let us = K.holders book (tab i 0 (slotAt d)) t w in
+      rw f
+      (record {
+        against =
+            rw (e, ← tab-last i (slotAt d), holders-append t w (tab i 0 (slotAt d)) (slotAt d i ∷ []))
+            (set-slot t w (c .against) us (s .against) (slotAt d i) (λ l q. k .each i h .low l q));
+        own = place-to (isSlotOf t (w .name)) (slotAt d) i (c .own) (isSlotOf t (w .name) (bookSlot x)) (ap (isSlotOf t (w .name)) e) (s .own);
+      })
 
-  pub holders-end : (i m : ℕ) → locksMost ≤ i → i ≤ locksMost → SetOf m (K.holders book (tab i 0 (slotAt d)) t (bookWant w))
-      → SetOf m (K.holders book (slotsOf d) t (bookWant w))
-  unfolding slotsOf
-  holders-end i m h l s = let e : i ≡ locksMost = omega arith in subst (λ n. SetOf m (K.holders book (tab n 0 (slotAt d)) t (bookWant w))) e s
+  pub scan-end : (i : ℕ) (c : Collected) → locksMost ≤ i → i ≤ locksMost → Scanned d t w i c → Scanned d t w locksMost c
+  scan-end i c h l s = let e : i ≡ locksMost = omega arith in subst (λ n. Scanned d t w n c) e s
+
+pub collected-next : (c : Collected) (i t m k : ℕ) (w : K.Want book) (x : Slot) (b : Bool) → m ≡ withHolder (c .against) t w (bookSlot x)
+    → b ≡ isSlotOf t (w .name) (bookSlot x) → k ≡ firstTo (c .own) i b
+    → _≡_ {A = Collected} (record { against = m; own = k }) (collectedWith c i t w (bookSlot x))
+collected-next c i t m k w x b e f g = ap₂ (λ y z. record { against = y; own = z }) e (g ∙ ap (firstTo (c .own) i) f)
 
 -- ---- the earlier ones, place by place
 module _ (p d : List ℕ) (t : ℕ) (w : Want) where
@@ -149,7 +155,7 @@ module _ (p d : List ℕ) (t : ℕ) (w : Want) where
   unfolding ahead tab K.earlier keep
   rivals-start = set-none
 
-  pub rivals-turn : (i q m r : ℕ) → Whole p d → q ≤ queued d → i < q → r ≡ withRival m p t (bookWant w) (queuedAt d i)
+  pub rivals-turn : (i q m r : ℕ) → Whole p d → q < queued d → i < q → r ≡ withRival m p t (bookWant w) (queuedAt d i)
       → SetOf m (K.earlier book (entriesIn p) (ahead d i) t (bookWant w)) → SetOf r (K.earlier book (entriesIn p) (ahead d (i + 1)) t (bookWant w))
   unfolding ahead queuedAt
   rivals-turn i q m r k h l e s =
@@ -161,19 +167,30 @@ module _ (p d : List ℕ) (t : ℕ) (w : Want) where
   rivals-end i q m h l s = let e : i ≡ q = omega arith in subst (λ n. SetOf m (K.earlier book (entriesIn p) (ahead d n) t (bookWant w))) e s
 
 -- ---- both
-module _ (p d : List ℕ) (q t : ℕ) (w : Want) (a : t ≡ inPlace d q) (e : bookWant w ≡ K.wanted book (entriesIn p) (queuedAt d q))
-    (k : ℕ) (f : k ≡ heldIn d t (nameIn (w .name .0))) (m : ℕ) (s : SetOf m (K.holders book (slotsOf d) t (bookWant w))) where
+module _ (p d : List ℕ) (q : ℕ) (w : Want) (k : WantAt p d q w) (c : Collected) (s : Scanned d (w .asker) (bookWant w) locksMost c) where
+  abbrev t : ℕ
+  t = w .asker
+
   abbrev waiting : List ℕ
   waiting = K.earlier book (entriesIn p) (ahead d q) t (bookWant w)
 
   abbrev holders : List ℕ
   holders = K.holders book (slotsOf d) t (bookWant w)
 
-  blockers-by : (b : Bool) → ltb k locksMost ≡ b → blockersAt p d q ≡ holders ++ cond b [] waiting
-  blockers-by b h = blockers-are p d q t w a e ∙ ap (λ x. holders ++ cond x [] waiting) (holds-by p d q t w k f ∙ h)
+  collected : SetOf (c .against) holders
+  unfolding slotsOf
+  collected = s .against
 
-  pub blockers-held : k < locksMost → SetOf m (blockersAt p d q)
-  blockers-held h = rw (blockers-by true (lt-ltb k locksMost h), append-nil) s
+  own-is : c .own ≡ heldIn d t (bookWant w .name)
+  unfolding heldIn slotsOf
+  own-is = s .own
 
-  pub blockers-both : (n : ℕ) → locksMost ≤ k → SetOf n (K.earlier book (entriesIn p) (ahead d q) t (bookWant w)) → SetOf (bitOr m n) (blockersAt p d q)
-  blockers-both n h l = rw (blockers-by false (le-ltb k locksMost h)) (set-both m holders s n waiting l)
+  blockers-by : (b : Bool) → ltb (c .own) locksMost ≡ b → blockersAt p d q ≡ holders ++ cond b [] waiting
+  blockers-by b h = blockers-are p d q w k ∙ ap (λ x. holders ++ cond x [] waiting) (holds-by d t (c .own) (bookWant w .name) own-is ∙ h)
+
+  pub blockers-held : c .own < locksMost → SetOf (c .against) (blockersAt p d q)
+  blockers-held h = rw (blockers-by true (lt-ltb (c .own) locksMost h), append-nil) collected
+
+  pub blockers-both : (n : ℕ) → locksMost ≤ c .own → SetOf n (K.earlier book (entriesIn p) (ahead d q) (w .asker) (bookWant w))
+      → SetOf (bitOr (c .against) n) (blockersAt p d q)
+  blockers-both n h l = rw (blockers-by false (le-ltb (c .own) locksMost h)) (set-both (c .against) holders collected n waiting l)

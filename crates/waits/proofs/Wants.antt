@@ -11,7 +11,7 @@ use lib.Dec.{leb, eqb, ltb}
 use Rattle.lists.specs.Lists.{all, first, pairs}
 use Rattle.lists.proofs.Tests.{and-right, first-same}
 use Rattle.lists.proofs.Elements.{all-in}
-use Rattle.rules.specs.Kinds.{Entry, S, X, Ask}
+use Rattle.rules.specs.Kinds.{Entry, S, X, Ask, Queued}
 use Rattle.rules.specs.Entries.{ghost}
 use Rattle.rules.specs.Locks.{target, named, itself, modeIf, mode, wanted}
 use Rattle.rules.specs.Good.{ascending, below}
@@ -26,12 +26,14 @@ use Rattle.tables.specs.declared.Mode as M
 use Rattle.tables.specs.Layout.{nameIn, nameNumber, bookMode, askAt, inPlace, queuedAt}
 use Rattle.index.specs.declared.Found.{Found}
 use Rattle.index.specs.declared.Found.the-variants.{Here}
+use Rattle.index.specs.Pictures.{entriesIn}
 use Rattle.index.specs.Searches.{seeks, bookFound}
 use Rattle.desks.specs.States.{book}
 use Rattle.desks.specs.Fitting.{NameFits}
 use Rattle.desks.proofs.Values.{name-read}
 use Rattle.waits.specs.declared.Want.{Want}
 use Rattle.waits.specs.Choices.{bookWant}
+use Rattle.waits.specs.Blocks.{targetAt, WantAt}
 
 -- ---- the searches
 -- nobody has no ghosts
@@ -99,7 +101,7 @@ named-fits es h t a = go (target book es t a) refl
         ltb-true (x .key) endMark
         (all-in (λ y. ltb (y .key) endMark) es x (and-right (pairs (below book) es) (all (λ y. ltb (y .key) endMark) es) h) (target-in book es t a x e))
 
-pub want-is : (es : List (Entry ℕ ℕ)) (t : ℕ) (ask : A.Ask) (found : Found) (w : Want) → ascending book es ≡ true
+want-is : (es : List (Entry ℕ ℕ)) (t : ℕ) (ask : A.Ask) (found : Found) (w : Want) → ascending book es ≡ true
     → bookFound found ≡ target book es t (bookAsk ask) → w .name .0 ≡ nameNumber (named book (bookFound found))
     → bookMode (w .mode) ≡ mode book (bookAsk ask) (bookFound found)
     → bookWant w ≡ wanted book es (record { asker = t; asks = bookAsk ask })
@@ -111,8 +113,22 @@ want-is es t ask found w h e n m =
     (m ∙ ap (mode book (bookAsk ask)) e)
 
 -- ---- the request at a place of the queue
-pub want-queued : (es : List (Entry ℕ ℕ)) (d : List ℕ) (q t : ℕ) (ask : A.Ask) (w : Want) → t ≡ inPlace d q → bookAsk ask ≡ askAt d t
-    → bookWant w ≡ wanted book es (record { asker = t; asks = bookAsk ask }) → bookWant w ≡ wanted book es (queuedAt d q)
-unfolding queuedAt
-want-queued es d q t ask w e a h =
-    h ∙ ap (λ x. wanted book es (record { asker = t; asks = x })) a ∙ ap (λ u. wanted book es (record { asker = u; asks = askAt d u })) e
+module _ (p d : List ℕ) (q t : ℕ) (ask : A.Ask) (found : Found) (e : t ≡ inPlace d q) (a : bookAsk ask ≡ askAt d t) where
+  asked : _≡_ {A = Queued ℕ ℕ} (record { asker = t; asks = bookAsk ask }) (queuedAt d q)
+  unfolding queuedAt
+  asked = ap (λ x. record { asker = t; asks = x }) a ∙ ap (λ u. record { asker = u; asks = askAt d u }) e
+
+  pub target-queued : bookFound found ≡ target book (entriesIn p) t (bookAsk ask) → bookFound found ≡ targetAt p d q
+  target-queued h = h ∙ ap (λ (x : Queued ℕ ℕ). target book (entriesIn p) (x .asker) (x .asks)) asked
+
+  pub want-queued : (k : Key) (m : M.Mode) → ascending book (entriesIn p) ≡ true → bookFound found ≡ targetAt p d q
+      → k .0 ≡ nameNumber (named book (bookFound found)) → bookMode m ≡ mode book (bookAsk ask) (bookFound found)
+      → WantAt p d q (record { asker = t; name = k; mode = m })
+  want-queued k m h f n o =
+      record {
+        asker = e;
+        want =
+            want-is (entriesIn p) t ask found (record { asker = t; name = k; mode = m }) h
+            (f ∙ sym (ap (λ (x : Queued ℕ ℕ). target book (entriesIn p) (x .asker) (x .asks)) asked)) n o
+            ∙ ap (wanted book (entriesIn p)) asked;
+      }

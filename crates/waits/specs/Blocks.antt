@@ -7,15 +7,29 @@ use mathlib.Core.Option.{Option, none, some}
 use lib.Dec.{eqb}
 use lib.ListN.{length}
 use Rattle.lists.specs.Lists.{any, tab}
-use Rattle.rules.specs.Kinds.{Queued, Lock}
+use Rattle.rules.specs.Kinds.{Entry, Queued, Lock}
 use Rattle.rules.specs.Locks as K
 use Rattle.rules.specs.Queue.{waits}
-use Rattle.tables.specs.Layout.{transactionsMost, locksMost, queuedAt, slotAt, slotsOf}
+use Rattle.tables.specs.Layout.{transactionsMost, locksMost, inPlace, queuedAt, slotAt, slotsOf}
 use Rattle.tables.specs.Moves.{isSlotAgainst}
 use Rattle.index.specs.Pictures.{entriesIn}
 use Rattle.desks.specs.States.{book, stateOf}
 use Rattle.circles.specs.Sets.{RowOf}
 use Rattle.circles.specs.Search.{withOne}
+use Rattle.waits.specs.declared.Want.{Want}
+use Rattle.waits.specs.Choices.{bookWant}
+
+-- the target of the request at a place, and what it wants
+abbrev pub targetAt : List ℕ → List ℕ → ℕ → Option (Entry ℕ ℕ)
+targetAt p d q = K.target book (entriesIn p) (queuedAt d q .asker) (queuedAt d q .asks)
+
+abbrev pub wantedAt : List ℕ → List ℕ → ℕ → K.Want book
+wantedAt p d q = K.wanted book (entriesIn p) (queuedAt d q)
+
+-- the code's want is that of the request at a place
+pub record WantAt (p d : List ℕ) (q : ℕ) (w : Want) : Type 0 where
+  pub asker : w .asker ≡ inPlace d q
+  pub want : bookWant w ≡ wantedAt p d q
 
 unfoldable pub ahead : List ℕ → ℕ → List (Queued ℕ ℕ)
 ahead d q = tab q 0 (queuedAt d)
@@ -33,9 +47,12 @@ unfoldable pub isBehind : List ℕ → List ℕ → ℕ → ℕ → K.Want book 
 isBehind p d q t w = not (K.holds book (slotsOf d) t (w .name)) && any (isRival p t w) (ahead d q)
 
 -- every lock's holder is a transaction
+pub record HolderKnown (x : Option (Lock ℕ)) : Type 0 where
+  pub low : (l : Lock ℕ) → x ≡ some l → 1 ≤ l .holder
+  pub high : (l : Lock ℕ) → x ≡ some l → l .holder ≤ transactionsMost
+
 pub record HoldersKnown (d : List ℕ) : Type 0 where
-  pub low : (i : ℕ) (l : Lock ℕ) → i < locksMost → slotAt d i ≡ some l → 1 ≤ l .holder
-  pub high : (i : ℕ) (l : Lock ℕ) → i < locksMost → slotAt d i ≡ some l → l .holder ≤ transactionsMost
+  pub each : (i : ℕ) → i < locksMost → HolderKnown (slotAt d i)
 
 -- who holds a slot; nobody, where it is free
 abbrev pub holderOf : Option (Lock ℕ) → ℕ

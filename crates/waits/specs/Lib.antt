@@ -1,2 +1,4 @@
 pub mod Choices
 pub mod Blocks
+pub mod Notes
+pub mod Slots

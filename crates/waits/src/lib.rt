@@ -1,21 +1,42 @@
 // Who waits, and behind whom: a request's target, all who block it, the oldest request that isn't blocked, the newest on a circle.
-// (Document 01, "Locks" and "Working the queue".) Everything is worked out from the bytes of a whole picture, afresh each time.
+// (Document 01, "Locks" and "Working the queue".) Everything is worked out from the bytes of a whole picture, afresh each turn.
+ghost use mathlib.Core.Path.{_≡_};
+ghost use mathlib.Core.Bool.{not, _&&_};
+ghost use lib.Dec.{eqb};
+ghost use Rattle.rules.specs.Locks.{clash};
+ghost use Rattle.desks.specs.States.{book};
+ghost use Rattle.waits.specs.Choices.{bookWant};
 use entries::Key;
 use index::Found;
 use tables::Mode;
 
 mod blocked;
 mod newest;
+mod notes;
+mod slots;
 pub mod targets;
 
 pub use blocked::oldest;
-pub use newest::blockers_of;
 pub use newest::newest_on_circle;
 
-// What a request wants: its target's name, and the mode.
+// What a request wants: who asks, its target's name, and the mode.
 pub struct Want {
+    pub asker: u16,
     pub name: Key,
     pub mode: Mode,
+}
+
+impl Want {
+    // Whether the other is another's, and wants the same, in a conflicting mode.
+    fn clashes(self, other: Want) -> bool
+        ensures { λ r. ⌜ r ≡ (not (eqb (self .asker) (other .asker)) && clash book (bookWant self) (bookWant other)) ⌝ }
+    {
+        let name = self.name;
+        let mode = self.mode;
+        let theirs = other.name;
+        let as_theirs = other.mode;
+        (self.asker != other.asker) & (name.same(theirs) & mode.conflicts(as_theirs))
+    }
 }
 
 // A place of the queue.
@@ -31,6 +52,32 @@ pub struct Next {
     pub target: Found,
     pub own: usize,
     pub free: usize,
+}
+
+// A request that is looked at: its target, and what it wants.
+struct Looked {
+    target: Found,
+    want: Want,
+}
+
+// The slots that a scan of the lock table has seen: the first with the asker's own lock on what it wants, and the first that is free.
+// Where there is no such slot, it is the number of those seen.
+struct Seen {
+    own: usize,
+    free: usize,
+}
+
+// What a scan of the lock table comes upon: a lock that stands against the asker, or what it has seen so far.
+enum Sight {
+    Against,
+    Clear(Seen),
+}
+
+// What a scan of the lock table has collected: who stands against the asker, as a set, and the first slot with the asker's own lock on what
+// it wants, or the number of those seen.
+struct Collected {
+    against: u64,
+    own: usize,
 }
 
 // Whose turn it is: the oldest request that nobody blocks.

@@ -1,18 +1,16 @@
 // The target of a request, and the mode that it is wanted in. (Document 01, "Locks".)
 ghost use mathlib.Core.Path.{_≡_};
-ghost use mathlib.Core.Bool.{true};
 ghost use Prim.Native.Nat.{_<_, _≤_};
 ghost use lib.Dec.{leb};
 ghost use Rattle.lists.specs.Lists.{first};
-ghost use Rattle.rules.specs.Locks.{target, named, itself, modeIf, mode, wanted};
-ghost use Rattle.rules.specs.Good.{ascending};
+ghost use Rattle.rules.specs.Locks.{target, named, itself, modeIf, mode};
 ghost use Rattle.entries.specs.Meaning.{bookAsk};
-ghost use Rattle.tables.specs.Layout.{queued, queuedAt, nameNumber, bookMode};
+ghost use Rattle.tables.specs.Layout.{queued, nameNumber, bookMode};
 ghost use Rattle.index.specs.Pictures.{entriesIn, WholePages};
 ghost use Rattle.index.specs.Searches.{bookFound};
 ghost use Rattle.desks.specs.States.{book};
 ghost use Rattle.desks.specs.Whole.{Whole};
-ghost use Rattle.waits.specs.Choices.{bookWant};
+ghost use Rattle.waits.specs.Blocks.{targetAt, WantAt};
 use super::Want;
 use entries::Ask;
 use entries::Key;
@@ -89,26 +87,27 @@ pub fn mode_of(ask: Ask, found: Found) -> Mode
     }
 }
 
-// What a request of t wants.
-pub fn want_of(pages: &[u8], t: u16, ask: Ask) -> Want
-    requires { ⌜ WholePages (now pages) ⌝ }
-    requires { ⌜ ascending book (entriesIn (now pages)) ≡ true ⌝ }
-    requires { ⌜ 1 ≤ t ⌝ }
-    ensures { λ r. ⌜ bookWant r ≡ wanted book (entriesIn (now (pages .entry))) (record { asker = t; asks = bookAsk ask }) ⌝ }
-{
-    let found = target_of(pages, t, ask);
-    Want {
-        name: name_of(found),
-        mode: mode_of(ask, found),
-    }
-}
-
-// What the request at a place of the queue wants.
-pub fn want_at(pages: &[u8], desk: &[u8], q: usize) -> Want
+// The entry that the request at a place of the queue aims at, or nothing, which is the end.
+pub fn target_at(pages: &[u8], desk: &[u8], q: usize) -> Found
     requires { ⌜ Whole (now pages) (now desk) ⌝ }
     requires { ⌜ q < queued (now desk) ⌝ }
-    ensures { λ r. ⌜ bookWant r ≡ wanted book (entriesIn (now (pages .entry))) (queuedAt (now (desk .entry)) q) ⌝ }
+    ensures { λ r. ⌜ bookFound r ≡ targetAt (now (pages .entry)) (now (desk .entry)) q ⌝ }
 {
     let t = queue::in_place(desk, q);
-    want_of(pages, t, transactions::ask_at(desk, t))
+    target_of(pages, t, transactions::ask_at(desk, t))
+}
+
+// What the request at a place of the queue wants, by its target.
+pub fn want_at(pages: &[u8], desk: &[u8], q: usize, found: Found) -> Want
+    requires { ⌜ Whole (now pages) (now desk) ⌝ }
+    requires { ⌜ q < queued (now desk) ⌝ }
+    requires { ⌜ bookFound found ≡ targetAt (now pages) (now desk) q ⌝ }
+    ensures { λ r. ⌜ WantAt (now (pages .entry)) (now (desk .entry)) q r ⌝ }
+{
+    let t = queue::in_place(desk, q);
+    Want {
+        asker: t,
+        name: name_of(found),
+        mode: mode_of(transactions::ask_at(desk, t), found),
+    }
 }

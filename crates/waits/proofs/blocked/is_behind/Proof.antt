@@ -1,4 +1,4 @@
--- `waits::blocked::is_behind` meets its contract. The invariant: t is behind another's if it is behind one of those from i on.
+-- `waits::blocked::is_behind` meets its contract. The invariant: the asker is behind another's if it is behind one of those from i on.
 -- The measure is how many are left. Assumes nothing.
 use borrow.Author.Needs.{needs}
 use Prim.Native.Nat.{_≤_, _-_}
@@ -8,18 +8,17 @@ use Rattle.lists.proofs.Scans.{any-step, any-hit, any-end}
 use Rattle.tables.specs.Layout.{queuedAt}
 use Rattle.waits.specs.Choices.{bookWant}
 use Rattle.waits.specs.Blocks.{isRival, isBehind}
+use Rattle.waits.proofs.Noting.{noted-to}
 use Rattle.waits.proofs.Blocks.{behind-held, behind-start}
 use Rattle.waits.proofs.blocked.is_behind.Statement.{statement}
 use Rattle.waits.proofs.blocked.is_behind.Tie as tie
 
 abbrev Inv-loop : tie.InvT-loop
-Inv-loop pages desk q t w i₀ i = (i ≤ q) × (isBehind pages desk q t (bookWant w) ≡ any (isRival pages t (bookWant w)) (tab (q - i) i (queuedAt desk)))
+Inv-loop pages desk names modes q w i₀ i =
+    (i ≤ q) × (isBehind pages desk q (w .asker) (bookWant w) ≡ any (isRival pages (w .asker) (bookWant w)) (tab (q - i) i (queuedAt desk)))
 
 abbrev μ-loop : tie.MeasureT-loop
-μ-loop pages desk q t w i₀ i = q - i
-
-find-lock-requires : tie.Need-find-lock-requires Inv-loop μ-loop
-find-lock-requires c κs = search needs
+μ-loop pages desk names modes q w i₀ i = q - i
 
 returns : tie.Need-returns Inv-loop μ-loop
 returns c = search (needs, behind-held)
@@ -28,7 +27,7 @@ loop-holds : tie.Need-loop-holds Inv-loop μ-loop
 loop-holds c = (search needs, search (needs, behind-start))
 
 is-rival-requires : tie.Need-is-rival-requires Inv-loop μ-loop
-is-rival-requires c κs = search needs
+is-rival-requires c κs = (search needs, (search needs, search (needs, noted-to)))
 
 returns-2 : tie.Need-returns-2 Inv-loop μ-loop
 returns-2 c = search (needs, any-hit)
@@ -51,7 +50,6 @@ is-behind-spec =
     (tie.spec
     Inv-loop
     μ-loop
-    find-lock-requires
     returns
     loop-holds
     is-rival-requires

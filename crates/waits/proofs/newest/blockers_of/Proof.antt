@@ -6,17 +6,11 @@ use Rattle.waits.proofs.Sets.{blockers-held, blockers-both}
 use Rattle.waits.proofs.newest.blockers_of.Statement.{statement}
 use Rattle.waits.proofs.newest.blockers_of.Tie as tie
 
-in-place-requires : tie.Need-in-place-requires
-in-place-requires c κs = (search needs, search (needs, place-low))
+noted-at-requires : tie.Need-noted-at-requires
+noted-at-requires c κs = (search needs, (search (needs, place-low), search needs))
 
-want-at-requires : tie.Need-want-at-requires
-want-at-requires c κs = search needs
-
-holders-of-requires : tie.Need-holders-of-requires
-holders-of-requires c κs = (search needs, search (needs, whole-holders))
-
-find-lock-requires : tie.Need-find-lock-requires
-find-lock-requires c κs = search needs
+scan-requires : tie.Need-scan-requires
+scan-requires c κs = (search needs, search (needs, whole-holders))
 
 returns : tie.Need-returns
 returns c = search (needs, blockers-held)
@@ -29,12 +23,4 @@ returns-2 c = search (needs, blockers-both)
 
 pub blockers-of-spec : {M : Type 1} → statement M
 blockers-of-spec =
-    tie.close
-    (tie.spec
-    in-place-requires
-    want-at-requires
-    holders-of-requires
-    find-lock-requires
-    returns
-    rivals-of-requires
-    returns-2)
+    tie.close (tie.spec noted-at-requires scan-requires returns rivals-of-requires returns-2)

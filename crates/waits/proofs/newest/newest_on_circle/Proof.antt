@@ -10,10 +10,10 @@ use Rattle.waits.proofs.newest.newest_on_circle.Statement.{statement}
 use Rattle.waits.proofs.newest.newest_on_circle.Tie as tie
 
 abbrev Inv-loop : tie.InvT-loop
-Inv-loop pages desk row n seen₀ seen = (seen ≤ n) × (newest book (stateOf pages desk) ≡ newestTo pages desk (n - seen))
+Inv-loop pages desk names modes row n seen₀ seen = (seen ≤ n) × (newest book (stateOf pages desk) ≡ newestTo pages desk (n - seen))
 
 abbrev μ-loop : tie.MeasureT-loop
-μ-loop pages desk row n seen₀ seen = n - seen
+μ-loop pages desk names modes row n seen₀ seen = n - seen
 
 rows-of-requires : tie.Need-rows-of-requires Inv-loop μ-loop
 rows-of-requires c κs = search needs

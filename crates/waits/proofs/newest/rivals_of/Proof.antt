@@ -8,21 +8,22 @@ use Rattle.desks.specs.States.{book}
 use Rattle.circles.specs.Sets.{SetOf}
 use Rattle.waits.specs.Choices.{bookWant}
 use Rattle.waits.specs.Blocks.{ahead}
+use Rattle.waits.proofs.Noting.{noted-to}
 use Rattle.waits.proofs.Sets.{rivals-start, rivals-turn, rivals-end}
 use Rattle.waits.proofs.newest.rivals_of.Statement.{statement}
 use Rattle.waits.proofs.newest.rivals_of.Tie as tie
 
 abbrev Inv-loop : tie.InvT-loop
-Inv-loop pages desk q t w set₀ i₀ set i = (i ≤ q) × SetOf set (earlier book (entriesIn pages) (ahead desk i) t (bookWant w))
+Inv-loop pages desk names modes q w set₀ i₀ set i = (i ≤ q) × SetOf set (earlier book (entriesIn pages) (ahead desk i) (w .asker) (bookWant w))
 
 abbrev μ-loop : tie.MeasureT-loop
-μ-loop pages desk q t w set₀ i₀ set i = q - i
+μ-loop pages desk names modes q w set₀ i₀ set i = q - i
 
 loop-holds : tie.Need-loop-holds Inv-loop μ-loop
 loop-holds c = (search needs, search (needs, rivals-start))
 
 with-rival-requires : tie.Need-with-rival-requires Inv-loop μ-loop
-with-rival-requires c κs = search needs
+with-rival-requires c κs = (search needs, (search needs, search (needs, noted-to)))
 
 add-i : tie.Need-add-i Inv-loop μ-loop
 add-i c = search needs

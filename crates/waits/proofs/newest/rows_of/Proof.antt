@@ -7,15 +7,16 @@ use lib.ListN.{length}
 use Rattle.desks.specs.States.{book}
 use Rattle.circles.specs.Sets.{RowOf}
 use Rattle.waits.proofs.Known.{place-under, asker-under}
+use Rattle.waits.proofs.Noting.{noted-queued}
 use Rattle.waits.proofs.Rows.{waitsTo, rows-start, rows-turn, rows-end}
 use Rattle.waits.proofs.newest.rows_of.Statement.{statement}
 use Rattle.waits.proofs.newest.rows_of.Tie as tie
 
 abbrev Inv-loop : tie.InvT-loop
-Inv-loop pages desk n row₀ q₀ row q = (q ≤ n) × ((length row ≡ 17) × RowOf book row (waitsTo pages desk q))
+Inv-loop pages desk names modes n row₀ q₀ row q = (q ≤ n) × ((length row ≡ 17) × RowOf book row (waitsTo pages desk q))
 
 abbrev μ-loop : tie.MeasureT-loop
-μ-loop pages desk n row₀ q₀ row q = n - q
+μ-loop pages desk names modes n row₀ q₀ row q = n - q
 
 queued-requires : tie.Need-queued-requires Inv-loop μ-loop
 queued-requires c κs = search needs
@@ -30,7 +31,7 @@ cast-t : tie.Need-cast-t Inv-loop μ-loop
 cast-t c = search needs
 
 blockers-of-requires : tie.Need-blockers-of-requires Inv-loop μ-loop
-blockers-of-requires c κs = search needs
+blockers-of-requires c κs = (search needs, (search needs, search (needs, noted-queued)))
 
 mul-row : tie.Need-mul-row Inv-loop μ-loop
 mul-row c = search needs

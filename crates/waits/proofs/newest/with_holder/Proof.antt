@@ -8,8 +8,8 @@ use Rattle.waits.proofs.newest.with_holder.Tie as tie
 is-against-requires : tie.Need-is-against-requires
 is-against-requires c κs = search needs
 
-holder-at-requires : tie.Need-holder-at-requires
-holder-at-requires c κs = search needs
+holder-of-requires : tie.Need-holder-of-requires
+holder-of-requires c κs = search needs
 
 with-requires : tie.Need-with-requires
 with-requires c κs = (search (needs, holder-low), search (needs, holder-fits))
@@ -22,4 +22,4 @@ returns-2 c = search (needs, slot-not)
 
 pub with-holder-spec : {M : Type 1} → statement M
 with-holder-spec =
-    tie.close (tie.spec is-against-requires holder-at-requires with-requires returns returns-2)
+    tie.close (tie.spec is-against-requires holder-of-requires with-requires returns returns-2)

@@ -1,0 +1,22 @@
+-- `waits::newest::collected_with` meets its contract: each of the two with slot i.
+-- Assumes nothing.
+use borrow.Author.Needs.{needs}
+use Rattle.waits.proofs.Sets.{collected-next}
+use Rattle.waits.proofs.newest.collected_with.Statement.{statement}
+use Rattle.waits.proofs.newest.collected_with.Tie as tie
+
+with-holder-requires : tie.Need-with-holder-requires
+with-holder-requires c κs = search needs
+
+is-own-requires : tie.Need-is-own-requires
+is-own-requires c κs = search needs
+
+first-to-requires : tie.Need-first-to-requires
+first-to-requires c κs = search needs
+
+returns : tie.Need-returns
+returns c = search (needs, collected-next)
+
+pub collected-with-spec : {M : Type 1} → statement M
+collected-with-spec =
+    tie.close (tie.spec with-holder-requires is-own-requires first-to-requires returns)

@@ -1,0 +1,66 @@
+// One scan of the lock table tells a request all that it needs of the locks, a slot at a time. (Document 01, "Locks".)
+ghost use mathlib.Core.Path.{_≡_};
+ghost use Prim.Native.Nat.{_<_};
+ghost use Rattle.tables.specs.Layout.{deskSize, locksMost, bookSlot};
+ghost use Rattle.tables.specs.Moves.{isSlotOf, isSlotAgainst};
+ghost use Rattle.waits.specs.Choices.{bookWant};
+ghost use Rattle.waits.specs.Slots.{firstTo, seenWith, SeenTo, SightAt};
+use super::Seen;
+use super::Sight;
+use super::Want;
+use tables::Slot;
+use tables::locks;
+
+// Whether a slot is another's lock on what is wanted, in a conflicting mode.
+pub fn is_against(slot: Slot, w: Want) -> bool
+    ensures { λ r. ⌜ r ≡ isSlotAgainst (w .asker) (bookWant w .name) (bookWant w .mode) (bookSlot slot) ⌝ }
+{
+    let name = w.name;
+    let mode = w.mode;
+    slot.stands_against(w.asker, name, mode)
+}
+
+// Whether a slot is the asker's own lock on what it wants.
+pub fn is_own(slot: Slot, w: Want) -> bool
+    ensures { λ r. ⌜ r ≡ isSlotOf (w .asker) (bookWant w .name) (bookSlot slot) ⌝ }
+{
+    let name = w.name;
+    slot.is_of(w.asker, name)
+}
+
+// The first slot to pass a test, of those before i and slot i: by the first of those before, and by whether slot i passes. Where none passes,
+// it is their number.
+pub fn first_to(first: usize, i: usize, passes: bool) -> usize
+    requires { ⌜ i < locksMost ⌝ }
+    ensures { λ r. ⌜ r ≡ firstTo first i passes ⌝ }
+{
+    if (first == i) & !passes {
+        return i + 1;
+    }
+    first
+}
+
+// What has been seen, with slot i.
+fn seen_with(seen: Seen, i: usize, slot: Slot, w: Want) -> Seen
+    requires { ⌜ i < locksMost ⌝ }
+    ensures { λ r. ⌜ r ≡ seenWith seen i (w .asker) (bookWant w .name) (bookSlot slot) ⌝ }
+{
+    Seen {
+        own: first_to(seen.own, i, is_own(slot, w)),
+        free: first_to(seen.free, i, slot.is_free()),
+    }
+}
+
+// Looks at slot i, where none before it stands against the asker.
+pub fn see(desk: &[u8], i: usize, w: Want, seen: Seen) -> Sight
+    requires { do ⌜ (← ⟦desk.len()⟧) ≡ deskSize ⌝ }
+    requires { ⌜ i < locksMost ⌝ }
+    requires { ⌜ SeenTo (now desk) (w .asker) (bookWant w) i seen ⌝ }
+    ensures { λ r. ⌜ SightAt (now (desk .entry)) (w .asker) (bookWant w) i r ⌝ }
+{
+    let slot = locks::slot_at(desk, i);
+    if is_against(slot, w) {
+        return Sight::Against;
+    }
+    Sight::Clear(seen_with(seen, i, slot, w))
+}
