@@ -62,6 +62,14 @@ module _ (d : List ℕ) (c : Option (Wait book)) (r : Place) (h : Chosen d c r) 
 pub newest-inside : (p d : List ℕ) (r : Place) → NewestAt p d r → (q : ℕ) → r ≡ At q → q < queued d
 newest-inside p d r h = chosen-inside d (newest book (stateOf p d)) r h
 
+-- ---- where nobody can run
+module _ (p d : List ℕ) (r : Turn) (e : r ≡ Nobody) where
+  pub nobody-runs : OldestIs p d r → oldest book (stateOf p d) ≡ none
+  nobody-runs h = chosen-none d (oldest book (stateOf p d)) (placeIn r) (h .chosen) (ap placeIn e)
+
+  pub nobody-noted : (ns ms : List ℕ) → NotedIn p d ns ms r → Noted p d ns ms (queued d)
+  nobody-noted ns ms k = subst (NotedIn p d ns ms) e k
+
 module _ (p d : List ℕ) (w : Whole p d) where
   -- ---- the one wait of the request at a place
   one-wait : (q : ℕ) → q < queued d → (v : Wait book) → In v (waits book (stateOf p d)) → v .request ≡ queuedAt d q
@@ -122,12 +130,6 @@ module _ (p d : List ℕ) (w : Whole p d) where
                 ∙ ap₂ (λ y z. some (record { state = y; answer = z })) (sym (ran .says .state)) (sym (ran .answer));
             still = tt;
           }
-
-    pub oldest-nobody : r ≡ Nobody → oldest book (stateOf p d) ≡ none
-    oldest-nobody e = chosen-none d (oldest book (stateOf p d)) (placeIn r) (h .chosen) (ap placeIn e)
-
-  pub nobody-noted : (r : Turn) (ns ms : List ℕ) → NotedIn p d ns ms r → r ≡ Nobody → Noted p d ns ms (queued d)
-  nobody-noted r ns ms k e = subst (NotedIn p d ns ms) e k
 
   -- ---- none of them; the newest on a circle
   module _ (nobody : oldest book (stateOf p d) ≡ none) (l : Place) (k : NewestAt p d l) where

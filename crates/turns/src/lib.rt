@@ -4,7 +4,7 @@ ghost use Prim.Native.Nat.{_+_, _*_, _<_, _≤_};
 ghost use mathlib.Core.Option.{none};
 ghost use lib.ListN.{length};
 ghost use Rattle.rules.specs.Queue.{oldest};
-ghost use Rattle.tables.specs.Layout.{queued};
+ghost use Rattle.tables.specs.Layout.{transactionsMost, queued};
 ghost use Rattle.desks.specs.States.{book, stateOf};
 ghost use Rattle.desks.specs.Whole.{Whole};
 ghost use Rattle.waits.specs.Notes.{Noted};
@@ -49,18 +49,28 @@ fn circle_turn(pages: &[u8], desk: &mut [u8], names: &[u64], modes: &[u16]) -> T
     Turned::Said(give_way(pages, desk, q))
 }
 
-// One turn: the oldest request that nobody blocks runs; where each is blocked, a circle is looked for. What each wants is searched for once.
+// One turn, with room to note what each request wants: the oldest that nobody blocks runs; where each is blocked, a circle is looked for.
+fn turn_noting(pages: &mut [u8], desk: &mut [u8], names: &mut [u64], modes: &mut [u16]) -> Turned
+    requires { ⌜ Whole (now pages) (now desk) ⌝ }
+    requires { do ⌜ (← ⟦names.len()⟧) ≡ transactionsMost ⌝ }
+    requires { do ⌜ (← ⟦modes.len()⟧) ≡ transactionsMost ⌝ }
+    ensures { λ r. ⌜ Turns (now (pages .entry)) (now (desk .entry)) (now (pages .exit)) (now (desk .exit)) r ⌝ }
+{
+    let oldest = waits::oldest(pages, desk, names, modes);
+    let Turn::Runs(next) = oldest else {
+        return circle_turn(pages, desk, names, modes);
+    };
+    Turned::Said(acts::run_at(pages, desk, next))
+}
+
+// One turn.
 fn turn(pages: &mut [u8], desk: &mut [u8]) -> Turned
     requires { ⌜ Whole (now pages) (now desk) ⌝ }
     ensures { λ r. ⌜ Turns (now (pages .entry)) (now (desk .entry)) (now (pages .exit)) (now (desk .exit)) r ⌝ }
 {
     let mut names: [u64; 16] = [0; 16];
     let mut modes: [u16; 16] = [0; 16];
-    let oldest = waits::oldest(pages, desk, &mut names, &mut modes);
-    let Turn::Runs(next) = oldest else {
-        return circle_turn(pages, desk, &names, &modes);
-    };
-    Turned::Said(acts::run_at(pages, desk, next))
+    turn_noting(pages, desk, &mut names, &mut modes)
 }
 
 // Works the queue to rest. The answers are written one after the other from a place on; it gives the place where they end.
