@@ -1,5 +1,6 @@
 -- An insert of a missing key, from the root: the tree grown, with a new root if it was divided, and page 0 written, is the index with the
 -- entry, whole again. Page 0 and a new root are pages apart from the tree's. Assumes nothing.
+use Rattle.limits.specs.Limits.{pagesMost, pageSize, pagesSize}
 use Rattle.pages.specs.Layout.{EntryFits, ChildFits, rootOf, usedOf, heightOf, putRoot, childrenOf}
 use Prim.Native.Nat.{ℕ, suc, _+_, _-_, _≤_, _<_, compare}
 use mathlib.Core.Path.{_≡_, refl, sym, ap, ap₂, subst, _∙_}
@@ -36,8 +37,8 @@ use Rattle.index.proofs.Subtrees.{used-page, subtree-root}
 use Rattle.index.proofs.Heads.{length-head, head-again, root-head, used-head, height-head, level-small}
 
 -- ---- what stands in the buffer, from page 0 on
-pub becomes : (s : List ℕ) (root used n : ℕ) (x : Index ℕ Item) → length s ≡ 32768 → pageAt s 0 ≡ headPage root used (n + 1) → root < 65536 → used ≤ 64 → n < 65535
-    → Laid n s root → ((q : ℕ) → used ≤ q → q < 64 → pageAt s q ≡ replicate 512 0)
+pub becomes : (s : List ℕ) (root used n : ℕ) (x : Index ℕ Item) → length s ≡ pagesSize → pageAt s 0 ≡ headPage root used (n + 1) → root < 65536 → used ≤ pagesMost → n < 65535
+    → Laid n s root → ((q : ℕ) → used ≤ q → q < pagesMost → pageAt s q ≡ replicate pageSize 0)
     → record { level = n; used = used; tree = treeOf n s root } ≡ x → WholeIndex compare keyOf 0 (some endMark) documentSizes x → Becomes s x
 unfolding indexOf
 becomes s root used n x size head a b c laid spare is whole =
@@ -83,12 +84,12 @@ module _ (s : List ℕ) (w : WholePages s) (t : Top) (o : TopOf s t) (e : Item) 
   abbrev need : ℕ
   need = neededIn n (e .key) s (t .root) 1
 
-  fits-is : entryFits (e .key) (indexOf s) ≡ leb (t .used + need) 64
+  fits-is : entryFits (e .key) (indexOf s) ≡ leb (t .used + need) pagesMost
   unfolding entryFits fits needed
   fits-is =
       let r = runOf n (e .key) s (t .root) in
       let k : suc r ≡ r + 1 = omega arith in
-      ap (entryFits (e .key)) x-is ∙ ap (λ m. leb (t .used + cond (eqb r (suc n)) m r) 64) k
+      ap (entryFits (e .key)) x-is ∙ ap (λ m. leb (t .used + cond (eqb r (suc n)) m r) pagesMost) k
 
   pub grow-top : EntryFits e → GrowIn s (t .level) (t .root) (t .used) e
   grow-top m =
@@ -109,13 +110,13 @@ module _ (s : List ℕ) (w : WholePages s) (t : Top) (o : TopOf s t) (e : Item) 
   short : (s₁ : List ℕ) → Outcome n s s₁ (t .root) (t .used) 1 e Short → Added s s₁ e false
   short s₁ c =
       record {
-        fit = sym (fits-is ∙ lt-leb (t .used + need) 64 (c .1));
+        fit = sym (fits-is ∙ lt-leb (t .used + need) pagesMost (c .1));
         becomes = subst (λ p. Becomes p (indexOf s)) (sym (c .0)) (record { whole = w; index = refl });
       }
 
-  module _ (s₁ : List ℕ) (g : Grown) (d : Grew n s s₁ (t .root) (t .used) e g) (room : t .used + need ≤ 64) where
+  module _ (s₁ : List ℕ) (g : Grown) (d : Grew n s s₁ (t .root) (t .used) e g) (room : t .used + need ≤ pagesMost) where
     fit : entryFits (e .key) (indexOf s) ≡ true
-    fit = fits-is ∙ le-leb (t .used + need) 64 room
+    fit = fits-is ∙ le-leb (t .used + need) pagesMost room
 
     top-kept : pageAt s₁ 0 ≡ pageAt s 0
     top-kept = d .kept 0 used-some (omega (arith, once 0))
@@ -168,7 +169,7 @@ module _ (s : List ℕ) (w : WholePages s) (t : Top) (o : TopOf s t) (e : Item) 
         d′ : Grew n s s₁ (t .root) (t .used) e (Split v c)
         d′ = subst (λ x. Grew n s s₁ (t .root) (t .used) e x) z d
 
-        next : v < 64
+        next : v < pagesMost
         next =
             let taken = grown-needs compare keyOf 0 documentSizes n (sub .least) e (t .used) (treeOf n s (t .root)) (sub .counts) in
             let run : runOf n (e .key) s (t .root) ≡ suc n = subst (λ y. Run n (runOf n (e .key) s (t .root)) y) (d′ .told .1) (taken .run) in

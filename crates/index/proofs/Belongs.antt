@@ -11,6 +11,7 @@ use native.Mathlib.Omega.{arith}
 use lib.Dec.{eqb}
 use lib.ListN.{length, take, drop}
 use lib.Seq.{split-at, take-append-seam}
+use Rattle.limits.specs.Limits.{pagesMost}
 use Rattle.lists.specs.Lists.{In, all, join}
 use Rattle.lists.proofs.Elements.{append-in, in-map, in-right}
 use Rattle.lists.proofs.Tables.{getD-tab}
@@ -101,7 +102,7 @@ module _ (k n : ℕ) where
           }
 
 -- ---- a step of the way down
-module _ (s : List ℕ) (n pg k : ℕ) (t : Subtree s (suc n) pg 64) (way : Way) (goes : Goes s pg k way) where
+module _ (s : List ℕ) (n pg k : ℕ) (t : Subtree s (suc n) pg pagesMost) (way : Way) (goes : Goes s pg k way) where
   abbrev cs : List P.Child
   cs = childrenOf (pageAt s pg)
 
@@ -125,7 +126,7 @@ module _ (s : List ℕ) (n pg k : ℕ) (t : Subtree s (suc n) pg 64) (way : Way)
   unfolding treeOf
   side x j =
       let ks = map (kid n s) cs in
-      let p = child-place s n pg 64 k i t (goes .starts .place) in
+      let p = child-place s n pg pagesMost k i t (goes .starts .place) in
       let b = beside k n (t .low) (t .high) ks (ranged-in compare keyOf 0 n (t .low) (t .high) (treeOf (suc n) s pg) (t .keys) .each) in
       let found : (ds : List P.Child) → missing compare keyOf k (items n (map (kid n s) ds)) ≡ true → In x ds
       → missing compare keyOf k (flat ℕ Item n (treeOf n s (x .page))) ≡ true =
@@ -149,32 +150,32 @@ module _ (s : List ℕ) (n pg k : ℕ) (t : Subtree s (suc n) pg 64) (way : Way)
       below q o z x j m =
           ⊎-elim
           (λ e. l .others q (subst (λ y. 0 < Times n q s y) (ap (λ c. c .page) (sym e) ∙ sym (goes .page)) m) o z)
-          (λ e. all-leaf (λ y. not (eqb (y .key) k)) s n (x .page) 64 q (subtree-child s n pg 64 t x j) (side x e) m z)
+          (λ e. all-leaf (λ y. not (eqb (y .key) k)) s n (x .page) pagesMost q (subtree-child s n pg pagesMost t x j) (side x e) m z)
           (in-parts x j)
 
       go : (q : ℕ) → 0 < Times (suc n) q s pg → q ≢ r → kindOf (pageAt s q) ≡ 2 → (m : ℕ) → isPage q pg ≡ m → missing compare keyOf k (entriesOf (pageAt s q)) ≡ true
-      go q h o z (suc m) e = absurd (omega (arith, inner-kind s n pg 64 t, ap (λ x. kindOf (pageAt s x)) (isPage-is q pg (omega arith))))
+      go q h o z (suc m) e = absurd (omega (arith, inner-kind s n pg pagesMost t, ap (λ x. kindOf (pageAt s x)) (isPage-is q pg (omega arith))))
       go q h o z zero e =
           let c = summed-some (λ (c : P.Child). Times n q s (c .page)) cs (omega (arith, times-inner n q s pg)) in
           below q o z (c .0) (c .1) (c .2)
 
 -- ---- the steps of the code
-pub way-child : (s : List ℕ) (n pg k : ℕ) (way : Way) → Subtree s n pg 64 → (n ≡ 0 → ⊥) → Goes s pg k way → Subtree s (n - 1) (way .page) 64
+pub way-child : (s : List ℕ) (n pg k : ℕ) (way : Way) → Subtree s n pg pagesMost → (n ≡ 0 → ⊥) → Goes s pg k way → Subtree s (n - 1) (way .page) pagesMost
 way-child s n pg k way t z goes =
-    child-in s n pg 64 (way .slot) (countOf (pageAt s pg)) (way .page) t z refl (goes .starts .place .within) (goes .page)
+    child-in s n pg pagesMost (way .slot) (countOf (pageAt s pg)) (way .page) t z refl (goes .starts .place .within) (goes .page)
 
-pub way-leaf : (s : List ℕ) (n pg k : ℕ) (way : Way) (r : ℕ) → Subtree s n pg 64 → (n ≡ 0 → ⊥) → Goes s pg k way → LeafFor s (n - 1) (way .page) k r
+pub way-leaf : (s : List ℕ) (n pg k : ℕ) (way : Way) (r : ℕ) → Subtree s n pg pagesMost → (n ≡ 0 → ⊥) → Goes s pg k way → LeafFor s (n - 1) (way .page) k r
     → LeafFor s n pg k r
 way-leaf s zero pg k way r t z goes l = absurd (z refl)
 way-leaf s (suc n) pg k way r t z goes l =
     let e : suc n - 1 ≡ n = omega arith in
     down s n pg k t way goes r (subst (λ m. LeafFor s m (way .page) k r) e l)
 
-pub own-leaf : (s : List ℕ) (n pg k : ℕ) → Subtree s n pg 64 → n ≡ 0 → LeafFor s n pg k pg
+pub own-leaf : (s : List ℕ) (n pg k : ℕ) → Subtree s n pg pagesMost → n ≡ 0 → LeafFor s n pg k pg
 unfolding times treeOf
-own-leaf s n pg k t z = subst (λ m. LeafFor s m pg k pg) (sym z) (here (subst (λ m. Subtree s m pg 64) z t))
+own-leaf s n pg k t z = subst (λ m. LeafFor s m pg k pg) (sym z) (here (subst (λ m. Subtree s m pg pagesMost) z t))
   where
-    here : Subtree s 0 pg 64 → LeafFor s 0 pg k pg
+    here : Subtree s 0 pg pagesMost → LeafFor s 0 pg k pg
     here t =
         record {
           at = record {
@@ -182,8 +183,8 @@ own-leaf s n pg k t z = subst (λ m. LeafFor s m pg k pg) (sym z) (here (subst (
             which = t .which;
             leaf = record {
               size = length-page s (t .size) pg (t .which);
-              few = omega (arith, leaf-few s pg 64 t, length-entries (pageAt s pg));
-              order = keys-ascend s pg 64 t;
+              few = omega (arith, leaf-few s pg pagesMost t, length-entries (pageAt s pg));
+              order = keys-ascend s pg pagesMost t;
               laid = t .laid;
             };
           };

@@ -1,5 +1,6 @@
 -- A tree of pages grows as the tree does. The code's step at a leaf and at an inner page is the tree's step, its new pages are laid, and no
 -- other page is touched: how often a page stands in a tree says that it is another. Assumes nothing.
+use Rattle.limits.specs.Limits.{pagesMost, pageSize, leafMost, leafStay, leafGo}
 use Rattle.pages.specs.Layout.{EntryFits, countOf, entriesOf}
 use Prim.Native.Nat.{ℕ, _+_, _*_, _-_, _≤_, _<_}
 use mathlib.Core.Path.{_≡_, refl, sym, ap, subst, _∙_}
@@ -34,7 +35,7 @@ use Rattle.index.proofs.Subtrees.{leaf-few, keys-ascend}
 use Rattle.index.proofs.Runs.{need-none, need-full}
 
 -- ---- with room for it
-pub grew-tried : (n : ℕ) (s s′ : List ℕ) (pg u above : ℕ) (e : Item) (r : Grown) → Grew n s s′ pg u e r → u + neededIn n (e .key) s pg above ≤ 64
+pub grew-tried : (n : ℕ) (s s′ : List ℕ) (pg u above : ℕ) (e : Item) (r : Grown) → Grew n s s′ pg u e r → u + neededIn n (e .key) s pg above ≤ pagesMost
     → Tried n s s′ pg u above e r
 grew-tried n s s′ pg u above e Short d h = absurd (d .told)
 grew-tried n s s′ pg u above e (Same v) d h = record { outcome = (d, h) }
@@ -42,7 +43,7 @@ grew-tried n s s′ pg u above e (Split v c) d h = record { outcome = (d, h) }
 
 -- ---- a leaf
 -- what is read of a page that is written as a leaf
-put-leaf : (s : List ℕ) (pg : ℕ) (es : List Item) → pageAt s pg ≡ leafPage es → length es ≤ 24 → Leaf.Smalls es
+put-leaf : (s : List ℕ) (pg : ℕ) (es : List Item) → pageAt s pg ≡ leafPage es → length es ≤ leafMost → Leaf.Smalls es
     → (treeOf 0 s pg ≡ record { number = pg; holds = es }) × Laid 0 s pg
 unfolding treeOf
 put-leaf s pg es e h m =
@@ -50,7 +51,7 @@ put-leaf s pg es e h m =
     (ap (λ ys. record { number = pg; holds = ys }) x, e ∙ ap leafPage (sym x))
 
 module _ (s : List ℕ) (pg u : ℕ) (e : Item) (g : GrowIn s 0 pg u e) (i : ℕ)
-    (place : EntryPlace (take (512 * pg + 512 - 512 * pg) (drop (512 * pg) s)) (e .key) i) where
+    (place : EntryPlace (take (pageSize * pg + pageSize - pageSize * pg) (drop (pageSize * pg) s)) (e .key) i) where
   abbrev old : List Item
   old = entriesOf (pageAt s pg)
 
@@ -67,27 +68,27 @@ module _ (s : List ℕ) (pg u : ℕ) (e : Item) (g : GrowIn s 0 pg u e) (i : ℕ
       ⊎-elim (λ p. subst EntryFits p (g .small)) (Leaf.laid-small (pageAt s pg) (g .sub .laid) (leaf-few s pg u (g .sub)) x) (insertAt-in i e old x j)
 
   -- as many as these
-  grown-is : (b : Bool) → leb (length new) 24 ≡ b → grownOf 0 e u s pg ≡ halves b 13 (G.lowKey keyOf 0) (λ xs. xs) u pg new
+  grown-is : (b : Bool) → leb (length new) leafMost ≡ b → grownOf 0 e u s pg ≡ halves b leafStay (G.lowKey keyOf 0) (λ xs. xs) u pg new
   unfolding grown treeOf
   grown-is b h =
-      ap (λ xs. halves (leb (length xs) 24) 13 (G.lowKey keyOf 0) (λ xs. xs) u pg xs) new-is
-      ∙ ap (λ c. halves c 13 (G.lowKey keyOf 0) (λ xs. xs) u pg new) h
+      ap (λ xs. halves (leb (length xs) leafMost) leafStay (G.lowKey keyOf 0) (λ xs. xs) u pg xs) new-is
+      ∙ ap (λ c. halves c leafStay (G.lowKey keyOf 0) (λ xs. xs) u pg new) h
 
   other-page : (q : ℕ) → Times 0 q s pg ≡ 0 → q ≢ pg
   other-page q h e = let o = own-page 0 s pg in let z = subst (λ x. Times 0 x s pg ≡ 0) e h in omega arith
 
-  more-grew : (p : List ℕ) → length old ≤ 23 → length p ≡ length (take (512 * pg + 512 - 512 * pg) (drop (512 * pg) s))
-      → p ≡ entryPut (take (512 * pg + 512 - 512 * pg) (drop (512 * pg) s)) i e
-      → Grew 0 s (putMid (512 * pg) (512 * pg + 512 - 512 * pg) s p) pg u e (Same u)
+  more-grew : (p : List ℕ) → length old ≤ leafMost - 1 → length p ≡ length (take (pageSize * pg + pageSize - pageSize * pg) (drop (pageSize * pg) s))
+      → p ≡ entryPut (take (pageSize * pg + pageSize - pageSize * pg) (drop (pageSize * pg) s)) i e
+      → Grew 0 s (putMid (pageSize * pg) (pageSize * pg + pageSize - pageSize * pg) s p) pg u e (Same u)
   more-grew p k l b =
       let t = g .sub in
-      let m : length new ≤ 24 = omega (arith, length-insertAt i e old) in
+      let m : length new ≤ leafMost = omega (arith, length-insertAt i e old) in
       let s′ = putPage s pg (leafPage new) in
-      let x : putMid (512 * pg) (512 * pg + 512 - 512 * pg) s p ≡ s′ =
+      let x : putMid (pageSize * pg) (pageSize * pg + pageSize - pageSize * pg) s p ≡ s′ =
       page-back s pg p (leafPage new) l (b ∙ ap (λ v. entryPut v i e) (page-lent s pg ∙ t .laid) ∙ Leaf.leaf-put old (omega arith) i e k) in
       let w = Leaf.leaf-length new m in
       let z = put-leaf s′ pg new (page-same s (t .size) pg (t .which) (leafPage new) w) m new-small in
-      let f = grown-is true (le-leb (length new) 24 m) in
+      let f = grown-is true (le-leb (length new) leafMost m) in
       subst (λ v. Grew 0 s v pg u e (Same u)) (sym x)
       (record {
         size = length-putPage s (t .size) pg (t .which) (leafPage new) w;
@@ -100,7 +101,7 @@ module _ (s : List ℕ) (pg u : ℕ) (e : Item) (g : GrowIn s 0 pg u e) (i : ℕ
         spare = λ q o y. page-other s (t .size) pg (t .which) (leafPage new) w q y (λ v. omega (arith, g .used));
       })
 
-  is-full : length old ≡ 24 → u < 64 → LeafFull s pg u i e
+  is-full : length old ≡ leafMost → u < pagesMost → LeafFull s pg u i e
   is-full k h =
       let t = g .sub in
       record {
@@ -119,20 +120,20 @@ module _ (s : List ℕ) (pg u : ℕ) (e : Item) (g : GrowIn s 0 pg u e) (i : ℕ
   divided-grew s′ r h d =
       let t = g .sub in
       let n : length new ≡ 25 = length-insertAt i e old ∙ ap (λ v. v + 1) (h .full) in
-      let a = leafPage (take 13 new) in
-      let b = leafPage (drop 13 new) in
-      let j : length (take 13 new) ≡ 13 = length-take-le 13 new (omega arith) in
-      let k : length (drop 13 new) ≡ 12 = length-drop 13 new ∙ ap (λ v. v - 13) n in
-      let x : length a ≡ 512 = Leaf.leaf-length (take 13 new) (omega arith) in
-      let y : length b ≡ 512 = Leaf.leaf-length (drop 13 new) (omega arith) in
+      let a = leafPage (take leafStay new) in
+      let b = leafPage (drop leafStay new) in
+      let j : length (take leafStay new) ≡ leafStay = length-take-le leafStay new (omega arith) in
+      let k : length (drop leafStay new) ≡ leafGo = length-drop leafStay new ∙ ap (λ v. v - leafStay) n in
+      let x : length a ≡ pageSize = Leaf.leaf-length (take leafStay new) (omega arith) in
+      let y : length b ≡ pageSize = Leaf.leaf-length (drop leafStay new) (omega arith) in
       let s₁ = putPage s pg a in
       let z₁ = length-putPage s (t .size) pg (t .which) a x in
       let s₂ = putPage s₁ u b in
-      let l = put-leaf s₂ pg (take 13 new) (page-other s₁ z₁ u (h .next) b y pg (t .which) (λ v. omega (arith, h .other)) ∙ page-same s (t .size) pg (t .which) a x)
-      (omega arith) (λ v o. new-small v (take-in 13 new v o)) in
-      let r′ = put-leaf s₂ u (drop 13 new) (page-same s₁ z₁ u (h .next) b y) (omega arith) (λ v o. new-small v (drop-in 13 new v o)) in
-      let f = grown-is false (lt-leb (length new) 24 (omega arith)) in
-      let c : P.Child = record { low = record { 0 = G.lowKey keyOf 0 (drop 13 new) }; page = u } in
+      let l = put-leaf s₂ pg (take leafStay new) (page-other s₁ z₁ u (h .next) b y pg (t .which) (λ v. omega (arith, h .other)) ∙ page-same s (t .size) pg (t .which) a x)
+      (omega arith) (λ v o. new-small v (take-in leafStay new v o)) in
+      let r′ = put-leaf s₂ u (drop leafStay new) (page-same s₁ z₁ u (h .next) b y) (omega arith) (λ v o. new-small v (drop-in leafStay new v o)) in
+      let f = grown-is false (lt-leb (length new) leafMost (omega arith)) in
+      let c : P.Child = record { low = record { 0 = G.lowKey keyOf 0 (drop leafStay new) }; page = u } in
       subst (λ v. Grew 0 s v pg u e r) (sym (d .bytes)) (subst (λ v. Grew 0 s s₂ pg u e v) (sym (d .told))
       (record {
         size = length-putPage s₁ z₁ u (h .next) b y;
@@ -140,9 +141,9 @@ module _ (s : List ℕ) (pg u : ℕ) (e : Item) (g : GrowIn s 0 pg u e) (i : ℕ
         laid = l .1;
         told = (
           sym (ap (λ v. v .used) f),
-          ap (λ v. v .beside) f ∙ ap (λ v. some (record { low = G.lowKey keyOf 0 (drop 13 new); tree = v })) (sym (r′ .0)),
+          ap (λ v. v .beside) f ∙ ap (λ v. some (record { low = G.lowKey keyOf 0 (drop leafStay new); tree = v })) (sym (r′ .0)),
           r′ .1,
-          record { low = low-small (drop 13 new) (λ v o. new-small v (drop-in 13 new v o)); page = omega (arith, h .next) },
+          record { low = low-small (drop leafStay new) (λ v o. new-small v (drop-in leafStay new v o)); page = omega (arith, h .next) },
         );
         more = omega arith;
         most = omega (arith, h .next);
@@ -157,44 +158,44 @@ module _ (s : List ℕ) (pg u : ℕ) (e : Item) (g : GrowIn s 0 pg u e) (i : ℕ
       low-small (x ∷ xs) m = m x (inl refl) .key
 
   -- ---- the steps of the code
-  module _ (n above : ℕ) (c : n ≡ countOf (take (512 * pg + 512 - 512 * pg) (drop (512 * pg) s))) where
+  module _ (n above : ℕ) (c : n ≡ countOf (take (pageSize * pg + pageSize - pageSize * pg) (drop (pageSize * pg) s))) where
     count : length old ≡ n
     count = length-entries (pageAt s pg) ∙ sym (c ∙ ap countOf (page-lent s pg))
 
-    pub leaf-more : (p : List ℕ) → n < 24 → length p ≡ length (take (512 * pg + 512 - 512 * pg) (drop (512 * pg) s))
-        → p ≡ entryPut (take (512 * pg + 512 - 512 * pg) (drop (512 * pg) s)) i e
-        → Tried 0 s (putMid (512 * pg) (512 * pg + 512 - 512 * pg) s p) pg u above e (Same u)
+    pub leaf-more : (p : List ℕ) → n < leafMost → length p ≡ length (take (pageSize * pg + pageSize - pageSize * pg) (drop (pageSize * pg) s))
+        → p ≡ entryPut (take (pageSize * pg + pageSize - pageSize * pg) (drop (pageSize * pg) s)) i e
+        → Tried 0 s (putMid (pageSize * pg) (pageSize * pg + pageSize - pageSize * pg) s p) pg u above e (Same u)
     leaf-more p h l b =
-        grew-tried 0 s (putMid (512 * pg) (512 * pg + 512 - 512 * pg) s p) pg u above e (Same u) (more-grew p (omega (arith, count)) l b)
+        grew-tried 0 s (putMid (pageSize * pg) (pageSize * pg + pageSize - pageSize * pg) s p) pg u above e (Same u) (more-grew p (omega (arith, count)) l b)
         (omega (arith, need-none s pg (e .key) above (omega (arith, count)), g .most))
 
-    pub leaf-over : 24 ≤ n → LeafOver s pg u i e
+    pub leaf-over : leafMost ≤ n → LeafOver s pg u i e
     leaf-over h = record { full = is-full (omega (arith, count, leaf-few s pg u (g .sub))) }
 
-    pub leaf-divided : (s′ : List ℕ) (r : Grown) → 24 ≤ n → LeafParted s s′ pg u above i e r → Tried 0 s s′ pg u above e r
+    pub leaf-divided : (s′ : List ℕ) (r : Grown) → leafMost ≤ n → LeafParted s s′ pg u above i e r → Tried 0 s s′ pg u above e r
     leaf-divided s′ r h d = ⊎-elim no yes (d .how)
       where
         need : neededIn 0 (e .key) s pg above ≡ 1 + above
         need = need-full s pg (e .key) above (omega (arith, count))
 
-        no : (r ≡ Short) × (s′ ≡ s) × (64 < u + above + 1) → Tried 0 s s′ pg u above e r
+        no : (r ≡ Short) × (s′ ≡ s) × (pagesMost < u + above + 1) → Tried 0 s s′ pg u above e r
         no w = subst (Tried 0 s s′ pg u above e) (sym (w .0)) (record { outcome = (w .1, omega (arith, need, w .2)) })
 
-        yes : LeafSplit s s′ pg u i e r × (u + above + 1 ≤ 64) → Tried 0 s s′ pg u above e r
+        yes : LeafSplit s s′ pg u i e r × (u + above + 1 ≤ pagesMost) → Tried 0 s s′ pg u above e r
         yes w =
             grew-tried 0 s s′ pg u above e r (divided-grew s′ r (leaf-over h .full (omega (arith, w .1))) (w .0)) (omega (arith, need, w .1))
 
-pub grow-few : (s : List ℕ) (pg u : ℕ) (e : Item) → GrowIn s 0 pg u e → countOf (take (512 * pg + 512 - 512 * pg) (drop (512 * pg) s)) ≤ 24
+pub grow-few : (s : List ℕ) (pg u : ℕ) (e : Item) → GrowIn s 0 pg u e → countOf (take (pageSize * pg + pageSize - pageSize * pg) (drop (pageSize * pg) s)) ≤ leafMost
 grow-few s pg u e g =
-    subst (λ p. countOf p ≤ 24) (sym (page-lent s pg)) (omega (arith, leaf-few s pg u (g .sub), length-entries (pageAt s pg)))
+    subst (λ p. countOf p ≤ leafMost) (sym (page-lent s pg)) (omega (arith, leaf-few s pg u (g .sub), length-entries (pageAt s pg)))
 
 -- ---- a full leaf, with and without a page for the new one
 module _ (s : List ℕ) (pg u above i : ℕ) (e : Item) where
-  pub over-full : LeafOver s pg u i e → u + above + 1 ≤ 64 → LeafFull s pg u i e
+  pub over-full : LeafOver s pg u i e → u + above + 1 ≤ pagesMost → LeafFull s pg u i e
   over-full o h = o .full (omega arith)
 
-  pub parted-short : 64 < u + above + 1 → LeafParted s s pg u above i e Short
+  pub parted-short : pagesMost < u + above + 1 → LeafParted s s pg u above i e Short
   parted-short h = record { how = inl (refl, refl, h) }
 
-  pub parted-split : (s′ : List ℕ) (r : Grown) → u + above + 1 ≤ 64 → LeafSplit s s′ pg u i e r → LeafParted s s′ pg u above i e r
+  pub parted-split : (s′ : List ℕ) (r : Grown) → u + above + 1 ≤ pagesMost → LeafSplit s s′ pg u i e r → LeafParted s s′ pg u above i e r
   parted-split s′ r h d = record { how = inr (d, h) }

@@ -11,6 +11,7 @@ use lib.Dec.{lit≤}
 use lib.ListN.{length, getD}
 use lib.Seq.{ext-getD}
 use borrow.Author.Tests.{eq-eqb}
+use Rattle.limits.specs.Limits.{pagesMost, pageSize, headSize}
 use Rattle.lists.specs.Lists.{In}
 use Rattle.numbers.specs.Numbers.{fieldsAt, putFields, widthOf}
 use Rattle.numbers.proofs.Fields.{touches-putFields, length-putFields, fields-same}
@@ -25,44 +26,44 @@ use Rattle.index.proofs.Written.{length-blank}
 use Rattle.index.proofs.Frame.{Times, times-inner}
 use Rattle.index.proofs.Subtrees.{subtree-child, inner-filled}
 
-pub length-head : (root used height : ℕ) → length (headPage root used height) ≡ 512
+pub length-head : (root used height : ℕ) → length (headPage root used height) ≡ pageSize
 unfolding headPage putRoot
-length-head root used height = length-putFields rootWidths (blankPage 1 0) 16 (root ∷ used ∷ height ∷ []) ∙ length-blank 1 0
+length-head root used height = length-putFields rootWidths (blankPage 1 0) headSize (root ∷ used ∷ height ∷ []) ∙ length-blank 1 0
 
 -- written again
 pub head-again : (a b c root used height : ℕ) → putRoot (headPage a b c) root used height ≡ headPage root used height
 unfolding headPage putRoot widthOf
 head-again a b c root used height =
-    let f = touches-putFields rootWidths (blankPage 1 0) 16 (a ∷ b ∷ c ∷ []) in
-    let g = touches-putFields rootWidths (putFields rootWidths (blankPage 1 0) 16 (a ∷ b ∷ c ∷ [])) 16 (root ∷ used ∷ height ∷ []) in
-    let h = touches-putFields rootWidths (blankPage 1 0) 16 (root ∷ used ∷ height ∷ []) in
-    ext-getD 0 (putFields rootWidths (putFields rootWidths (blankPage 1 0) 16 (a ∷ b ∷ c ∷ [])) 16 (root ∷ used ∷ height ∷ []))
-    (putFields rootWidths (blankPage 1 0) 16 (root ∷ used ∷ height ∷ [])) (g .len ∙ f .len ∙ sym (h .len))
-    (λ i o. at i (decLt i 16) (decLt i 22))
+    let f = touches-putFields rootWidths (blankPage 1 0) headSize (a ∷ b ∷ c ∷ []) in
+    let g = touches-putFields rootWidths (putFields rootWidths (blankPage 1 0) headSize (a ∷ b ∷ c ∷ [])) headSize (root ∷ used ∷ height ∷ []) in
+    let h = touches-putFields rootWidths (blankPage 1 0) headSize (root ∷ used ∷ height ∷ []) in
+    ext-getD 0 (putFields rootWidths (putFields rootWidths (blankPage 1 0) headSize (a ∷ b ∷ c ∷ [])) headSize (root ∷ used ∷ height ∷ []))
+    (putFields rootWidths (blankPage 1 0) headSize (root ∷ used ∷ height ∷ [])) (g .len ∙ f .len ∙ sym (h .len))
+    (λ i o. at i (decLt i headSize) (decLt i (headSize + 6)))
   where
-    at : (i : ℕ) → Dec (i < 16) → Dec (i < 22)
-        → getD (putFields rootWidths (putFields rootWidths (blankPage 1 0) 16 (a ∷ b ∷ c ∷ [])) 16 (root ∷ used ∷ height ∷ [])) i 0
-        ≡ getD (putFields rootWidths (blankPage 1 0) 16 (root ∷ used ∷ height ∷ [])) i 0
+    at : (i : ℕ) → Dec (i < headSize) → Dec (i < headSize + 6)
+        → getD (putFields rootWidths (putFields rootWidths (blankPage 1 0) headSize (a ∷ b ∷ c ∷ [])) headSize (root ∷ used ∷ height ∷ [])) i 0
+        ≡ getD (putFields rootWidths (blankPage 1 0) headSize (root ∷ used ∷ height ∷ [])) i 0
     at i (yes x) y =
-        touches-putFields rootWidths (putFields rootWidths (blankPage 1 0) 16 (a ∷ b ∷ c ∷ [])) 16 (root ∷ used ∷ height ∷ []) .rest i (omega arith)
-        ∙ touches-putFields rootWidths (blankPage 1 0) 16 (a ∷ b ∷ c ∷ []) .rest i (omega arith)
-        ∙ sym (touches-putFields rootWidths (blankPage 1 0) 16 (root ∷ used ∷ height ∷ []) .rest i (omega arith))
+        touches-putFields rootWidths (putFields rootWidths (blankPage 1 0) headSize (a ∷ b ∷ c ∷ [])) headSize (root ∷ used ∷ height ∷ []) .rest i (omega arith)
+        ∙ touches-putFields rootWidths (blankPage 1 0) headSize (a ∷ b ∷ c ∷ []) .rest i (omega arith)
+        ∙ sym (touches-putFields rootWidths (blankPage 1 0) headSize (root ∷ used ∷ height ∷ []) .rest i (omega arith))
     at i (no x) (no y) =
-        touches-putFields rootWidths (putFields rootWidths (blankPage 1 0) 16 (a ∷ b ∷ c ∷ [])) 16 (root ∷ used ∷ height ∷ []) .rest i (omega arith)
-        ∙ touches-putFields rootWidths (blankPage 1 0) 16 (a ∷ b ∷ c ∷ []) .rest i (omega arith)
-        ∙ sym (touches-putFields rootWidths (blankPage 1 0) 16 (root ∷ used ∷ height ∷ []) .rest i (omega arith))
+        touches-putFields rootWidths (putFields rootWidths (blankPage 1 0) headSize (a ∷ b ∷ c ∷ [])) headSize (root ∷ used ∷ height ∷ []) .rest i (omega arith)
+        ∙ touches-putFields rootWidths (blankPage 1 0) headSize (a ∷ b ∷ c ∷ []) .rest i (omega arith)
+        ∙ sym (touches-putFields rootWidths (blankPage 1 0) headSize (root ∷ used ∷ height ∷ []) .rest i (omega arith))
     at i (no x) (yes y) =
-        let q : i ≡ 16 + (i - 16) = omega arith in
-        let m = fields-alike rootWidths (putFields rootWidths (blankPage 1 0) 16 (a ∷ b ∷ c ∷ [])) 16 (blankPage 1 0) 16 (root ∷ used ∷ height ∷ [])
-        (omega (arith, length-putFields rootWidths (blankPage 1 0) 16 (a ∷ b ∷ c ∷ []), length-blank 1 0)) (omega (arith, length-blank 1 0)) in
-        subst (λ z. getD (putFields rootWidths (putFields rootWidths (blankPage 1 0) 16 (a ∷ b ∷ c ∷ [])) 16 (root ∷ used ∷ height ∷ [])) z 0
-        ≡ getD (putFields rootWidths (blankPage 1 0) 16 (root ∷ used ∷ height ∷ [])) z 0) (sym q) (m .byte (i - 16) (omega arith))
+        let q : i ≡ headSize + (i - headSize) = omega arith in
+        let m = fields-alike rootWidths (putFields rootWidths (blankPage 1 0) headSize (a ∷ b ∷ c ∷ [])) headSize (blankPage 1 0) headSize (root ∷ used ∷ height ∷ [])
+        (omega (arith, length-putFields rootWidths (blankPage 1 0) headSize (a ∷ b ∷ c ∷ []), length-blank 1 0)) (omega (arith, length-blank 1 0)) in
+        subst (λ z. getD (putFields rootWidths (putFields rootWidths (blankPage 1 0) headSize (a ∷ b ∷ c ∷ [])) headSize (root ∷ used ∷ height ∷ [])) z 0
+        ≡ getD (putFields rootWidths (blankPage 1 0) headSize (root ∷ used ∷ height ∷ [])) z 0) (sym q) (m .byte (i - headSize) (omega arith))
 
 -- read
 module _ (root used height : ℕ) (x : root < 65536) (y : used < 65536) (z : height < 65536) where
-  head-fields : fieldsAt rootWidths (headPage root used height) 16 ≡ root ∷ used ∷ height ∷ []
+  head-fields : fieldsAt rootWidths (headPage root used height) headSize ≡ root ∷ used ∷ height ∷ []
   unfolding headPage putRoot widthOf
-  head-fields = fields-same rootWidths (blankPage 1 0) 16 (root ∷ used ∷ height ∷ []) (x, (y, (z, tt))) (omega (arith, length-blank 1 0))
+  head-fields = fields-same rootWidths (blankPage 1 0) headSize (root ∷ used ∷ height ∷ []) (x, (y, (z, tt))) (omega (arith, length-blank 1 0))
 
   pub root-head : rootOf (headPage root used height) ≡ root
   unfolding fieldsAt
@@ -104,16 +105,16 @@ some-child : (cs : List P.Child) → 1 ≤ length cs → (c : P.Child) × In c c
 some-child [] h = absurd (omega arith)
 some-child (c ∷ cs) h = (c, inl refl)
 
-levels : (s : List ℕ) (n pg u : ℕ) → Subtree s n pg u → n + 1 ≤ sumTo 64 (λ q. Times n q s pg)
+levels : (s : List ℕ) (n pg u : ℕ) → Subtree s n pg u → n + 1 ≤ sumTo pagesMost (λ q. Times n q s pg)
 unfolding times treeOf
-levels s zero pg u t = omega (arith, sum-page 64 pg (t .which))
+levels s zero pg u t = omega (arith, sum-page pagesMost pg (t .which))
 levels s (suc n) pg u t =
     let f = inner-filled s n pg u t in
     let c = some-child (childrenOf (pageAt s pg)) (omega (arith, f .few, t .enough)) in
     let r = levels s n (c .0 .page) u (subtree-child s n pg u t (c .0) (c .1)) in
-    let k = sum-least 64 (λ q. isPage q pg) (λ q. Times n q s (c .0 .page)) (λ q. Times (suc n) q s pg)
+    let k = sum-least pagesMost (λ q. isPage q pg) (λ q. Times n q s (c .0 .page)) (λ q. Times (suc n) q s pg)
     (λ q. omega (arith, times-inner n q s pg, summed-in (λ (x : P.Child). Times n q s (x .page)) (childrenOf (pageAt s pg)) (c .0) (c .1))) in
-    omega (arith, sum-page 64 pg (t .which))
+    omega (arith, sum-page pagesMost pg (t .which))
 
-pub level-small : (s : List ℕ) (n pg u : ℕ) → Subtree s n pg u → n < 64
-level-small s n pg u t = omega (arith, levels s n pg u t, sum-most 64 (λ q. Times n q s pg) (λ q. omega (arith, t .alone q)))
+pub level-small : (s : List ℕ) (n pg u : ℕ) → Subtree s n pg u → n < pagesMost
+level-small s n pg u t = omega (arith, levels s n pg u t, sum-most pagesMost (λ q. Times n q s pg) (λ q. omega (arith, t .alone q)))

@@ -1,7 +1,8 @@
 -- An inner page as it is written from children, and as the inner code changes it: it is then the page written from the children changed.
 -- Its rows are those of its children, and a child that fits is read back as it was written. Assumes nothing.
+use Rattle.limits.specs.Limits.{pageSize, childSize, innerMost, innerStay}
 use Rattle.pages.specs.Layout.{ChildFits, countOf, childWidths, childFields, childrenOf}
-use Prim.Native.Nat.{ℕ, _≤_}
+use Prim.Native.Nat.{ℕ, _-_, _≤_}
 use mathlib.Core.Path.{_≡_, refl, sym, ap, ap₂, subst, _∙_}
 use mathlib.Core.Logic.{inl, inr}
 use mathlib.Core.List.{List, [], _∷_, map}
@@ -37,7 +38,7 @@ smalls-said (c ∷ cs) x (inr i) = smalls-said cs x i
 
 row-fields : (c : Child) → ChildFits c → fieldsAt childWidths (childRow c) 0 ≡ childFields c
 unfolding childRow widthOf
-row-fields c s = fields-same childWidths (replicate 16 0) 0 (childFields c) (child-fits c s) (lit≤ tt)
+row-fields c s = fields-same childWidths (replicate childSize 0) 0 (childFields c) (child-fits c s) (lit≤ tt)
 
 -- ---- the first separator becomes 0
 low-zero : (c : Child) → ChildFits c → putNumber 8 (childRow c) 0 0 ≡ childRow (record { low = record { 0 = 0 }; page = c .page })
@@ -45,7 +46,7 @@ unfolding fieldsAt widthOf childFields
 low-zero c s =
     let d : Child = record { low = record { 0 = 0 }; page = c .page } in
     let p = putNumber 8 (childRow c) 0 0 in
-    let n : length p ≡ 16 = length-putNumber 8 (childRow c) 0 0 ∙ length-childRow c in
+    let n : length p ≡ childSize = length-putNumber 8 (childRow c) 0 0 ∙ length-childRow c in
     let f = touches-putNumber 8 (childRow c) 0 0 in
     let a : numberAt 8 p 0 ≡ 0 = number-same 8 (childRow c) 0 0 (lit< tt) (omega (arith, length-childRow c)) in
     let x = number-apart 2 8 f (lit< tt) in
@@ -68,48 +69,48 @@ first-rows [] s = refl
 first-rows (c ∷ cs) s = ap (λ vs. getD vs 0 0) (row-fields c (s c (inl refl)))
 
 -- ---- written
-module _ (level : ℕ) (cs : List Child) (h : length cs ≤ 30) where
-  pub inner-rows : rowsOf 16 (innerPage level cs) ≡ map childRow cs
+module _ (level : ℕ) (cs : List Child) (h : length cs ≤ innerMost) where
+  pub inner-rows : rowsOf childSize (innerPage level cs) ≡ map childRow cs
   unfolding innerPage
-  inner-rows = rows-written 16 childRow length-childRow (blank-page 3 level) cs (omega arith) (omega arith)
+  inner-rows = rows-written childSize childRow length-childRow (blank-page 3 level) cs (omega arith) (omega arith)
 
   pub inner-count : countOf (innerPage level cs) ≡ length cs
   unfolding innerPage
-  inner-count = count-written 16 childRow length-childRow (blank-page 3 level) cs (omega arith) (omega arith)
+  inner-count = count-written childSize childRow length-childRow (blank-page 3 level) cs (omega arith) (omega arith)
 
-  pub inner-length : length (innerPage level cs) ≡ 512
+  pub inner-length : length (innerPage level cs) ≡ pageSize
   unfolding innerPage
-  inner-length = length-written 16 childRow length-childRow (blank-page 3 level) cs (omega arith) (omega arith)
+  inner-length = length-written childSize childRow length-childRow (blank-page 3 level) cs (omega arith) (omega arith)
 
   pub inner-children : Smalls cs → childrenOf (innerPage level cs) ≡ cs
   unfolding innerPage
   inner-children s =
-      children-with (blankPage 3 level) (map childRow cs) (fit-rows 16 childRow length-childRow (blank-page 3 level) cs (omega arith) (omega arith))
+      children-with (blankPage 3 level) (map childRow cs) (fit-rows childSize childRow length-childRow (blank-page 3 level) cs (omega arith) (omega arith))
       ∙ back-rows cs s
 
   -- ---- as the inner code changes it
-  pub inner-put : (i : ℕ) (c : Child) → length cs ≤ 29 → childPut (innerPage level cs) i c ≡ innerPage level (insertAt i c cs)
+  pub inner-put : (i : ℕ) (c : Child) → length cs ≤ innerMost - 1 → childPut (innerPage level cs) i c ≡ innerPage level (insertAt i c cs)
   unfolding innerPage childPut
-  inner-put i c k = put-written 16 childRow length-childRow (blank-page 3 level) cs (omega arith) (omega arith) i c (omega arith) (omega arith)
+  inner-put i c k = put-written childSize childRow length-childRow (blank-page 3 level) cs (omega arith) (omega arith) i c (omega arith) (omega arith)
 
   module _ (i : ℕ) (c : Child) (l r : List ℕ)
-      (d : Divided 16 16 fromZero (insertAt i (childRow c) (rowsOf 16 (innerPage level cs))) (innerPage level cs) (blankPage 3 level) l r) where
-    pub inner-stays : 16 ≤ length cs → l ≡ innerPage level (take 16 (insertAt i c cs))
+      (d : Divided childSize innerStay fromZero (insertAt i (childRow c) (rowsOf childSize (innerPage level cs))) (innerPage level cs) (blankPage 3 level) l r) where
+    pub inner-stays : innerStay ≤ length cs → l ≡ innerPage level (take innerStay (insertAt i c cs))
     unfolding innerPage
     inner-stays k =
-        d .left ∙ stay-written 16 childRow length-childRow (blank-page 3 level) cs (omega arith) (omega arith) i 16 c (lit≤ tt) (lit< tt) k
+        d .left ∙ stay-written childSize childRow length-childRow (blank-page 3 level) cs (omega arith) (omega arith) i innerStay c (lit≤ tt) (lit< tt) k
 
-    pub inner-goes : Smalls (drop 16 (insertAt i c cs)) → r ≡ innerPage level (zeroFirst (drop 16 (insertAt i c cs)))
+    pub inner-goes : Smalls (drop innerStay (insertAt i c cs)) → r ≡ innerPage level (zeroFirst (drop innerStay (insertAt i c cs)))
     unfolding innerPage
     inner-goes s =
         d .right
-        ∙ ap (λ rs. withRows 16 (blankPage 3 level) (fromZero rs))
-        (go-written 16 childRow length-childRow (blank-page 3 level) cs (omega arith) (omega arith) i 16 c)
-        ∙ ap (withRows 16 (blankPage 3 level)) (zero-rows (drop 16 (insertAt i c cs)) s)
+        ∙ ap (λ rs. withRows childSize (blankPage 3 level) (fromZero rs))
+        (go-written childSize childRow length-childRow (blank-page 3 level) cs (omega arith) (omega arith) i innerStay c)
+        ∙ ap (withRows childSize (blankPage 3 level)) (zero-rows (drop innerStay (insertAt i c cs)) s)
 
 -- ---- a laid inner page: its children fit
-pub laid-small : (level : ℕ) (p : List ℕ) → p ≡ innerPage level (childrenOf p) → length (childrenOf p) ≤ 30 → Smalls (childrenOf p)
+pub laid-small : (level : ℕ) (p : List ℕ) → p ≡ innerPage level (childrenOf p) → length (childrenOf p) ≤ innerMost → Smalls (childrenOf p)
 unfolding innerPage
 laid-small level p e h =
     subst Smalls (sym (ap childrenOf e ∙ children-with (blankPage 3 level) (map childRow (childrenOf p))
-    (fit-rows 16 childRow length-childRow (blank-page 3 level) (childrenOf p) (omega arith) (omega arith)))) (smalls-said (childrenOf p))
+    (fit-rows childSize childRow length-childRow (blank-page 3 level) (childrenOf p) (omega arith) (omega arith)))) (smalls-said (childrenOf p))

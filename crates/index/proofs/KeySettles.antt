@@ -11,6 +11,7 @@ use lib.Dec.{leb, eqb, ltb}
 use lib.ListN.{length, getD, set, take, drop}
 use borrow.Author.Tests.{leb-true, leb-false, eqb-true, eq-eqb, ne-eqb, not-true, not-false, ltb-true}
 use borrow.Rule.Slice.PartMut.{putMid}
+use Rattle.limits.specs.Limits.{pageSize, leafMost}
 use Rattle.lists.specs.Lists.{all, pairs, place, join, removeAt}
 use Rattle.lists.proofs.Tables.{getD-tab}
 use Rattle.lists.proofs.Tests.{all-head, all-tail, all-cons, all-at, all-weaker}
@@ -38,7 +39,7 @@ module _ (p : List ℕ) (l : OwnLeaf p) (i : ℕ) (h : i < countOf p) (e : Item)
   there : i < length (entriesOf p)
   there = omega (arith, length-entries p)
 
-  few : length (entriesOf p) ≤ 24
+  few : length (entriesOf p) ≤ leafMost
   few = omega (arith, l .few, length-entries p)
 
   put-is : (c : Bool) → present e ≡ c → (p′ : List ℕ) → p′ ≡ leafPage (cond c (set (entriesOf p) i e) (removeAt i (entriesOf p)))
@@ -172,9 +173,9 @@ module _ (commits : Bool) (t k : ℕ) where
           ∙ ap leafPage (sym (settles-as y ∙ ap (λ v. at v i e (entriesOf p)) (eq-eqb (e .owner) t o)))
 
   -- ---- and given back
-  pub key-back : (s : List ℕ) (pg : ℕ) (p : List ℕ) → length p ≡ length (take (512 * pg + 512 - 512 * pg) (drop (512 * pg) s))
-      → p ≡ leafPage (keySettled commits t k (entriesOf (take (512 * pg + 512 - 512 * pg) (drop (512 * pg) s))))
-      → putMid (512 * pg) (512 * pg + 512 - 512 * pg) s p ≡ putPage s pg (leafPage (keySettled commits t k (entriesOf (pageAt s pg))))
+  pub key-back : (s : List ℕ) (pg : ℕ) (p : List ℕ) → length p ≡ length (take (pageSize * pg + pageSize - pageSize * pg) (drop (pageSize * pg) s))
+      → p ≡ leafPage (keySettled commits t k (entriesOf (take (pageSize * pg + pageSize - pageSize * pg) (drop (pageSize * pg) s))))
+      → putMid (pageSize * pg) (pageSize * pg + pageSize - pageSize * pg) s p ≡ putPage s pg (leafPage (keySettled commits t k (entriesOf (pageAt s pg))))
   key-back s pg p n b =
       page-back s pg p (leafPage (keySettled commits t k (entriesOf (pageAt s pg)))) n
       (b ∙ ap (λ x. leafPage (keySettled commits t k (entriesOf x))) (page-lent s pg))

@@ -1,7 +1,8 @@
 -- A leaf as it is written from entries, and as the leaf code changes it: it is then the leaf written from the entries changed.
 -- Its rows are those of its entries, and an entry that fits is read back as it was written. Assumes nothing.
+use Rattle.limits.specs.Limits.{pageSize, entrySize, leafMost, leafStay}
 use Rattle.pages.specs.Layout.{EntryFits, countOf, entriesOf}
-use Prim.Native.Nat.{ℕ, _≤_, _<_}
+use Prim.Native.Nat.{ℕ, _-_, _≤_, _<_}
 use mathlib.Core.Path.{_≡_, refl, sym, ap, ap₂, subst, _∙_}
 use mathlib.Core.Logic.{inl, inr, ⊎-elim}
 use mathlib.Core.Bool.{Bool, true, false, cond}
@@ -34,56 +35,56 @@ smalls-said (e ∷ es) x (inl p) = subst EntryFits p (row-fits (entryRow e) (byt
 smalls-said (e ∷ es) x (inr i) = smalls-said es x i
 
 -- ---- written
-module _ (es : List Item) (h : length es ≤ 24) where
-  pub leaf-rows : rowsOf 20 (leafPage es) ≡ map entryRow es
+module _ (es : List Item) (h : length es ≤ leafMost) where
+  pub leaf-rows : rowsOf entrySize (leafPage es) ≡ map entryRow es
   unfolding leafPage
-  leaf-rows = rows-written 20 entryRow length-entryRow (blank-page 2 0) es (omega arith) (omega arith)
+  leaf-rows = rows-written entrySize entryRow length-entryRow (blank-page 2 0) es (omega arith) (omega arith)
 
   pub leaf-count : countOf (leafPage es) ≡ length es
   unfolding leafPage
-  leaf-count = count-written 20 entryRow length-entryRow (blank-page 2 0) es (omega arith) (omega arith)
+  leaf-count = count-written entrySize entryRow length-entryRow (blank-page 2 0) es (omega arith) (omega arith)
 
-  pub leaf-length : length (leafPage es) ≡ 512
+  pub leaf-length : length (leafPage es) ≡ pageSize
   unfolding leafPage
-  leaf-length = length-written 20 entryRow length-entryRow (blank-page 2 0) es (omega arith) (omega arith)
+  leaf-length = length-written entrySize entryRow length-entryRow (blank-page 2 0) es (omega arith) (omega arith)
 
   pub leaf-entries : Smalls es → entriesOf (leafPage es) ≡ es
   unfolding leafPage
   leaf-entries s =
-      entries-with (blankPage 2 0) (map entryRow es) (fit-rows 20 entryRow length-entryRow (blank-page 2 0) es (omega arith) (omega arith))
+      entries-with (blankPage 2 0) (map entryRow es) (fit-rows entrySize entryRow length-entryRow (blank-page 2 0) es (omega arith) (omega arith))
       ∙ back-rows es s
 
   -- given other rows
-  pub leaf-again : (xs : List Item) → length xs ≤ 24 → withRows 20 (leafPage es) (map entryRow xs) ≡ leafPage xs
+  pub leaf-again : (xs : List Item) → length xs ≤ leafMost → withRows entrySize (leafPage es) (map entryRow xs) ≡ leafPage xs
   unfolding leafPage
-  leaf-again xs k = written-again 20 entryRow length-entryRow (blank-page 2 0) es (omega arith) (omega arith) xs (omega arith) (omega arith)
+  leaf-again xs k = written-again entrySize entryRow length-entryRow (blank-page 2 0) es (omega arith) (omega arith) xs (omega arith) (omega arith)
 
   -- ---- as the leaf code changes it
-  pub leaf-put : (i : ℕ) (e : Item) → length es ≤ 23 → entryPut (leafPage es) i e ≡ leafPage (insertAt i e es)
+  pub leaf-put : (i : ℕ) (e : Item) → length es ≤ leafMost - 1 → entryPut (leafPage es) i e ≡ leafPage (insertAt i e es)
   unfolding leafPage entryPut
-  leaf-put i e k = put-written 20 entryRow length-entryRow (blank-page 2 0) es (omega arith) (omega arith) i e (omega arith) (omega arith)
+  leaf-put i e k = put-written entrySize entryRow length-entryRow (blank-page 2 0) es (omega arith) (omega arith) i e (omega arith) (omega arith)
 
   pub leaf-taken : (i : ℕ) → i < length es → entryTaken (leafPage es) i ≡ leafPage (removeAt i es)
   unfolding leafPage entryTaken
-  leaf-taken i k = taken-written 20 entryRow length-entryRow (blank-page 2 0) es (omega arith) (omega arith) i k
+  leaf-taken i k = taken-written entrySize entryRow length-entryRow (blank-page 2 0) es (omega arith) (omega arith) i k
 
   module _ (i : ℕ) (e : Item) (l r : List ℕ)
-      (d : Divided 20 13 asTheyAre (insertAt i (entryRow e) (rowsOf 20 (leafPage es))) (leafPage es) (blankPage 2 0) l r) where
-    pub leaf-stays : 13 ≤ length es → l ≡ leafPage (take 13 (insertAt i e es))
+      (d : Divided entrySize leafStay asTheyAre (insertAt i (entryRow e) (rowsOf entrySize (leafPage es))) (leafPage es) (blankPage 2 0) l r) where
+    pub leaf-stays : leafStay ≤ length es → l ≡ leafPage (take leafStay (insertAt i e es))
     unfolding leafPage
-    leaf-stays k = d .left ∙ stay-written 20 entryRow length-entryRow (blank-page 2 0) es (omega arith) (omega arith) i 13 e (lit≤ tt) (lit< tt) k
+    leaf-stays k = d .left ∙ stay-written entrySize entryRow length-entryRow (blank-page 2 0) es (omega arith) (omega arith) i leafStay e (lit≤ tt) (lit< tt) k
 
-    pub leaf-goes : r ≡ leafPage (drop 13 (insertAt i e es))
+    pub leaf-goes : r ≡ leafPage (drop leafStay (insertAt i e es))
     unfolding leafPage
     leaf-goes =
-        d .right ∙ ap (withRows 20 (blankPage 2 0)) (go-written 20 entryRow length-entryRow (blank-page 2 0) es (omega arith) (omega arith) i 13 e)
+        d .right ∙ ap (withRows entrySize (blankPage 2 0)) (go-written entrySize entryRow length-entryRow (blank-page 2 0) es (omega arith) (omega arith) i leafStay e)
 
 -- ---- a laid leaf: its entries fit
-pub laid-small : (p : List ℕ) → p ≡ leafPage (entriesOf p) → length (entriesOf p) ≤ 24 → Smalls (entriesOf p)
+pub laid-small : (p : List ℕ) → p ≡ leafPage (entriesOf p) → length (entriesOf p) ≤ leafMost → Smalls (entriesOf p)
 unfolding leafPage
 laid-small p e h =
     subst Smalls (sym (ap entriesOf e ∙ entries-with (blankPage 2 0) (map entryRow (entriesOf p))
-    (fit-rows 20 entryRow length-entryRow (blank-page 2 0) (entriesOf p) (omega arith) (omega arith)))) (smalls-said (entriesOf p))
+    (fit-rows entrySize entryRow length-entryRow (blank-page 2 0) (entriesOf p) (omega arith) (omega arith)))) (smalls-said (entriesOf p))
 
 -- ---- settled
 rows-left : (commits : Bool) (t : ℕ) (e : Item) → EntryFits e → rowLeft commits t (entryRow e) ≡ map entryRow (left (endOf commits) t e)
@@ -109,12 +110,12 @@ end-key false e = refl
 pub settled-few : (commits : Bool) (t : ℕ) (es : List Item) → length (settled (endOf commits) t es) ≤ length es
 settled-few commits t es = thinner keyOf keyOf (settled (endOf commits) t) (settled-thins (endOf commits) (end-key commits) t) es .fewer
 
-pub leaf-settled : (commits : Bool) (t : ℕ) (es : List Item) → length es ≤ 24 → Smalls es
+pub leaf-settled : (commits : Bool) (t : ℕ) (es : List Item) → length es ≤ leafMost → Smalls es
     → leafSettled commits t (leafPage es) ≡ leafPage (settled (endOf commits) t es)
 unfolding leafSettled
 leaf-settled commits t es h s =
-    ap (λ rs. withRows 20 (leafPage es) (join (rowLeft commits t) rs)) (leaf-rows es h)
-    ∙ ap (withRows 20 (leafPage es)) (all-left commits t es s)
+    ap (λ rs. withRows entrySize (leafPage es) (join (rowLeft commits t) rs)) (leaf-rows es h)
+    ∙ ap (withRows entrySize (leafPage es)) (all-left commits t es s)
     ∙ leaf-again es h (settled (endOf commits) t es) (omega (arith, settled-few commits t es))
 
 small-end : (commits : Bool) (e : Item) → EntryFits e → EntryFits (endOf commits e)

@@ -9,6 +9,7 @@ use native.Mathlib.Omega.{arith}
 use lib.Dec.{eqb}
 use lib.ListN.{length}
 use borrow.Author.Tests.{eqb-true, eqb-false, le-leb, lt-leb}
+use Rattle.limits.specs.Limits.{pageSize, leafMost}
 use Rattle.pages.specs.Layout.{kindOf, rootOf, usedOf, heightOf, entriesOf}
 use Rattle.pages.proofs.Entries.{length-entries}
 use Rattle.trees.specs.Trees.{above}
@@ -37,7 +38,7 @@ module _ (f : List Item → List Item) (thins : Thins keyOf keyOf f) (small : (e
   few : (es : List Item) → length (f es) ≤ length es
   few es = thinner keyOf keyOf f thins es .fewer
 
-  own : length (entriesOf (pageAt s q)) ≤ 24
+  own : length (entriesOf (pageAt s q)) ≤ leafMost
   own = omega (arith, l .at .leaf .few, length-entries (pageAt s q))
 
   used : q < usedOf p₀
@@ -68,7 +69,7 @@ module _ (f : List Item → List Item) (thins : Thins keyOf keyOf f) (small : (e
   leaf-changed s′ b =
       let es = entriesOf (pageAt s q) in
       let g = leafPage (f es) in
-      let n : length g ≡ 512 = leaf-length (f es) (omega (arith, few es, own)) in
+      let n : length g ≡ pageSize = leaf-length (f es) (omega (arith, few es, own)) in
       let a = l .at in
       let kept : (r : ℕ) → r ≢ q → pageAt s′ r ≡ pageAt s r = λ r d. ap (λ z. pageAt z r) b ∙ page-kept s (a .size) q (a .which) g n r d in
       refill-whole f few small s s′ w thins (ap length b ∙ length-putPage s (a .size) q (a .which) g n)

@@ -9,6 +9,7 @@ use native.Mathlib.Omega.{arith}
 use lib.Dec.{eqb}
 use lib.ListN.{length}
 use borrow.Author.Tests.{eqb-true}
+use Rattle.limits.specs.Limits.{pagesMost, pagesSize, leafMost}
 use Rattle.lists.specs.Lists.{In}
 use Rattle.lists.proofs.Joins.{map-same}
 use Rattle.rules.specs.Document.{endMark}
@@ -46,7 +47,7 @@ isPage-is q p h = go (eqb q p) refl
 
 -- a leaf as it should be
 pub record Good (p : List ℕ) : Type 0 where
-  pub few : length (entriesOf p) ≤ 24
+  pub few : length (entriesOf p) ≤ leafMost
   pub laid : p ≡ leafPage (entriesOf p)
 
 pub leaf-good : (s : List ℕ) (n pg u q : ℕ) → Subtree s n pg u → 0 < Times n q s pg → kindOf (pageAt s q) ≡ 2 → Good (pageAt s q)
@@ -97,9 +98,9 @@ module _ (f : List Item → List Item) (few : (es : List Item) → length (f es)
       }
 
   -- ---- the whole
-  pub refill-whole : WholePages s → Thins keyOf keyOf f → length s′ ≡ 32768
+  pub refill-whole : WholePages s → Thins keyOf keyOf f → length s′ ≡ pagesSize
       → ((q : ℕ) → q < usedOf (pageAt s 0) → pageAt s′ q ≡ refilled f (pageAt s q))
-      → ((q : ℕ) → usedOf (pageAt s 0) ≤ q → q < 64 → pageAt s′ q ≡ pageAt s q) → Becomes s′ (inLeaves ℕ Item Item f (indexOf s))
+      → ((q : ℕ) → usedOf (pageAt s 0) ≤ q → q < pagesMost → pageAt s′ q ≡ pageAt s q) → Becomes s′ (inLeaves ℕ Item Item f (indexOf s))
   unfolding indexOf inLeaves
   refill-whole w thins size h k =
       let p = pageAt s 0 in

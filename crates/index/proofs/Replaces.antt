@@ -12,6 +12,7 @@ use lib.ListN.{length, getD, set, take, drop, List·getD-eq-default}
 use lib.Seq.{set-out}
 use borrow.Author.Tests.{leb-true, leb-false, eqb-true, eq-eqb, ne-eqb, not-true, not-false, ltb-true}
 use borrow.Rule.Slice.PartMut.{putMid}
+use Rattle.limits.specs.Limits.{pageSize}
 use Rattle.lists.specs.Lists.{all, pairs, place}
 use Rattle.lists.proofs.Tables.{getD-tab}
 use Rattle.lists.proofs.Tests.{all-head, all-tail, all-weaker}
@@ -32,7 +33,7 @@ use Rattle.index.proofs.Leaves.{Smalls}
 use Rattle.index.proofs.OneLeaf.{leaf-changed}
 
 -- ---- the leaf that is lent
-pub leaf-lent : (s : List ℕ) (pg : ℕ) → LeafAt s pg → OwnLeaf (take (512 * pg + 512 - 512 * pg) (drop (512 * pg) s))
+pub leaf-lent : (s : List ℕ) (pg : ℕ) → LeafAt s pg → OwnLeaf (take (pageSize * pg + pageSize - pageSize * pg) (drop (pageSize * pg) s))
 leaf-lent s pg l = subst OwnLeaf (sym (page-lent s pg)) (l .leaf)
 
 module _ (e : Item) where
@@ -120,9 +121,9 @@ module _ (e : Item) where
           ∙ ap leafPage (sym (at-place ∙ ap (λ d. cond d (set (entriesOf p) i e) (entriesOf p)) (key-there ∙ not-false b f)))
 
   -- ---- and given back
-  pub over-back : (s : List ℕ) (pg : ℕ) (p : List ℕ) → length p ≡ length (take (512 * pg + 512 - 512 * pg) (drop (512 * pg) s))
-      → p ≡ leafPage (overwritten e (entriesOf (take (512 * pg + 512 - 512 * pg) (drop (512 * pg) s))))
-      → putMid (512 * pg) (512 * pg + 512 - 512 * pg) s p ≡ putPage s pg (leafPage (overwritten e (entriesOf (pageAt s pg))))
+  pub over-back : (s : List ℕ) (pg : ℕ) (p : List ℕ) → length p ≡ length (take (pageSize * pg + pageSize - pageSize * pg) (drop (pageSize * pg) s))
+      → p ≡ leafPage (overwritten e (entriesOf (take (pageSize * pg + pageSize - pageSize * pg) (drop (pageSize * pg) s))))
+      → putMid (pageSize * pg) (pageSize * pg + pageSize - pageSize * pg) s p ≡ putPage s pg (leafPage (overwritten e (entriesOf (pageAt s pg))))
   unfolding overwritten
   over-back s pg p n b =
       page-back s pg p (leafPage (over (entriesOf (pageAt s pg)))) n (b ∙ ap (λ x. leafPage (over (entriesOf x))) (page-lent s pg))

@@ -8,6 +8,7 @@ use native.Mathlib.Omega.{arith}
 use lib.Dec.{lit≤}
 use lib.ListN.{length, take, drop, replicate}
 use borrow.Rule.Slice.PartMut.{putMid}
+use Rattle.limits.specs.Limits.{pageSize, childSize, innerMost}
 use Rattle.lists.specs.Lists.{tab, insertAt}
 use Rattle.pages.specs.declared.Child as P
 use Rattle.pages.specs.Layout.{countOf, putHead, putRoot}
@@ -19,8 +20,8 @@ use Rattle.index.proofs.Buffers.{page-lent, page-back, page-other}
 use Rattle.index.proofs.Inners.{inner-put, inner-count, inner-length}
 use Rattle.index.proofs.Written.{length-blank, count-blank, bytes-blank}
 
-pub top-back : (s p : List ℕ) (root used height : ℕ) → length p ≡ length (take 512 s) → p ≡ putRoot (take 512 s) root used height
-    → putMid 0 512 s p ≡ putPage s 0 (putRoot (pageAt s 0) root used height)
+pub top-back : (s p : List ℕ) (root used height : ℕ) → length p ≡ length (take pageSize s) → p ≡ putRoot (take pageSize s) root used height
+    → putMid 0 pageSize s p ≡ putPage s 0 (putRoot (pageAt s 0) root used height)
 top-back s p root used height l e = page-back s 0 p (putRoot (pageAt s 0) root used height) l (e ∙ ap (λ v. putRoot v root used height) (page-lent s 0))
 
 -- a page with no rows is blank
@@ -33,13 +34,13 @@ blank-none z kind n =
 
 none-blank : (n : ℕ) → blankPage 3 n ≡ innerPage n []
 unfolding innerPage
-none-blank n = blank-none 16 3 n
+none-blank n = blank-none childSize 3 n
 
-pub cleared : (p p₁ : List ℕ) (n : ℕ) → p ≡ replicate 512 0 → p₁ ≡ putHead p 3 0 n → p₁ ≡ innerPage n []
+pub cleared : (p p₁ : List ℕ) (n : ℕ) → p ≡ replicate pageSize 0 → p₁ ≡ putHead p 3 0 n → p₁ ≡ innerPage n []
 unfolding blankPage
 cleared p p₁ n z e = e ∙ ap (λ v. putHead v 3 0 n) z ∙ none-blank n
 
-pub none-yet : (p : List ℕ) (n : ℕ) → p ≡ innerPage n [] → countOf p ≤ 29
+pub none-yet : (p : List ℕ) (n : ℕ) → p ≡ innerPage n [] → countOf p ≤ innerMost - 1
 none-yet p n e = omega (arith, ap countOf e, inner-count n [] (lit≤ tt))
 
 pub first-is : (p q : List ℕ) (n : ℕ) (c : P.Child) → p ≡ innerPage n [] → q ≡ childPut p 0 c → q ≡ innerPage n (c ∷ [])
@@ -47,7 +48,7 @@ unfolding insertAt
 first-is p q n c e f = f ∙ ap (λ v. childPut v 0 c) e ∙ inner-put n [] (lit≤ tt) 0 c (lit≤ tt)
 
 module _ (p : List ℕ) (n : ℕ) (c : P.Child) (e : p ≡ innerPage n (c ∷ [])) where
-  pub one-now : countOf p ≤ 29
+  pub one-now : countOf p ≤ innerMost - 1
   one-now = omega (arith, ap countOf e, inner-count n (c ∷ []) (lit≤ tt))
 
   pub one-there : 1 ≤ countOf p
@@ -58,11 +59,11 @@ module _ (p : List ℕ) (n : ℕ) (c : P.Child) (e : p ≡ innerPage n (c ∷ []
   two-children q d g = g ∙ ap (λ v. childPut v 1 d) e ∙ inner-put n (c ∷ []) (lit≤ tt) 1 d (lit≤ tt)
 
 module _ (s : List ℕ) (n root u : ℕ) (c : P.Child) (r : RootIn s n root u c) where
-  pub root-blank : take (512 * u + 512 - 512 * u) (drop (512 * u) s) ≡ replicate 512 0
+  pub root-blank : take (pageSize * u + pageSize - pageSize * u) (drop (pageSize * u) s) ≡ replicate pageSize 0
   root-blank = page-lent s u ∙ r .blank
 
-  pub root-added : (p s₂ : List ℕ) → length p ≡ length (take (512 * u + 512 - 512 * u) (drop (512 * u) s)) → p ≡ rootPage n root c
-      → s₂ ≡ putPage (putMid (512 * u) (512 * u + 512 - 512 * u) s p) 0 (putRoot (pageAt (putMid (512 * u) (512 * u + 512 - 512 * u) s p) 0) u (u + 1) (n + 2))
+  pub root-added : (p s₂ : List ℕ) → length p ≡ length (take (pageSize * u + pageSize - pageSize * u) (drop (pageSize * u) s)) → p ≡ rootPage n root c
+      → s₂ ≡ putPage (putMid (pageSize * u) (pageSize * u + pageSize - pageSize * u) s p) 0 (putRoot (pageAt (putMid (pageSize * u) (pageSize * u + pageSize - pageSize * u) s p) 0) u (u + 1) (n + 2))
       → s₂ ≡ putPage (putPage s u (rootPage n root c)) 0 (putRoot (pageAt s 0) u (u + 1) (n + 2))
   root-added p s₂ l e f =
       let g = page-back s u p (rootPage n root c) l e in

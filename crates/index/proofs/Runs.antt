@@ -10,6 +10,7 @@ use native.Mathlib.Omega.{arith}
 use lib.Dec.{leb, eqb}
 use lib.ListN.{length, getD, take, drop, length-map, List·getD-map}
 use borrow.Author.Tests.{eqb-true, eqb-false, le-leb, lt-leb, eq-eqb, ne-eqb}
+use Rattle.limits.specs.Limits.{pageSize, leafMost, innerMost}
 use Rattle.lists.proofs.Tables.{getD-tab}
 use Rattle.pages.specs.declared.Child as P
 use Rattle.pages.specs.Layout.{countOf, entriesOf, childAt, childrenOf}
@@ -43,7 +44,7 @@ child-chosen s n pg u k st q t z h c = child-in s n pg u (st .slot) (countOf (pa
 -- ---- the run
 run-inner : (s : List ℕ) (n pg u k : ℕ) (st : Step) (q r : ℕ) → Subtree s (suc n) pg u → Starts s pg k st
     → q ≡ childAt (pageAt s pg) (st .slot) .page → r ≡ runOf n k s q
-    → runOf (suc n) k s pg ≡ cond (eqb r (suc n) && leb 30 (st .count)) (suc r) r
+    → runOf (suc n) k s pg ≡ cond (eqb r (suc n) && leb innerMost (st .count)) (suc r) r
 unfolding fullRun treeOf
 run-inner s n pg u k st q r t h c e =
     let p = pageAt s pg in
@@ -55,8 +56,8 @@ run-inner s n pg u k st q r t h c e =
     ∙ ap (λ x. fullRun compare keyOf 0 documentSizes n k (x .tree)) (chosen s n pg u k st d t h)
     ∙ ap (λ x. runOf n k s x) (sym c)
     ∙ sym e in
-    ap (λ m. cond (eqb m (suc n) && leb 30 (length (map (kid n s) (childrenOf p)))) (suc m) m) b
-    ∙ ap (λ m. cond (eqb r (suc n) && leb 30 m) (suc r) r) (l ∙ length-children p ∙ sym (h .count))
+    ap (λ m. cond (eqb m (suc n) && leb innerMost (length (map (kid n s) (childrenOf p)))) (suc m) m) b
+    ∙ ap (λ m. cond (eqb r (suc n) && leb innerMost m) (suc r) r) (l ∙ length-children p ∙ sym (h .count))
 
 run-most : (s : List ℕ) (n pg u : ℕ) (e : Item) → Subtree s n pg u → runOf n (e .key) s pg ≤ suc n
 run-most s n pg u e t = go (grownOf n e u s pg .beside) (grown-needs compare keyOf 0 documentSizes n (t .least) e u (treeOf n s pg) (t .counts) .run)
@@ -89,28 +90,28 @@ need-below s (suc n) pg u e st q above t z h c =
     let a = neededAbove (countOf (pageAt s pg)) above in
     let child = subst (λ m. Subtree s m q u) k (child-chosen s (suc n) pg u (e .key) st q t z h c) in
     let r = runOf n (e .key) s q in
-    need-is n r (runOf (suc n) (e .key) s pg) above (eqb r (suc n)) (leb 30 (countOf (pageAt s pg))) refl
-    (run-inner s n pg u (e .key) st q r t h c refl ∙ ap (λ m. cond (eqb r (suc n) && leb 30 m) (suc r) r) (h .count)) (run-most s n q u e child)
+    need-is n r (runOf (suc n) (e .key) s pg) above (eqb r (suc n)) (leb innerMost (countOf (pageAt s pg))) refl
+    (run-inner s n pg u (e .key) st q r t h c refl ∙ ap (λ m. cond (eqb r (suc n) && leb innerMost m) (suc r) r) (h .count)) (run-most s n q u e child)
     ∙ ap (λ m. neededIn m (e .key) s q a) (sym k)
 
 -- ---- and of a leaf
-pub need-none : (s : List ℕ) (pg k above : ℕ) → length (entriesOf (pageAt s pg)) < 24 → neededIn 0 k s pg above ≡ 0
+pub need-none : (s : List ℕ) (pg k above : ℕ) → length (entriesOf (pageAt s pg)) < leafMost → neededIn 0 k s pg above ≡ 0
 unfolding fullRun treeOf
 need-none s pg k above h =
-    ap (λ b. cond {A = ℕ} (eqb (cond b 1 0) 1) (cond b 1 0 + above) (cond b 1 0)) (lt-leb 24 (length (entriesOf (pageAt s pg))) h)
+    ap (λ b. cond {A = ℕ} (eqb (cond b 1 0) 1) (cond b 1 0 + above) (cond b 1 0)) (lt-leb leafMost (length (entriesOf (pageAt s pg))) h)
 
-pub need-full : (s : List ℕ) (pg k above : ℕ) → 24 ≤ length (entriesOf (pageAt s pg)) → neededIn 0 k s pg above ≡ 1 + above
+pub need-full : (s : List ℕ) (pg k above : ℕ) → leafMost ≤ length (entriesOf (pageAt s pg)) → neededIn 0 k s pg above ≡ 1 + above
 unfolding fullRun treeOf
 need-full s pg k above h =
-    ap (λ b. cond {A = ℕ} (eqb (cond b 1 0) 1) (cond b 1 0 + above) (cond b 1 0)) (le-leb 24 (length (entriesOf (pageAt s pg))) h)
+    ap (λ b. cond {A = ℕ} (eqb (cond b 1 0) 1) (cond b 1 0 + above) (cond b 1 0)) (le-leb leafMost (length (entriesOf (pageAt s pg))) h)
 
 -- ---- as the code counts above a child
-module _ (s : List ℕ) (pg n above : ℕ) (e : n ≡ countOf (take (512 * pg + 512 - 512 * pg) (drop (512 * pg) s))) where
+module _ (s : List ℕ) (pg n above : ℕ) (e : n ≡ countOf (take (pageSize * pg + pageSize - pageSize * pg) (drop (pageSize * pg) s))) where
   count-is : countOf (pageAt s pg) ≡ n
   count-is = sym (e ∙ ap countOf (page-lent s pg))
 
-  pub above-full : 30 ≤ n → above + 1 ≡ neededAbove (countOf (pageAt s pg)) above
-  above-full h = sym (ap (λ b. cond b (above + 1) 0) (le-leb 30 (countOf (pageAt s pg)) (omega (arith, count-is))))
+  pub above-full : innerMost ≤ n → above + 1 ≡ neededAbove (countOf (pageAt s pg)) above
+  above-full h = sym (ap (λ b. cond b (above + 1) 0) (le-leb innerMost (countOf (pageAt s pg)) (omega (arith, count-is))))
 
-  pub above-none : n < 30 → 0 ≡ neededAbove (countOf (pageAt s pg)) above
-  above-none h = sym (ap (λ b. cond b (above + 1) 0) (lt-leb 30 (countOf (pageAt s pg)) (omega (arith, count-is))))
+  pub above-none : n < innerMost → 0 ≡ neededAbove (countOf (pageAt s pg)) above
+  above-none h = sym (ap (λ b. cond b (above + 1) 0) (lt-leb innerMost (countOf (pageAt s pg)) (omega (arith, count-is))))

@@ -9,6 +9,7 @@ use native.Mathlib.Omega.{arith}
 use lib.ListN.{length, getD, replicate}
 use lib.Seq.{ext-getD}
 use borrow.Author.Tests.{le-leb, lt-leb}
+use Rattle.limits.specs.Limits.{pagesMost, pageSize, pagesSize}
 use Rattle.lists.specs.Lists.{In}
 use Rattle.lists.proofs.Elements.{map-in}
 use Rattle.numbers.proofs.Parts.{getD-part}
@@ -64,10 +65,10 @@ lies-same (suc n) s s′ t a b q h = go (isPage q (t .number)) refl (λ c i. lie
 
 -- what an index writes
 record Writes (s : List ℕ) (x : Index ℕ Item) : Type 0 where
-  size : length s ≡ 32768
+  size : length s ≡ pagesSize
   head : pageAt s 0 ≡ headPage (numberOf (x .level) (x .tree)) (x .used) (x .level + 1)
   tree : Lies (x .level) s (x .tree)
-  spare : (q : ℕ) → x .used ≤ q → q < 64 → pageAt s q ≡ replicate 512 0
+  spare : (q : ℕ) → x .used ≤ q → q < pagesMost → pageAt s q ≡ replicate pageSize 0
 
 whole-writes : (s : List ℕ) → WholePages s → Writes s (indexOf s)
 unfolding indexOf
@@ -82,14 +83,14 @@ whole-writes s w =
       spare = w .spare;
     }
 
-byte-page : (s : List ℕ) (i : ℕ) → getD s i 0 ≡ getD (pageAt s (i / 512)) (i % 512) 0
+byte-page : (s : List ℕ) (i : ℕ) → getD s i 0 ≡ getD (pageAt s (i / pageSize)) (i % pageSize) 0
 unfolding pageAt
-byte-page s i = let e : i ≡ 512 * (i / 512) + i % 512 = omega arith in ap (λ k. getD s k 0) e ∙ sym (getD-part (512 * (i / 512)) 512 s (i % 512) (omega arith))
+byte-page s i = let e : i ≡ pageSize * (i / pageSize) + i % pageSize = omega arith in ap (λ k. getD s k 0) e ∙ sym (getD-part (pageSize * (i / pageSize)) pageSize s (i % pageSize) (omega arith))
 
 pub pages-inj : (p q : List ℕ) → WholePages p → WholePages q → indexOf p ≡ indexOf q → p ≡ q
 pages-inj p q w v e =
     ext-getD 0 p q (w .size ∙ sym (v .size))
-    (λ i h. byte-page p i ∙ ap (λ g. getD g (i % 512) 0) (page (i / 512) (omega (arith, w .size))) ∙ sym (byte-page q i))
+    (λ i h. byte-page p i ∙ ap (λ g. getD g (i % pageSize) 0) (page (i / pageSize) (omega (arith, w .size))) ∙ sym (byte-page q i))
   where
     a : Writes p (indexOf q)
     a = subst (Writes p) e (whole-writes p w)
@@ -97,7 +98,7 @@ pages-inj p q w v e =
     b : Writes q (indexOf q)
     b = whole-writes q v
 
-    page : (r : ℕ) → r < 64 → pageAt p r ≡ pageAt q r
+    page : (r : ℕ) → r < pagesMost → pageAt p r ≡ pageAt q r
     page zero h = a .head ∙ sym (b .head)
     page (suc r) h = go (decLt (suc r) (indexOf q .used))
       where

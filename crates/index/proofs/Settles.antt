@@ -10,6 +10,7 @@ use lib.Dec.{eqb, lit<}
 use lib.ListN.{length, take, drop}
 use borrow.Author.Tests.{eqb-true, eq-eqb, ne-eqb, le-leb, lt-leb}
 use borrow.Rule.Slice.PartMut.{putMid}
+use Rattle.limits.specs.Limits.{pagesMost, pageSize, pagesSize, leafMost}
 use Rattle.rules.specs.Entries.{settled}
 use Rattle.numbers.proofs.Parts.{putPart-part}
 use Rattle.pages.specs.Layout.{kindOf, countOf, rootOf, usedOf, heightOf, entriesOf}
@@ -28,25 +29,25 @@ use Rattle.index.proofs.Written.{kind-head}
 use Rattle.index.proofs.Refills.{refilled, Good, leaf-good, refill-whole}
 
 -- ---- one page
-pub kind-lent : (s : List ℕ) (q k : ℕ) → k ≡ kindOf (take (512 * q + 512 - 512 * q) (drop (512 * q) s)) → k ≡ 2 → LeafIn s q
-    → countOf (take (512 * q + 512 - 512 * q) (drop (512 * q) s)) ≤ 24
+pub kind-lent : (s : List ℕ) (q k : ℕ) → k ≡ kindOf (take (pageSize * q + pageSize - pageSize * q) (drop (pageSize * q) s)) → k ≡ 2 → LeafIn s q
+    → countOf (take (pageSize * q + pageSize - pageSize * q) (drop (pageSize * q) s)) ≤ leafMost
 kind-lent s q k e h l =
     let p = page-lent s q in
-    subst (λ x. countOf x ≤ 24) (sym p) (l .few (sym (e ∙ ap kindOf p) ∙ h))
+    subst (λ x. countOf x ≤ leafMost) (sym p) (l .few (sym (e ∙ ap kindOf p) ∙ h))
 
 module _ (commits : Bool) (t : ℕ) where
-  pub page-stays : (s : List ℕ) (q k : ℕ) → k ≡ kindOf (take (512 * q + 512 - 512 * q) (drop (512 * q) s)) → (k ≡ 2 → ⊥) → LeafIn s q
+  pub page-stays : (s : List ℕ) (q k : ℕ) → k ≡ kindOf (take (pageSize * q + pageSize - pageSize * q) (drop (pageSize * q) s)) → (k ≡ 2 → ⊥) → LeafIn s q
       → s ≡ putPage s q (settledPage commits t (pageAt s q))
   unfolding settledPage putPage pageAt
   page-stays s q k e h l =
       let n : kindOf (pageAt s q) ≡ 2 → ⊥ = λ i. h (e ∙ ap kindOf (page-lent s q) ∙ i) in
       sym (ap (λ b. putPage s q (cond b (leafSettled commits t (pageAt s q)) (pageAt s q))) (ne-eqb (kindOf (pageAt s q)) 2 n)
-      ∙ putPart-part (512 * q) 512 s (omega (arith, l .size, l .which)))
+      ∙ putPart-part (pageSize * q) pageSize s (omega (arith, l .size, l .which)))
 
-  pub page-settled : (s : List ℕ) (q k : ℕ) (p : List ℕ) → k ≡ kindOf (take (512 * q + 512 - 512 * q) (drop (512 * q) s)) → k ≡ 2
-      → length p ≡ length (take (512 * q + 512 - 512 * q) (drop (512 * q) s))
-      → p ≡ leafSettled commits t (take (512 * q + 512 - 512 * q) (drop (512 * q) s))
-      → putMid (512 * q) (512 * q + 512 - 512 * q) s p ≡ putPage s q (settledPage commits t (pageAt s q))
+  pub page-settled : (s : List ℕ) (q k : ℕ) (p : List ℕ) → k ≡ kindOf (take (pageSize * q + pageSize - pageSize * q) (drop (pageSize * q) s)) → k ≡ 2
+      → length p ≡ length (take (pageSize * q + pageSize - pageSize * q) (drop (pageSize * q) s))
+      → p ≡ leafSettled commits t (take (pageSize * q + pageSize - pageSize * q) (drop (pageSize * q) s))
+      → putMid (pageSize * q) (pageSize * q + pageSize - pageSize * q) s p ≡ putPage s q (settledPage commits t (pageAt s q))
   unfolding settledPage
   page-settled s q k p e h l b =
       let i : kindOf (pageAt s q) ≡ 2 = sym (e ∙ ap kindOf (page-lent s q)) ∙ h in
@@ -66,11 +67,11 @@ module _ (commits : Bool) (t : ℕ) where
       go true e = good-settled p (g (eqb-true (kindOf p) 2 e))
       go false e = refl
 
-  length-settled : (p : List ℕ) → (kindOf p ≡ 2 → Good p) → length p ≡ 512 → length (settledPage commits t p) ≡ 512
+  length-settled : (p : List ℕ) → (kindOf p ≡ 2 → Good p) → length p ≡ pageSize → length (settledPage commits t p) ≡ pageSize
   unfolding settledPage
   length-settled p g l = go (eqb (kindOf p) 2) refl
     where
-      go : (b : Bool) → eqb (kindOf p) 2 ≡ b → length (cond b (leafSettled commits t p) p) ≡ 512
+      go : (b : Bool) → eqb (kindOf p) 2 ≡ b → length (cond b (leafSettled commits t p) p) ≡ pageSize
       go true e =
           let d = g (eqb-true (kindOf p) 2 e) in
           ap length (good-settled p d)
@@ -79,10 +80,10 @@ module _ (commits : Bool) (t : ℕ) where
 
   -- ---- the pages below q
   pub record SettledTo (s₀ s : List ℕ) (q : ℕ) : Type 0 where
-    pub size : length s ≡ 32768
+    pub size : length s ≡ pagesSize
     pub first : pageAt s 0 ≡ pageAt s₀ 0
     pub done : (r : ℕ) → 1 ≤ r → r < q → pageAt s r ≡ settledPage commits t (pageAt s₀ r)
-    pub rest : (r : ℕ) → q ≤ r → r < 64 → pageAt s r ≡ pageAt s₀ r
+    pub rest : (r : ℕ) → q ≤ r → r < pagesMost → pageAt s r ≡ pageAt s₀ r
 
   module _ (s₀ : List ℕ) (w : WholePages s₀) where
     pub settled-none : SettledTo s₀ s₀ 1
@@ -100,7 +101,7 @@ module _ (commits : Bool) (t : ℕ) where
       pub leaf-in : q < top .used → LeafIn s q
       leaf-in l =
           let u : q < usedOf (pageAt s₀ 0) = omega (arith, o .used) in
-          let k : q < 64 = omega (arith, o .few) in
+          let k : q < pagesMost = omega (arith, o .few) in
           let e = d .rest q (omega arith) k in
           record {
             size = d .size;
@@ -113,10 +114,10 @@ module _ (commits : Bool) (t : ℕ) where
       pub settled-on : (s₁ : List ℕ) → q < top .used → s₁ ≡ putPage s q (settledPage commits t (pageAt s q)) → SettledTo s₀ s₁ (q + 1)
       settled-on s₁ l b =
           let u : q < usedOf (pageAt s₀ 0) = omega (arith, o .used) in
-          let k : q < 64 = omega (arith, o .few) in
+          let k : q < pagesMost = omega (arith, o .few) in
           let e = d .rest q (omega arith) k in
           let g = settledPage commits t (pageAt s₀ q) in
-          let n : length g ≡ 512 = length-settled (pageAt s₀ q) (used-good q h u) (length-page s₀ (w .size) q k) in
+          let n : length g ≡ pageSize = length-settled (pageAt s₀ q) (used-good q h u) (length-page s₀ (w .size) q k) in
           let c : s₁ ≡ putPage s q g = b ∙ ap (λ p. putPage s q (settledPage commits t p)) e in
           record {
             size = ap length c ∙ length-putPage s (d .size) q k g n;
@@ -127,12 +128,12 @@ module _ (commits : Bool) (t : ℕ) where
         where
           at : (r : ℕ) → 1 ≤ r → r < q + 1 → Dec (r < q) → pageAt (putPage s q (settledPage commits t (pageAt s₀ q))) r ≡ settledPage commits t (pageAt s₀ r)
           at r i j (yes a) =
-              let k : q < 64 = omega (arith, o .few) in
+              let k : q < pagesMost = omega (arith, o .few) in
               let u : q < usedOf (pageAt s₀ 0) = omega (arith, o .used) in
               let n = length-settled (pageAt s₀ q) (used-good q h u) (length-page s₀ (w .size) q k) in
               page-other s (d .size) q k (settledPage commits t (pageAt s₀ q)) n r (omega arith) (omega arith) ∙ d .done r i a
           at r i j (no a) =
-              let k : q < 64 = omega (arith, o .few) in
+              let k : q < pagesMost = omega (arith, o .few) in
               let u : q < usedOf (pageAt s₀ 0) = omega (arith, o .used) in
               let n = length-settled (pageAt s₀ q) (used-good q h u) (length-page s₀ (w .size) q k) in
               let e : r ≡ q = omega arith in

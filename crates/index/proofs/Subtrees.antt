@@ -9,6 +9,7 @@ use native.Mathlib.Omega.{arith}
 use lib.Dec.{leb, ltb, lit≤}
 use lib.ListN.{length, drop, length-map}
 use borrow.Author.Tests.{leb-true, leb-false, eqb-true, ltb-true, lt-ltb, le-ltb}
+use Rattle.limits.specs.Limits.{pagesMost, leafMost, innerMost, innerFewest}
 use Rattle.lists.specs.Lists as L
 use Rattle.lists.specs.Lists.{In, all, pairs}
 use Rattle.lists.proofs.Elements.{in-map, in-tab, all-in, in-split}
@@ -46,13 +47,13 @@ used-page u q h = go (leb u q) refl
     go false e = leb-false u q e
 
 -- ---- the page at the top
-pub leaf-few : (s : List ℕ) (pg u : ℕ) → Subtree s 0 pg u → length (entriesOf (pageAt s pg)) ≤ 24
+pub leaf-few : (s : List ℕ) (pg u : ℕ) → Subtree s 0 pg u → length (entriesOf (pageAt s pg)) ≤ leafMost
 unfolding counted treeOf
-leaf-few s pg u t = leb-true (length (entriesOf (pageAt s pg))) 24 (t .counts)
+leaf-few s pg u t = leb-true (length (entriesOf (pageAt s pg))) leafMost (t .counts)
 
 pub record Filled (least : ℕ) (cs : List P.Child) : Type 0 where
   pub few : least ≤ length cs
-  pub many : length cs ≤ 30
+  pub many : length cs ≤ innerMost
 
 pub inner-filled : (s : List ℕ) (n pg u : ℕ) (t : Subtree s (suc n) pg u) → Filled (t .least) (childrenOf (pageAt s pg))
 unfolding treeOf
@@ -77,9 +78,9 @@ subtree-child s n pg u t c i =
       which = omega (arith, used-page u (c .page) (omega (arith, t .alone (c .page))), t .few);
       few = t .few;
       laid = t .laid .1 c i;
-      least = 15;
+      least = innerFewest;
       enough = lit≤ tt;
-      counts = all-in (λ c. counted ℕ Item documentSizes 15 n (c .tree)) (map (kid n s) cs) (kid n s c) (f .each) k;
+      counts = all-in (λ c. counted ℕ Item documentSizes innerFewest n (c .tree)) (map (kid n s) cs) (kid n s c) (f .each) k;
       low = startOf (t .low) (w .0) (kid n s c);
       high = endOf (t .high) (w .1);
       keys = child-range numbers-ordered (ranged compare keyOf 0 n) (t .low) (t .high) (w .0) (kid n s c) (w .1)
@@ -182,7 +183,7 @@ subtree-root s w =
     }
 
 -- where it does not matter how many are used
-pub subtree-wider : (s : List ℕ) (n pg u : ℕ) → Subtree s n pg u → Subtree s n pg 64
+pub subtree-wider : (s : List ℕ) (n pg u : ℕ) → Subtree s n pg u → Subtree s n pg pagesMost
 subtree-wider s n pg u t =
     record {
       size = t .size;
@@ -198,12 +199,12 @@ subtree-wider s n pg u t =
       alone = λ q. omega (arith, t .alone q, wider q);
     }
   where
-    wider : (q : ℕ) → above 64 q ≤ above u q
-    wider q = go (leb 64 q) (leb u q) refl refl
+    wider : (q : ℕ) → above pagesMost q ≤ above u q
+    wider q = go (leb pagesMost q) (leb u q) refl refl
       where
-        go : (a b : Bool) → leb 64 q ≡ a → leb u q ≡ b → cond {A = ℕ} a 1 0 ≤ cond b 1 0
+        go : (a b : Bool) → leb pagesMost q ≡ a → leb u q ≡ b → cond {A = ℕ} a 1 0 ≤ cond b 1 0
         go true true d e = lit≤ tt
-        go true false d e = absurd (omega (arith, leb-true 64 q d, leb-false u q e, t .few))
+        go true false d e = absurd (omega (arith, leb-true pagesMost q d, leb-false u q e, t .few))
         go false true d e = lit≤ tt
         go false false d e = lit≤ tt
 

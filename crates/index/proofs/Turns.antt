@@ -10,6 +10,7 @@ use native.Mathlib.Omega.{arith}
 use lib.Dec.{leb, eqb}
 use lib.ListN.{take, drop}
 use borrow.Author.Tests.{not-true}
+use Rattle.limits.specs.Limits.{pagesMost, pageSize, leafMost, innerMost}
 use Rattle.lists.specs.Lists.{tab, place, first, firstSome, orElse}
 use Rattle.lists.proofs.Tables.{tab-next, tab-done, drop-tab, first-next, first-found}
 use Rattle.lists.proofs.Joins.{map-drop}
@@ -48,21 +49,21 @@ module _ (s : List ℕ) (w : WholePages s) (height : ℕ) (e : height ≡ height
       record { root = r; used = u; level = ap (λ n. n - 1) e; low = omega (arith, w .tall); few = omega (arith, w .index .room) }
 
 -- ---- an inner page
-pub lent-some : (s : List ℕ) (pg : ℕ) → InnerIn s pg → 1 ≤ countOf (take (512 * pg + 512 - 512 * pg) (drop (512 * pg) s))
+pub lent-some : (s : List ℕ) (pg : ℕ) → InnerIn s pg → 1 ≤ countOf (take (pageSize * pg + pageSize - pageSize * pg) (drop (pageSize * pg) s))
 lent-some s pg h = subst (λ p. 1 ≤ countOf p) (sym (page-lent s pg)) (h .some)
 
-pub lent-many : (s : List ℕ) (pg : ℕ) → InnerIn s pg → countOf (take (512 * pg + 512 - 512 * pg) (drop (512 * pg) s)) ≤ 30
-lent-many s pg h = subst (λ p. countOf p ≤ 30) (sym (page-lent s pg)) (h .few)
+pub lent-many : (s : List ℕ) (pg : ℕ) → InnerIn s pg → countOf (take (pageSize * pg + pageSize - pageSize * pg) (drop (pageSize * pg) s)) ≤ innerMost
+lent-many s pg h = subst (λ p. countOf p ≤ innerMost) (sym (page-lent s pg)) (h .few)
 
 pub step-for : (s : List ℕ) (pg k n i : ℕ) → InnerIn s pg → n ≡ countOf (pageAt s pg)
-    → ChildPlace (take (512 * pg + 512 - 512 * pg) (drop (512 * pg) s)) k i → Starts s pg k (record { slot = i; count = n })
+    → ChildPlace (take (pageSize * pg + pageSize - pageSize * pg) (drop (pageSize * pg) s)) k i → Starts s pg k (record { slot = i; count = n })
 step-for s pg k n i h e p =
     record { place = subst (λ x. ChildPlace x k i) (page-lent s pg) p; count = e; few = omega (arith, h .few) }
 
-pub low-lent : (s : List ℕ) (q i k : ℕ) → k ≡ childAt (take (512 * q + 512 - 512 * q) (drop (512 * q) s)) i .low .0 → k ≡ childAt (pageAt s q) i .low .0
+pub low-lent : (s : List ℕ) (q i k : ℕ) → k ≡ childAt (take (pageSize * q + pageSize - pageSize * q) (drop (pageSize * q) s)) i .low .0 → k ≡ childAt (pageAt s q) i .low .0
 low-lent s q i k e = e ∙ ap (λ p. childAt p i .low .0) (page-lent s q)
 
-pub child-lent : (s : List ℕ) (pg i : ℕ) (c : P.Child) → c ≡ childAt (take (512 * pg + 512 - 512 * pg) (drop (512 * pg) s)) i
+pub child-lent : (s : List ℕ) (pg i : ℕ) (c : P.Child) → c ≡ childAt (take (pageSize * pg + pageSize - pageSize * pg) (drop (pageSize * pg) s)) i
     → c .page ≡ childAt (pageAt s pg) i .page
 child-lent s pg i c e = ap (λ x. x .page) e ∙ ap (λ p. childAt p i .page) (page-lent s pg)
 
@@ -104,14 +105,14 @@ module _ (p : List ℕ) (w : Sought) (n i : ℕ) where
     unfolding first
     leaf-none l = sym (f ∙ ap (first (seeks w)) (tab-done n i (entryAt p) l))
 
-module _ (s : List ℕ) (pg : ℕ) (t : Subtree s 0 pg 64) where
-  pub lent-few : countOf (take (512 * pg + 512 - 512 * pg) (drop (512 * pg) s)) ≤ 24
-  lent-few = subst (λ p. countOf p ≤ 24) (sym (page-lent s pg)) (omega (arith, leaf-few s pg 64 t, length-entries (pageAt s pg)))
+module _ (s : List ℕ) (pg : ℕ) (t : Subtree s 0 pg pagesMost) where
+  pub lent-few : countOf (take (pageSize * pg + pageSize - pageSize * pg) (drop (pageSize * pg) s)) ≤ leafMost
+  lent-few = subst (λ p. countOf p ≤ leafMost) (sym (page-lent s pg)) (omega (arith, leaf-few s pg pagesMost t, length-entries (pageAt s pg)))
 
-  pub lent-ascends : keysAscend (entriesOf (take (512 * pg + 512 - 512 * pg) (drop (512 * pg) s))) ≡ true
-  lent-ascends = subst (λ p. keysAscend (entriesOf p) ≡ true) (sym (page-lent s pg)) (keys-ascend s pg 64 t)
+  pub lent-ascends : keysAscend (entriesOf (take (pageSize * pg + pageSize - pageSize * pg) (drop (pageSize * pg) s))) ≡ true
+  lent-ascends = subst (λ p. keysAscend (entriesOf p) ≡ true) (sym (page-lent s pg)) (keys-ascend s pg pagesMost t)
 
-  pub leaf-found : (w : Sought) (r : Found) → bookFound r ≡ first (seeks w) (entriesOf (take (512 * pg + 512 - 512 * pg) (drop (512 * pg) s)))
+  pub leaf-found : (w : Sought) (r : Found) → bookFound r ≡ first (seeks w) (entriesOf (take (pageSize * pg + pageSize - pageSize * pg) (drop (pageSize * pg) s)))
       → bookFound r ≡ first (seeks w) (flat ℕ Item 0 (treeOf 0 s pg))
   unfolding flat treeOf
   leaf-found w r e = e ∙ ap (λ p. first (seeks w) (entriesOf p)) (page-lent s pg)
@@ -127,13 +128,13 @@ foundFrom (suc m) s pg w n i = firstSome (foundIn m s w) (tab (n - i) i (childAt
 under-fails : (w : Sought) (x : Item) → under compare (x .key) (w .lo .0) ≡ true → seeks w x ≡ false
 under-fails w x h = not-sought w x (not-true (leb (w .lo .0) (x .key)) h)
 
-seek-first : (s : List ℕ) (n pg : ℕ) (w : Sought) → Subtree s (suc n) pg 64 → (r : Step) → Starts s pg (w .lo .0) r
+seek-first : (s : List ℕ) (n pg : ℕ) (w : Sought) → Subtree s (suc n) pg pagesMost → (r : Step) → Starts s pg (w .lo .0) r
     → first (seeks w) (flat ℕ Item (suc n) (treeOf (suc n) s pg)) ≡ foundFrom (suc n) s pg w (r .count) (r .slot)
 unfolding treeOf childrenOf
 seek-first s n pg w t r e =
     let cs = childrenOf (pageAt s pg) in
     first-child-by-child numbers-ordered keyOf 0 (w .lo .0) (seeks w) (under-fails w) n (t .low) (t .high) (treeOf (suc n) s pg) (t .keys)
-    ∙ ap (λ i. firstSome (λ c. first (seeks w) (flat ℕ Item n (c .tree))) (drop i (map (kid n s) cs))) (sym (child-place s n pg 64 (w .lo .0) (r .slot) t (e .place)))
+    ∙ ap (λ i. firstSome (λ c. first (seeks w) (flat ℕ Item n (c .tree))) (drop i (map (kid n s) cs))) (sym (child-place s n pg pagesMost (w .lo .0) (r .slot) t (e .place)))
     ∙ ap (firstSome (λ c. first (seeks w) (flat ℕ Item n (c .tree)))) (sym (map-drop (kid n s) (r .slot) cs))
     ∙ some-map (λ c. first (seeks w) (flat ℕ Item n (c .tree))) (kid n s) (drop (r .slot) cs)
     ∙ ap (firstSome (foundIn n s w)) (drop-tab (r .slot) (countOf (pageAt s pg)) 0 (childAt (pageAt s pg))
@@ -141,11 +142,11 @@ seek-first s n pg w t r e =
     ∙ ap (λ m. firstSome (foundIn n s w) (tab (m - r .slot) (r .slot) (childAt (pageAt s pg)))) (sym (e .count))
 
 module _ (s : List ℕ) (level pg : ℕ) (w : Sought) where
-  pub seek-start : Subtree s level pg 64 → (level ≡ 0 → ⊥) → (r : Step) → Starts s pg (w .lo .0) r
+  pub seek-start : Subtree s level pg pagesMost → (level ≡ 0 → ⊥) → (r : Step) → Starts s pg (w .lo .0) r
       → first (seeks w) (flat ℕ Item level (treeOf level s pg)) ≡ foundFrom level s pg w (r .count) (r .slot)
   seek-start t h r e = go level h t
     where
-      go : (n : ℕ) → (n ≡ 0 → ⊥) → Subtree s n pg 64 → first (seeks w) (flat ℕ Item n (treeOf n s pg)) ≡ foundFrom n s pg w (r .count) (r .slot)
+      go : (n : ℕ) → (n ≡ 0 → ⊥) → Subtree s n pg pagesMost → first (seeks w) (flat ℕ Item n (treeOf n s pg)) ≡ foundFrom n s pg w (r .count) (r .slot)
       go zero h t = absurd (h refl)
       go (suc n) h t = seek-first s n pg w t r e
 
@@ -184,11 +185,11 @@ module _ (s : List ℕ) (level pg : ℕ) (w : Sought) where
       go (suc m) = ap (firstSome (foundIn m s w)) (tab-done n i (childAt (pageAt s pg)) l)
 
 -- ---- the whole
-pub find-from : (s : List ℕ) (t : Top) → WholePages s → TopOf s t → Subtree s (t .level) (t .root) 64
+pub find-from : (s : List ℕ) (t : Top) → WholePages s → TopOf s t → Subtree s (t .level) (t .root) pagesMost
 find-from s t w h =
     let r = subtree-root s w in
-    let u = subst (λ x. Subtree s x (rootOf (pageAt s 0)) 64) (sym (h .level)) (subtree-wider s (heightOf (pageAt s 0) - 1) (rootOf (pageAt s 0)) (usedOf (pageAt s 0)) r) in
-    subst (λ q. Subtree s (t .level) q 64) (sym (h .root)) u
+    let u = subst (λ x. Subtree s x (rootOf (pageAt s 0)) pagesMost) (sym (h .level)) (subtree-wider s (heightOf (pageAt s 0) - 1) (rootOf (pageAt s 0)) (usedOf (pageAt s 0)) r) in
+    subst (λ q. Subtree s (t .level) q pagesMost) (sym (h .root)) u
 
 pub found-all : (s : List ℕ) (t : Top) (w : Sought) (r : Found) → TopOf s t
     → bookFound r ≡ first (seeks w) (flat ℕ Item (t .level) (treeOf (t .level) s (t .root))) → bookFound r ≡ first (seeks w) (entriesIn s)

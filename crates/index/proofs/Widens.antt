@@ -1,5 +1,6 @@
 -- An inner page when the child that the entry belongs to has grown: its children are then the row that the tree has, and with the new child
 -- put in the page is the tree's, whole or divided. The other children's pages are not touched. Assumes nothing.
+use Rattle.limits.specs.Limits.{pagesMost, pageSize, innerMost, innerStay, innerGo}
 use Rattle.pages.specs.Layout.{ChildFits, countOf, childAt, childrenOf}
 use Prim.Native.Nat.{ℕ, zero, suc, _+_, _-_, _≤_, _<_, compare}
 use mathlib.Core.Path.{_≡_, refl, sym, ap, subst, _∙_}
@@ -146,12 +147,12 @@ module _ (s : List ℕ) (n pg u : ℕ) (e : Item) (g : GrowIn s (suc n) pg u e) 
   -- the tree, by its row
   pub grown-row : (v : ℕ) (xs : List (Child ℕ (Tree ℕ Item n))) → v ≡ grownOf n e u s q .used
       → grownAt (st .slot) (kid n s d) (grownOf n e u s q .tree) (grownOf n e u s q .beside) (map (kid n s) cs) ≡ xs
-      → grownOf (suc n) e u s pg ≡ halves (leb (length xs) 30) 16 (G.lowOf 0) (G.fromLowest 0) v pg xs
+      → grownOf (suc n) e u s pg ≡ halves (leb (length xs) innerMost) innerStay (G.lowOf 0) (G.fromLowest 0) v pg xs
   unfolding grown treeOf
   grown-row v xs y z =
-      ap (λ r. halves (leb (length (r .children)) 30) 16 (G.lowOf 0) (G.fromLowest 0) (r .used) pg (r .children)) row-is
-      ∙ ap (λ zs. halves (leb (length zs) 30) 16 (G.lowOf 0) (G.fromLowest 0) (grownOf n e u s q .used) pg zs) z
-      ∙ ap (λ m. halves (leb (length xs) 30) 16 (G.lowOf 0) (G.fromLowest 0) m pg xs) (sym y)
+      ap (λ r. halves (leb (length (r .children)) innerMost) innerStay (G.lowOf 0) (G.fromLowest 0) (r .used) pg (r .children)) row-is
+      ∙ ap (λ zs. halves (leb (length zs) innerMost) innerStay (G.lowOf 0) (G.fromLowest 0) (grownOf n e u s q .used) pg zs) z
+      ∙ ap (λ m. halves (leb (length xs) innerMost) innerStay (G.lowOf 0) (G.fromLowest 0) m pg xs) (sym y)
 
   -- ---- the child was not divided
   pub same-grew : (v : ℕ) → r₁ ≡ Same v → Grew (suc n) s s₁ pg u e (Same v)
@@ -161,7 +162,7 @@ module _ (s : List ℕ) (n pg u : ℕ) (e : Item) (g : GrowIn s (suc n) pg u e) 
       let f = inner-filled s n pg u t in
       let k = grown-row v (map (kid n s₁) cs) (w′ .told .0)
       (ap (λ o. grownAt (st .slot) (kid n s d) (grownOf n e u s q .tree) o (map (kid n s) cs)) (w′ .told .1) ∙ sym row-kept)
-      ∙ ap (λ x. halves x 16 (G.lowOf 0) (G.fromLowest 0) v pg (map (kid n s₁) cs)) (le-leb (length (map (kid n s₁) cs)) 30 (omega (arith, length-map cs (kid n s₁), f .many))) in
+      ∙ ap (λ x. halves x innerStay (G.lowOf 0) (G.fromLowest 0) v pg (map (kid n s₁) cs)) (le-leb (length (map (kid n s₁) cs)) innerMost (omega (arith, length-map cs (kid n s₁), f .many))) in
       record {
         size = w .size;
         tree = ap (λ p. record { number = pg; holds = map (kid n s₁) (childrenOf p) }) page-stays ∙ sym (ap (λ x. x .tree) k);
@@ -240,7 +241,7 @@ module _ (s : List ℕ) (n pg u : ℕ) (e : Item) (g : GrowIn s (suc n) pg u e) 
         (insertAt-in (st .slot + 1) x cs y i)
 
     -- a page written with some of these children, where the children's pages are as they were
-    page-tree : (s₂ : List ℕ) (p : ℕ) (xs : List P.Child) → pageAt s₂ p ≡ innerPage (suc n) xs → length xs ≤ 30 → Inner.Smalls xs
+    page-tree : (s₂ : List ℕ) (p : ℕ) (xs : List P.Child) → pageAt s₂ p ≡ innerPage (suc n) xs → length xs ≤ innerMost → Inner.Smalls xs
         → ((y : P.Child) → In y xs → F.Same n s₁ s₂ (y .page)) → ((y : P.Child) → In y xs → Laid n s₁ (y .page))
         → (treeOf (suc n) s₂ p ≡ record { number = p; holds = map (kid n s₁) xs }) × Laid (suc n) s₂ p
     unfolding treeOf
@@ -257,9 +258,9 @@ module _ (s : List ℕ) (n pg u : ℕ) (e : Item) (g : GrowIn s (suc n) pg u e) 
 
     -- ---- there is a page for a full one that is to be divided
     abbrev Room : ℕ → Type 0
-    Room above = u + neededIn n (e .key) s q (neededAbove (countOf (pageAt s pg)) above) ≤ 64
+    Room above = u + neededIn n (e .key) s q (neededAbove (countOf (pageAt s pg)) above) ≤ pagesMost
 
-    next-page : (above : ℕ) → Room above → 30 ≤ countOf (pageAt s pg) → v < 64
+    next-page : (above : ℕ) → Room above → innerMost ≤ countOf (pageAt s pg) → v < pagesMost
     next-page above room i =
         let k : suc n - 1 ≡ n = omega arith in
         let sub = subst (λ m. Subtree s m q u) k (child-chosen s (suc n) pg u (e .key) st q t (λ y. omega arith) h c) in
@@ -267,7 +268,7 @@ module _ (s : List ℕ) (n pg u : ℕ) (e : Item) (g : GrowIn s (suc n) pg u e) 
         let r = runOf n (e .key) s q in
         let run : r ≡ suc n = subst (λ y. Run n r y) (w′ .told .1) (need .run) in
         let all = ap (λ b. cond b (r + neededAbove (countOf (pageAt s pg)) above) r) (eq-eqb r (suc n) run)
-        ∙ ap (λ b. r + cond b (above + 1) 0) (le-leb 30 (countOf (pageAt s pg)) i) in
+        ∙ ap (λ b. r + cond b (above + 1) 0) (le-leb innerMost (countOf (pageAt s pg)) i) in
         omega (arith, need .more, w′ .told .0)
 
     pub split-room : (above : ℕ) → Room above → InnerRoom s₁ (suc n) pg v (st .slot + 1) x
@@ -290,9 +291,9 @@ module _ (s : List ℕ) (n pg u : ℕ) (e : Item) (g : GrowIn s (suc n) pg u e) 
     other : (m : ℕ) → Times (suc n) m s pg ≡ 0 → m ≢ pg
     other m o y = let k = subst (λ p. Times (suc n) p s pg ≡ 0) y o in let l = own-page (suc n) s pg in omega arith
 
-    pub put-grew : (s₂ : List ℕ) → s₂ ≡ putPage s₁ pg (innerPage (suc n) ds) → length cs ≤ 29 → Grew (suc n) s s₂ pg u e (Same v)
+    pub put-grew : (s₂ : List ℕ) → s₂ ≡ putPage s₁ pg (innerPage (suc n) ds) → length cs ≤ innerMost - 1 → Grew (suc n) s s₂ pg u e (Same v)
     put-grew s₂ y l =
-        let m : length ds ≤ 30 = omega (arith, length-insertAt (st .slot + 1) x cs) in
+        let m : length ds ≤ innerMost = omega (arith, length-insertAt (st .slot + 1) x cs) in
         let i = Inner.inner-length (suc n) ds m in
         let p = innerPage (suc n) ds in
         let s′ = putPage s₁ pg p in
@@ -300,7 +301,7 @@ module _ (s : List ℕ) (n pg u : ℕ) (e : Item) (g : GrowIn s (suc n) pg u e) 
         λ y j m k. page-kept s₁ (w .size) pg (t .which) p i m (λ o. omega (arith, subst (λ v. 0 < Times n v s₁ (y .page)) o k, clear-own y j)) in
         let f = page-tree s′ pg ds (page-same s₁ (w .size) pg (t .which) p i) m small-all same laid-all in
         let k = grown-row v (map (kid n s₁) ds) (w′ .told .0) row-more
-        ∙ ap (λ o. halves o 16 (G.lowOf 0) (G.fromLowest 0) v pg (map (kid n s₁) ds)) (le-leb (length (map (kid n s₁) ds)) 30 (omega (arith, length-map ds (kid n s₁)))) in
+        ∙ ap (λ o. halves o innerStay (G.lowOf 0) (G.fromLowest 0) v pg (map (kid n s₁) ds)) (le-leb (length (map (kid n s₁) ds)) innerMost (omega (arith, length-map ds (kid n s₁)))) in
         subst (λ o. Grew (suc n) s o pg u e (Same v)) (sym y)
         (record {
           size = length-putPage s₁ (w .size) pg (t .which) p i;
@@ -339,21 +340,21 @@ module _ (s : List ℕ) (n pg u : ℕ) (e : Item) (g : GrowIn s (suc n) pg u e) 
     low-small (o ∷ xs) m = m o (inl refl) .low
 
     abbrev lo : List P.Child
-    lo = take 16 ds
+    lo = take innerStay ds
 
     abbrev hi : List P.Child
-    hi = drop 16 ds
+    hi = drop innerStay ds
 
-    pub divide-grew : (s₂ : List ℕ) → v < 64 → s₂ ≡ putPage (putPage s₁ pg (innerPage (suc n) lo)) v (innerPage (suc n) (zeroFirst hi)) → length cs ≡ 30
+    pub divide-grew : (s₂ : List ℕ) → v < pagesMost → s₂ ≡ putPage (putPage s₁ pg (innerPage (suc n) lo)) v (innerPage (suc n) (zeroFirst hi)) → length cs ≡ innerMost
         → Grew (suc n) s s₂ pg u e (Split (v + 1) (record { low = record { 0 = lowFirst hi }; page = v }))
     divide-grew s₂ vm y l =
-        let k : length ds ≡ 31 = length-insertAt (st .slot + 1) x cs ∙ ap (λ o. o + 1) l in
-        let len-lo : length lo ≡ 16 = length-take-le 16 ds (omega arith) in
-        let len-hi : length hi ≡ 15 = length-drop 16 ds ∙ ap (λ o. o - 16) k in
+        let k : length ds ≡ innerMost + 1 = length-insertAt (st .slot + 1) x cs ∙ ap (λ o. o + 1) l in
+        let len-lo : length lo ≡ innerStay = length-take-le innerStay ds (omega arith) in
+        let len-hi : length hi ≡ innerGo = length-drop innerStay ds ∙ ap (λ o. o - innerStay) k in
         let pl = innerPage (suc n) lo in
         let pr = innerPage (suc n) (zeroFirst hi) in
-        let il : length pl ≡ 512 = Inner.inner-length (suc n) lo (omega arith) in
-        let ir : length pr ≡ 512 = Inner.inner-length (suc n) (zeroFirst hi) (omega (arith, zero-length hi)) in
+        let il : length pl ≡ pageSize = Inner.inner-length (suc n) lo (omega arith) in
+        let ir : length pr ≡ pageSize = Inner.inner-length (suc n) (zeroFirst hi) (omega (arith, zero-length hi)) in
         let sa = putPage s₁ pg pl in
         let za = length-putPage s₁ (w .size) pg (t .which) pl il in
         let sb = putPage sa v pr in
@@ -362,27 +363,27 @@ module _ (s : List ℕ) (n pg u : ℕ) (e : Item) (g : GrowIn s (suc n) pg u e) 
         λ y j m i. page-kept sa za v vm pr ir m (λ o. omega (arith, subst (λ p. 0 < Times n p s₁ (y .page)) o i, clear-next y j))
         ∙ page-kept s₁ (w .size) pg (t .which) pl il m (λ o. omega (arith, subst (λ p. 0 < Times n p s₁ (y .page)) o i, clear-own y j)) in
         let fl = page-tree sb pg lo (page-kept sa za v vm pr ir pg pv ∙ page-same s₁ (w .size) pg (t .which) pl il) (omega arith)
-        (λ y j. small-all y (take-in 16 ds y j)) (λ y j. same y (take-in 16 ds y j)) (λ y j. laid-all y (take-in 16 ds y j)) in
+        (λ y j. small-all y (take-in innerStay ds y j)) (λ y j. same y (take-in innerStay ds y j)) (λ y j. laid-all y (take-in innerStay ds y j)) in
         let fr = page-tree sb v (zeroFirst hi) (page-same sa za v vm pr ir) (omega (arith, zero-length hi))
-        (zero-small hi (λ y j. small-all y (drop-in 16 ds y j)))
-        (λ y j. let o = zero-in hi y j in subst (F.Same n s₁ sb) (o .2) (same (o .0) (drop-in 16 ds (o .0) (o .1))))
-        (λ y j. let o = zero-in hi y j in subst (Laid n s₁) (o .2) (laid-all (o .0) (drop-in 16 ds (o .0) (o .1)))) in
+        (zero-small hi (λ y j. small-all y (drop-in innerStay ds y j)))
+        (λ y j. let o = zero-in hi y j in subst (F.Same n s₁ sb) (o .2) (same (o .0) (drop-in innerStay ds (o .0) (o .1))))
+        (λ y j. let o = zero-in hi y j in subst (Laid n s₁) (o .2) (laid-all (o .0) (drop-in innerStay ds (o .0) (o .1)))) in
         let gr = grown-row v (map (kid n s₁) ds) (w′ .told .0) row-more
-        ∙ ap (λ o. halves o 16 (G.lowOf 0) (G.fromLowest 0) v pg (map (kid n s₁) ds)) (lt-leb (length (map (kid n s₁) ds)) 30 (omega (arith, length-map ds (kid n s₁)))) in
+        ∙ ap (λ o. halves o innerStay (G.lowOf 0) (G.fromLowest 0) v pg (map (kid n s₁) ds)) (lt-leb (length (map (kid n s₁) ds)) innerMost (omega (arith, length-map ds (kid n s₁)))) in
         subst (λ o. Grew (suc n) s o pg u e (Split (v + 1) (record { low = record { 0 = lowFirst hi }; page = v }))) (sym y)
         (record {
           size = length-putPage sa za v vm pr ir;
-          tree = fl .0 ∙ ap (λ ys. record { number = pg; holds = ys }) (map-take (kid n s₁) 16 ds) ∙ sym (ap (λ o. o .tree) gr);
+          tree = fl .0 ∙ ap (λ ys. record { number = pg; holds = ys }) (map-take (kid n s₁) innerStay ds) ∙ sym (ap (λ o. o .tree) gr);
           laid = fl .1;
           told = (
             sym (ap (λ o. o .used) gr),
             ap (λ o. o .beside) gr
-                ∙ ap (λ ys. some (record { low = G.lowOf 0 ys; tree = record { number = v; holds = G.fromLowest 0 ys } })) (sym (map-drop (kid n s₁) 16 ds))
+                ∙ ap (λ ys. some (record { low = G.lowOf 0 ys; tree = record { number = v; holds = G.fromLowest 0 ys } })) (sym (map-drop (kid n s₁) innerStay ds))
                 ∙ ap (λ o. some (record { low = o; tree = record { number = v; holds = G.fromLowest 0 (map (kid n s₁) hi) } })) (low-row hi)
                 ∙ ap (λ ys. some (record { low = lowFirst hi; tree = record { number = v; holds = ys } })) (sym (zero-row hi))
                 ∙ ap (λ o. some (record { low = lowFirst hi; tree = o })) (sym (fr .0)),
             fr .1,
-            record { low = low-small hi (λ y j. small-all y (drop-in 16 ds y j)); page = omega arith },
+            record { low = low-small hi (λ y j. small-all y (drop-in innerStay ds y j)); page = omega arith },
           );
           more = omega (arith, w′ .more);
           most = omega arith;
@@ -400,7 +401,7 @@ module _ (s : List ℕ) (n pg u : ℕ) (e : Item) (g : GrowIn s (suc n) pg u e) 
         go Short i = absurd i
         go (Same v′) (i, j, k) = subst (λ m. Grew (suc n) s s₂ pg u e (Same m)) (sym i) (put-grew s₂ j k)
         go (Split v′ y) (i, j, k, l) =
-            let m : v < 64 = next-page above room (omega (arith, length-children (pageAt s pg))) in
+            let m : v < pagesMost = next-page above room (omega (arith, length-children (pageAt s pg))) in
             subst (λ a. Grew (suc n) s s₂ pg u e (Split a y)) (sym i)
             (subst (λ a. Grew (suc n) s s₂ pg u e (Split (v + 1) a)) (sym k) (divide-grew s₂ m j l))
 

@@ -6,6 +6,7 @@ use mathlib.Core.List.{List, [], _∷_, map}
 use native.Mathlib.Omega.{arith}
 use lib.Dec.{lit<}
 use lib.ListN.{length, getD, replicate, length-replicate}
+use Rattle.limits.specs.Limits.{pageSize, headSize, bodySize, entrySize, leafMost, childSize, innerMost}
 use Rattle.lists.proofs.Places.{getD-alike}
 use Rattle.numbers.specs.Numbers.{putNumber, putFields, widthOf, Bytes}
 use Rattle.numbers.proofs.Numbers.{number-apart, number-other, number-same, length-putNumber}
@@ -25,67 +26,67 @@ use Rattle.index.specs.Pictures.{Item, blankPage, headPage, leafPage, in
 count-head : (s : List ℕ) (kind count level : ℕ) → count < 65536 → 6 ≤ length s → countOf (putHead s kind count level) ≡ count
 unfolding putHead putFields
 count-head s kind count level h l =
-    let a = putNumber 2 s 0 512 in
+    let a = putNumber 2 s 0 pageSize in
     let b = putNumber 2 a 2 kind in
     let c = putNumber 2 b 4 count in
     number-other 2 4 8 (putNumber 2 c 6 level) 8 0 (omega arith)
     ∙ number-other 2 4 2 c 6 level (omega arith)
-    ∙ number-same 2 b 4 count (omega arith) (omega (arith, length-putNumber 2 s 0 512, length-putNumber 2 a 2 kind))
+    ∙ number-same 2 b 4 count (omega arith) (omega (arith, length-putNumber 2 s 0 pageSize, length-putNumber 2 a 2 kind))
 
 kind-of-head : (s : List ℕ) (kind count level : ℕ) → kind < 65536 → 4 ≤ length s → kindOf (putHead s kind count level) ≡ kind
 unfolding putHead putFields
 kind-of-head s kind count level h l =
-    let a = putNumber 2 s 0 512 in
+    let a = putNumber 2 s 0 pageSize in
     let b = putNumber 2 a 2 kind in
     let c = putNumber 2 b 4 count in
     number-other 2 2 8 (putNumber 2 c 6 level) 8 0 (omega arith)
     ∙ number-other 2 2 2 c 6 level (omega arith)
     ∙ number-other 2 2 2 b 4 count (omega arith)
-    ∙ number-same 2 a 2 kind (omega arith) (omega (arith, length-putNumber 2 s 0 512))
+    ∙ number-same 2 a 2 kind (omega arith) (omega (arith, length-putNumber 2 s 0 pageSize))
 
 module _ (kind level : ℕ) where
-  pub length-blank : length (blankPage kind level) ≡ 512
+  pub length-blank : length (blankPage kind level) ≡ pageSize
   unfolding blankPage putHead
-  length-blank = length-putFields headWidths (replicate 512 0) 0 (512 ∷ kind ∷ 0 ∷ level ∷ 0 ∷ []) ∙ length-replicate {A = ℕ} 512 0
+  length-blank = length-putFields headWidths (replicate pageSize 0) 0 (pageSize ∷ kind ∷ 0 ∷ level ∷ 0 ∷ []) ∙ length-replicate {A = ℕ} pageSize 0
 
-  pub blank-zero : (k : ℕ) → 16 ≤ k → getD (blankPage kind level) k 0 ≡ 0
+  pub blank-zero : (k : ℕ) → headSize ≤ k → getD (blankPage kind level) k 0 ≡ 0
   unfolding blankPage putHead widthOf
-  blank-zero k h = touches-putFields headWidths (replicate 512 0) 0 (512 ∷ kind ∷ 0 ∷ level ∷ 0 ∷ []) .rest k (omega arith) ∙ getD-alike 512 k 0
+  blank-zero k h = touches-putFields headWidths (replicate pageSize 0) 0 (pageSize ∷ kind ∷ 0 ∷ level ∷ 0 ∷ []) .rest k (omega arith) ∙ getD-alike pageSize k 0
 
   pub count-blank : countOf (blankPage kind level) ≡ 0
   unfolding blankPage
-  count-blank = count-head (replicate 512 0) kind 0 level (lit< tt) (omega (arith, length-replicate {A = ℕ} 512 0))
+  count-blank = count-head (replicate pageSize 0) kind 0 level (lit< tt) (omega (arith, length-replicate {A = ℕ} pageSize 0))
 
   pub kind-blank : kind < 65536 → kindOf (blankPage kind level) ≡ kind
   unfolding blankPage
-  kind-blank h = kind-of-head (replicate 512 0) kind 0 level h (omega (arith, length-replicate {A = ℕ} 512 0))
+  kind-blank h = kind-of-head (replicate pageSize 0) kind 0 level h (omega (arith, length-replicate {A = ℕ} pageSize 0))
 
   pub bytes-blank : Bytes (blankPage kind level)
   unfolding blankPage putHead
-  bytes-blank = bytes-putFields headWidths (replicate 512 0) 0 (512 ∷ kind ∷ 0 ∷ level ∷ 0 ∷ []) (bytes-zeros 512)
+  bytes-blank = bytes-putFields headWidths (replicate pageSize 0) 0 (pageSize ∷ kind ∷ 0 ∷ level ∷ 0 ∷ []) (bytes-zeros pageSize)
 
   pub blank-page : Blank (blankPage kind level)
   blank-page =
       record {
         size = length-blank;
         none = count-blank;
-        zero = zeroAt-is 496 16 (blankPage kind level) (omega (arith, length-blank)) (record { byte = λ k h. blank-zero (16 + k) (omega arith) });
+        zero = zeroAt-is bodySize headSize (blankPage kind level) (omega (arith, length-blank)) (record { byte = λ k h. blank-zero (headSize + k) (omega arith) });
       }
 
 -- ---- the kinds of pages
-pub kind-leaf : (es : List Item) → length es ≤ 24 → kindOf (leafPage es) ≡ 2
+pub kind-leaf : (es : List Item) → length es ≤ leafMost → kindOf (leafPage es) ≡ 2
 unfolding leafPage
 kind-leaf es h =
-    kind-with 20 (blankPage 2 0) (map entryRow es) (fit-rows 20 entryRow length-entryRow (blank-page 2 0) es (omega arith) (omega arith))
+    kind-with entrySize (blankPage 2 0) (map entryRow es) (fit-rows entrySize entryRow length-entryRow (blank-page 2 0) es (omega arith) (omega arith))
     ∙ kind-blank 2 0 (lit< tt)
 
-pub kind-inner : (level : ℕ) (cs : List Child) → length cs ≤ 30 → kindOf (innerPage level cs) ≡ 3
+pub kind-inner : (level : ℕ) (cs : List Child) → length cs ≤ innerMost → kindOf (innerPage level cs) ≡ 3
 unfolding innerPage
 kind-inner level cs h =
-    kind-with 16 (blankPage 3 level) (map childRow cs) (fit-rows 16 childRow length-childRow (blank-page 3 level) cs (omega arith) (omega arith))
+    kind-with childSize (blankPage 3 level) (map childRow cs) (fit-rows childSize childRow length-childRow (blank-page 3 level) cs (omega arith) (omega arith))
     ∙ kind-blank 3 level (lit< tt)
 
 pub kind-head : (root used height : ℕ) → kindOf (headPage root used height) ≡ 1
 unfolding headPage putRoot widthOf
 kind-head root used height =
-    number-apart 2 2 (touches-putFields rootWidths (blankPage 1 0) 16 (root ∷ used ∷ height ∷ [])) (lit< tt) ∙ kind-blank 1 0 (lit< tt)
+    number-apart 2 2 (touches-putFields rootWidths (blankPage 1 0) headSize (root ∷ used ∷ height ∷ [])) (lit< tt) ∙ kind-blank 1 0 (lit< tt)

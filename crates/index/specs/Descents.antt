@@ -8,6 +8,7 @@ use mathlib.Core.List.{List, map}
 use mathlib.Core.Option.{Option}
 use lib.Dec.{eqb}
 use lib.ListN.{length, set}
+use Rattle.limits.specs.Limits.{pagesMost, pageSize, pagesSize, leafMost, innerMost}
 use Rattle.lists.specs.Lists.{removeAt}
 use Rattle.rules.specs.Entries.{present}
 use Rattle.pages.specs.Layout.{kindOf, countOf, rootOf, usedOf, heightOf, entriesOf, childAt}
@@ -23,9 +24,9 @@ use Rattle.index.specs.Changes.{putOver}
 
 -- the tree of level n at page pg, in an index that uses u pages
 pub record Subtree (s : List ℕ) (n pg u : ℕ) : Type 0 where
-  pub size : length s ≡ 32768
-  pub which : pg < 64
-  pub few : u ≤ 64
+  pub size : length s ≡ pagesSize
+  pub which : pg < pagesMost
+  pub few : u ≤ pagesMost
   pub laid : Laid n s pg
   pub least : ℕ
   pub enough : 2 ≤ least
@@ -37,22 +38,22 @@ pub record Subtree (s : List ℕ) (n pg u : ℕ) : Type 0 where
 
 -- an inner page in the buffer
 pub record InnerIn (s : List ℕ) (pg : ℕ) : Type 0 where
-  pub size : length s ≡ 32768
-  pub which : pg < 64
+  pub size : length s ≡ pagesSize
+  pub which : pg < pagesMost
   pub some : 1 ≤ countOf (pageAt s pg)
-  pub few : countOf (pageAt s pg) ≤ 30
+  pub few : countOf (pageAt s pg) ≤ innerMost
 
 -- the place of the child that k belongs to, and how many children there are
 pub record Starts (s : List ℕ) (pg k : ℕ) (r : Step) : Type 0 where
   pub place : ChildPlace (pageAt s pg) k (r .slot)
   pub count : r .count ≡ countOf (pageAt s pg)
-  pub few : r .count ≤ 30
+  pub few : r .count ≤ innerMost
 
 -- the child that k belongs to
 pub record Goes (s : List ℕ) (pg k : ℕ) (r : Way) : Type 0 where
   pub starts : Starts s pg k (record { slot = r .slot; count = countOf (pageAt s pg) })
   pub page : r .page ≡ childAt (pageAt s pg) (r .slot) .page
-  pub few : r .slot < 30
+  pub few : r .slot < innerMost
 
 -- the root, its level and how many pages are used
 pub record TopOf (s : List ℕ) (r : Top) : Type 0 where
@@ -60,18 +61,18 @@ pub record TopOf (s : List ℕ) (r : Top) : Type 0 where
   pub used : r .used ≡ usedOf (pageAt s 0)
   pub level : r .level ≡ heightOf (pageAt s 0) - 1
   pub low : r .level < 65535
-  pub few : r .used ≤ 64
+  pub few : r .used ≤ pagesMost
 
 -- a leaf of a tree by itself, and in the buffer
 pub record OwnLeaf (p : List ℕ) : Type 0 where
-  pub size : length p ≡ 512
-  pub few : countOf p ≤ 24
+  pub size : length p ≡ pageSize
+  pub few : countOf p ≤ leafMost
   pub order : keysAscend (entriesOf p) ≡ true
   pub laid : p ≡ leafPage (entriesOf p)
 
 pub record LeafAt (s : List ℕ) (pg : ℕ) : Type 0 where
-  pub size : length s ≡ 32768
-  pub which : pg < 64
+  pub size : length s ≡ pagesSize
+  pub which : pg < pagesMost
   pub leaf : OwnLeaf (pageAt s pg)
 
 -- the leaf that k belongs to, in the tree of level n at page pg: no other leaf of the tree has k
@@ -91,9 +92,9 @@ leftIn i e es = cond (present e) (set es i e) (removeAt i es)
 
 -- a page of the buffer that may be a leaf
 pub record LeafIn (s : List ℕ) (pg : ℕ) : Type 0 where
-  pub size : length s ≡ 32768
-  pub which : pg < 64
-  pub few : kindOf (pageAt s pg) ≡ 2 → countOf (pageAt s pg) ≤ 24
+  pub size : length s ≡ pagesSize
+  pub which : pg < pagesMost
+  pub few : kindOf (pageAt s pg) ≡ 2 → countOf (pageAt s pg) ≤ leafMost
 
 -- a leaf settled; any other page stays
 unfoldable pub settledPage : Bool → ℕ → List ℕ → List ℕ

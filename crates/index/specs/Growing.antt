@@ -1,6 +1,6 @@
 -- What the steps of an insert leave, between the functions that take them: a tree that has grown, a leaf and an inner page with one more.
 -- Not for readers of the promises. Assumes nothing.
-use Prim.Native.Nat.{ℕ, suc, _+_, _≤_, _<_, compare}
+use Prim.Native.Nat.{ℕ, suc, _+_, _-_, _≤_, _<_, compare}
 use mathlib.Core.Path.{_≡_}
 use mathlib.Core.Logic.{_⊎_}
 use mathlib.Core.Bool.{cond}
@@ -8,6 +8,7 @@ use mathlib.Core.List.{List, [], _∷_}
 use mathlib.Core.Option.{none, some}
 use lib.Dec.{leb, eqb}
 use lib.ListN.{length, take, drop, replicate}
+use Rattle.limits.specs.Limits.{pagesMost, pageSize, pagesSize, leafMost, leafStay, innerMost, innerStay}
 use Rattle.lists.specs.Lists.{insertAt}
 use Rattle.pages.specs.declared.Child as P
 use Rattle.pages.specs.Layout.{EntryFits, ChildFits, countOf, entriesOf, childrenOf}
@@ -24,13 +25,13 @@ neededIn n k s pg above = cond (eqb (runOf n k s pg) (suc n)) (runOf n k s pg + 
 
 -- and above a child of an inner page with so many children
 abbrev pub neededAbove : ℕ → ℕ → ℕ
-neededAbove count above = cond (leb 30 count) (above + 1) 0
+neededAbove count above = cond (leb innerMost count) (above + 1) 0
 
 -- a tree that an entry is to be put into
 pub record GrowIn (s : List ℕ) (n pg u : ℕ) (e : Item) : Type 0 where
   pub sub : Subtree s n pg u
   pub used : pg < u
-  pub most : u ≤ 64
+  pub most : u ≤ pagesMost
   pub small : EntryFits e
 
 -- the tree with the entry
@@ -50,49 +51,49 @@ usedIn (Same v) = v
 usedIn (Split v c) = v
 
 pub record Grew (n : ℕ) (s s′ : List ℕ) (pg u : ℕ) (e : Item) (r : Grown) : Type 0 where
-  pub size : length s′ ≡ 32768
+  pub size : length s′ ≡ pagesSize
   pub tree : treeOf n s′ pg ≡ grownOf n e u s pg .tree
   pub laid : Laid n s′ pg
   pub told : Told n s′ (grownOf n e u s pg) r
   pub more : u ≤ usedIn r
-  pub most : usedIn r ≤ 64
+  pub most : usedIn r ≤ pagesMost
   pub kept : (q : ℕ) → q < u → times ℕ Item n q (treeOf n s pg) ≡ 0 → pageAt s′ q ≡ pageAt s q
-  pub spare : (q : ℕ) → usedIn r ≤ q → q < 64 → pageAt s′ q ≡ pageAt s q
+  pub spare : (q : ℕ) → usedIn r ≤ q → q < pagesMost → pageAt s′ q ≡ pageAt s q
 
 -- the tree has grown, if the pages had room; otherwise nothing has changed
 abbrev pub Outcome : (n : ℕ) → List ℕ → List ℕ → ℕ → ℕ → ℕ → Item → Grown → Type 0
-Outcome n s s′ pg u above e Short = (s′ ≡ s) × (64 < u + neededIn n (e .key) s pg above)
-Outcome n s s′ pg u above e (Same v) = Grew n s s′ pg u e (Same v) × (u + neededIn n (e .key) s pg above ≤ 64)
-Outcome n s s′ pg u above e (Split v c) = Grew n s s′ pg u e (Split v c) × (u + neededIn n (e .key) s pg above ≤ 64)
+Outcome n s s′ pg u above e Short = (s′ ≡ s) × (pagesMost < u + neededIn n (e .key) s pg above)
+Outcome n s s′ pg u above e (Same v) = Grew n s s′ pg u e (Same v) × (u + neededIn n (e .key) s pg above ≤ pagesMost)
+Outcome n s s′ pg u above e (Split v c) = Grew n s s′ pg u e (Split v c) × (u + neededIn n (e .key) s pg above ≤ pagesMost)
 
 pub record Tried (n : ℕ) (s s′ : List ℕ) (pg u above : ℕ) (e : Item) (r : Grown) : Type 0 where
   pub outcome : Outcome n s s′ pg u above e r
 
 -- a leaf with one more entry, at place i of those that it had
 pub record LeafSplit (s s′ : List ℕ) (pg u i : ℕ) (e : Item) (r : Grown) : Type 0 where
-  pub bytes : s′ ≡ putPage (putPage s pg (leafPage (take 13 (insertAt i e (entriesOf (pageAt s pg)))))) u
-      (leafPage (drop 13 (insertAt i e (entriesOf (pageAt s pg)))))
-  pub told : r ≡ Split (u + 1) (record { low = record { 0 = G.lowKey keyOf 0 (drop 13 (insertAt i e (entriesOf (pageAt s pg)))) }; page = u })
+  pub bytes : s′ ≡ putPage (putPage s pg (leafPage (take leafStay (insertAt i e (entriesOf (pageAt s pg)))))) u
+      (leafPage (drop leafStay (insertAt i e (entriesOf (pageAt s pg)))))
+  pub told : r ≡ Split (u + 1) (record { low = record { 0 = G.lowKey keyOf 0 (drop leafStay (insertAt i e (entriesOf (pageAt s pg)))) }; page = u })
 
 -- a full leaf that is to be divided
 pub record LeafFull (s : List ℕ) (pg u i : ℕ) (e : Item) : Type 0 where
-  pub size : length s ≡ 32768
-  pub which : pg < 64
-  pub next : u < 64
+  pub size : length s ≡ pagesSize
+  pub which : pg < pagesMost
+  pub next : u < pagesMost
   pub other : pg < u
-  pub full : length (entriesOf (pageAt s pg)) ≡ 24
-  pub count : countOf (pageAt s pg) ≡ 24
-  pub place : i ≤ 24
+  pub full : length (entriesOf (pageAt s pg)) ≡ leafMost
+  pub count : countOf (pageAt s pg) ≡ leafMost
+  pub place : i ≤ leafMost
   pub laid : pageAt s pg ≡ leafPage (entriesOf (pageAt s pg))
   pub small : EntryFits e
 
 -- a full leaf, if there is a page for the new one
 pub record LeafOver (s : List ℕ) (pg u i : ℕ) (e : Item) : Type 0 where
-  pub full : u < 64 → LeafFull s pg u i e
+  pub full : u < pagesMost → LeafFull s pg u i e
 
 -- divided, if there are pages for the new leaf and for what is needed above; otherwise nothing has changed
 pub record LeafParted (s s′ : List ℕ) (pg u above i : ℕ) (e : Item) (r : Grown) : Type 0 where
-  pub how : ((r ≡ Short) × (s′ ≡ s) × (64 < u + above + 1)) ⊎ (LeafSplit s s′ pg u i e r × (u + above + 1 ≤ 64))
+  pub how : ((r ≡ Short) × (s′ ≡ s) × (pagesMost < u + above + 1)) ⊎ (LeafSplit s s′ pg u i e r × (u + above + 1 ≤ pagesMost))
 
 -- an inner page with one more child, at place i of those that it had
 abbrev pub zeroFirst : List P.Child → List P.Child
@@ -105,36 +106,36 @@ lowFirst (c ∷ cs) = c .low .0
 
 abbrev pub Wider : List ℕ → List ℕ → ℕ → ℕ → ℕ → List P.Child → List P.Child → Grown → Type 0
 Wider s s′ n pg u cs ds Short = ⊥
-Wider s s′ n pg u cs ds (Same v) = (v ≡ u) × (s′ ≡ putPage s pg (innerPage n ds)) × (length cs ≤ 29)
+Wider s s′ n pg u cs ds (Same v) = (v ≡ u) × (s′ ≡ putPage s pg (innerPage n ds)) × (length cs ≤ innerMost - 1)
 Wider s s′ n pg u cs ds (Split v d) =
     (v ≡ u + 1)
-    × (s′ ≡ putPage (putPage s pg (innerPage n (take 16 ds))) u (innerPage n (zeroFirst (drop 16 ds))))
-    × (d ≡ record { low = record { 0 = lowFirst (drop 16 ds) }; page = u })
-    × (length cs ≡ 30)
+    × (s′ ≡ putPage (putPage s pg (innerPage n (take innerStay ds))) u (innerPage n (zeroFirst (drop innerStay ds))))
+    × (d ≡ record { low = record { 0 = lowFirst (drop innerStay ds) }; page = u })
+    × (length cs ≡ innerMost)
 
 pub record Widened (s s′ : List ℕ) (n pg u i : ℕ) (c : P.Child) (r : Grown) : Type 0 where
   pub how : Wider s s′ n pg u (childrenOf (pageAt s pg)) (insertAt i c (childrenOf (pageAt s pg))) r
 
 -- an inner page that a child is to be put into
 pub record InnerRoom (s : List ℕ) (n pg u i : ℕ) (c : P.Child) : Type 0 where
-  pub size : length s ≡ 32768
-  pub which : pg < 64
-  pub most : u ≤ 64
+  pub size : length s ≡ pagesSize
+  pub which : pg < pagesMost
+  pub most : u ≤ pagesMost
   pub other : pg < u
-  pub few : countOf (pageAt s pg) ≤ 30
+  pub few : countOf (pageAt s pg) ≤ innerMost
   pub place : i ≤ countOf (pageAt s pg)
-  pub next : 30 ≤ countOf (pageAt s pg) → u < 64
+  pub next : innerMost ≤ countOf (pageAt s pg) → u < pagesMost
   pub laid : pageAt s pg ≡ innerPage n (childrenOf (pageAt s pg))
   pub small : ChildFits c
 
 -- and one that is full
 pub record InnerFull (s : List ℕ) (n pg u i : ℕ) (c : P.Child) : Type 0 where
-  pub size : length s ≡ 32768
-  pub which : pg < 64
-  pub next : u < 64
+  pub size : length s ≡ pagesSize
+  pub which : pg < pagesMost
+  pub next : u < pagesMost
   pub other : pg < u
-  pub count : countOf (pageAt s pg) ≡ 30
-  pub place : i ≤ 30
+  pub count : countOf (pageAt s pg) ≡ innerMost
+  pub place : i ≤ innerMost
   pub laid : pageAt s pg ≡ innerPage n (childrenOf (pageAt s pg))
   pub small : ChildFits c
 
@@ -161,9 +162,9 @@ abbrev pub rootPage : ℕ → ℕ → P.Child → List ℕ
 rootPage n root c = innerPage (n + 1) (record { low = record { 0 = 0 }; page = root } ∷ c ∷ [])
 
 pub record RootIn (s : List ℕ) (n root u : ℕ) (c : P.Child) : Type 0 where
-  pub size : length s ≡ 32768
-  pub next : u < 64
+  pub size : length s ≡ pagesSize
+  pub next : u < pagesMost
   pub some : 0 < u
-  pub low : n < 64
-  pub old : root < 64
-  pub blank : pageAt s u ≡ replicate 512 0
+  pub low : n < pagesMost
+  pub old : root < pagesMost
+  pub blank : pageAt s u ≡ replicate pageSize 0

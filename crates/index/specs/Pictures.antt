@@ -5,6 +5,7 @@ use mathlib.Core.Path.{_≡_}
 use mathlib.Core.List.{List, map}
 use mathlib.Core.Option.{some}
 use lib.ListN.{length, replicate}
+use Rattle.limits.specs.Limits.{pagesMost, pageSize, pagesSize, entrySize, childSize}
 use Rattle.lists.specs.Lists.{In}
 use Rattle.numbers.specs.Numbers.{part, putPart}
 use Rattle.rules.specs.Kinds.{Entry}
@@ -22,10 +23,10 @@ keyOf e = e .key
 
 -- page q of the buffer, and the buffer with another page there
 unfoldable pub pageAt : List ℕ → ℕ → List ℕ
-pageAt s q = part (512 * q) 512 s
+pageAt s q = part (pageSize * q) pageSize s
 
 unfoldable pub putPage : List ℕ → ℕ → List ℕ → List ℕ
-putPage s q g = putPart (512 * q) g s
+putPage s q g = putPart (pageSize * q) g s
 
 -- the tree of level n whose root is page q
 unfoldable pub treeOf : (n : ℕ) → List ℕ → ℕ → Tree ℕ Item n
@@ -48,16 +49,16 @@ entriesIn s = let x = indexOf s in flat ℕ Item (x .level) (x .tree)
 
 -- the bytes that document 01 gives a page
 unfoldable pub blankPage : ℕ → ℕ → List ℕ
-blankPage kind level = putHead (replicate 512 0) kind 0 level
+blankPage kind level = putHead (replicate pageSize 0) kind 0 level
 
 unfoldable pub headPage : ℕ → ℕ → ℕ → List ℕ
 headPage root used height = putRoot (blankPage 1 0) root used height
 
 unfoldable pub leafPage : List Item → List ℕ
-leafPage es = withRows 20 (blankPage 2 0) (map entryRow es)
+leafPage es = withRows entrySize (blankPage 2 0) (map entryRow es)
 
 unfoldable pub innerPage : ℕ → List P.Child → List ℕ
-innerPage level cs = withRows 16 (blankPage 3 level) (map childRow cs)
+innerPage level cs = withRows childSize (blankPage 3 level) (map childRow cs)
 
 -- the pages of the tree at page q are those that its entries and children write
 abbrev pub Laid : (n : ℕ) → List ℕ → ℕ → Type 0
@@ -68,9 +69,9 @@ Laid (suc n) s q =
 
 -- a whole page buffer: its bytes are those of its index, pages that are not used are zero, and the index is whole
 pub record WholePages (s : List ℕ) : Type 0 where
-  pub size : length s ≡ 32768
+  pub size : length s ≡ pagesSize
   pub head : pageAt s 0 ≡ headPage (rootOf (pageAt s 0)) (usedOf (pageAt s 0)) (heightOf (pageAt s 0))
   pub tall : 0 < heightOf (pageAt s 0)
   pub laid : Laid (indexOf s .level) s (rootOf (pageAt s 0))
-  pub spare : (q : ℕ) → usedOf (pageAt s 0) ≤ q → q < 64 → pageAt s q ≡ replicate 512 0
+  pub spare : (q : ℕ) → usedOf (pageAt s 0) ≤ q → q < pagesMost → pageAt s q ≡ replicate pageSize 0
   pub index : WholeIndex compare keyOf 0 (some endMark) documentSizes (indexOf s)

@@ -2,6 +2,7 @@
 ghost use mathlib.Core.Path.{_≡_};
 ghost use Prim.Native.Nat.{_<_};
 ghost use lib.ListN.{length};
+ghost use Rattle.limits.specs.Limits.{pagesMost, pagesSize, innerMost};
 ghost use Rattle.pages.specs.Layout.{countOf, rootOf, usedOf, heightOf, childAt};
 ghost use Rattle.index.specs.Pictures.{pageAt, WholePages};
 ghost use Rattle.index.specs.Descents.{Subtree, InnerIn, Starts, Goes, TopOf, LeafFor};
@@ -9,31 +10,32 @@ use super::Step;
 use super::Top;
 use super::Way;
 use entries::Key;
+use limits::PAGE_SIZE;
 use pages::head;
 use pages::inner;
 
 // Of page 0: the root's page.
 pub fn root_of(pages: &[u8]) -> usize
-    requires { ⌜ length (now pages) ≡ 32768 ⌝ }
+    requires { ⌜ length (now pages) ≡ pagesSize ⌝ }
     ensures { λ r. ⌜ (r ≡ rootOf (pageAt (now (pages .entry)) 0)) × (r < 65536) ⌝ }
 {
-    head::root_of(&pages[0..512])
+    head::root_of(&pages[0..PAGE_SIZE])
 }
 
 // Of page 0: how many pages are used.
 pub fn used_of(pages: &[u8]) -> usize
-    requires { ⌜ length (now pages) ≡ 32768 ⌝ }
+    requires { ⌜ length (now pages) ≡ pagesSize ⌝ }
     ensures { λ r. ⌜ (r ≡ usedOf (pageAt (now (pages .entry)) 0)) × (r < 65536) ⌝ }
 {
-    head::used_of(&pages[0..512])
+    head::used_of(&pages[0..PAGE_SIZE])
 }
 
 // Of page 0: the height of the tree.
 pub fn height_of(pages: &[u8]) -> usize
-    requires { ⌜ length (now pages) ≡ 32768 ⌝ }
+    requires { ⌜ length (now pages) ≡ pagesSize ⌝ }
     ensures { λ r. ⌜ (r ≡ heightOf (pageAt (now (pages .entry)) 0)) × (r < 65536) ⌝ }
 {
-    head::height_of(&pages[0..512])
+    head::height_of(&pages[0..PAGE_SIZE])
 }
 
 // Where the tree begins.
@@ -53,34 +55,34 @@ pub fn top(pages: &[u8]) -> Top
 
 // How many entries or children page q has.
 pub fn count_at(pages: &[u8], q: usize) -> usize
-    requires { ⌜ length (now pages) ≡ 32768 ⌝ }
-    requires { ⌜ q < 64 ⌝ }
+    requires { ⌜ length (now pages) ≡ pagesSize ⌝ }
+    requires { ⌜ q < pagesMost ⌝ }
     ensures { λ r. ⌜ (r ≡ countOf (pageAt (now (pages .entry)) q)) × (r < 65536) ⌝ }
 {
-    let a = 512 * q;
-    head::count_of(&pages[a..a + 512])
+    let a = PAGE_SIZE * q;
+    head::count_of(&pages[a..a + PAGE_SIZE])
 }
 
 // The separator of child i of page q.
 pub fn low_at(pages: &[u8], q: usize, i: usize) -> Key
-    requires { ⌜ length (now pages) ≡ 32768 ⌝ }
-    requires { ⌜ q < 64 ⌝ }
-    requires { ⌜ i < 30 ⌝ }
+    requires { ⌜ length (now pages) ≡ pagesSize ⌝ }
+    requires { ⌜ q < pagesMost ⌝ }
+    requires { ⌜ i < innerMost ⌝ }
     ensures { λ r. ⌜ r .0 ≡ childAt (pageAt (now (pages .entry)) q) i .low .0 ⌝ }
 {
-    let a = 512 * q;
-    inner::low_at(&pages[a..a + 512], i)
+    let a = PAGE_SIZE * q;
+    inner::low_at(&pages[a..a + PAGE_SIZE], i)
 }
 
 // The page of child i of page q.
 pub fn child_page(pages: &[u8], q: usize, i: usize) -> usize
-    requires { ⌜ length (now pages) ≡ 32768 ⌝ }
-    requires { ⌜ q < 64 ⌝ }
-    requires { ⌜ i < 30 ⌝ }
+    requires { ⌜ length (now pages) ≡ pagesSize ⌝ }
+    requires { ⌜ q < pagesMost ⌝ }
+    requires { ⌜ i < innerMost ⌝ }
     ensures { λ r. ⌜ r ≡ childAt (pageAt (now (pages .entry)) q) i .page ⌝ }
 {
-    let a = 512 * q;
-    let c = inner::child_at(&pages[a..a + 512], i);
+    let a = PAGE_SIZE * q;
+    let c = inner::child_at(&pages[a..a + PAGE_SIZE], i);
     c.page as usize
 }
 
@@ -90,8 +92,8 @@ pub fn step_to(pages: &[u8], pg: usize, key: Key) -> Step
     ensures { λ r. ⌜ Starts (now (pages .entry)) pg (key .0) r ⌝ }
 {
     let count = count_at(pages, pg);
-    let a = 512 * pg;
-    let slot = inner::child_for(&pages[a..a + 512], key);
+    let a = PAGE_SIZE * pg;
+    let slot = inner::child_for(&pages[a..a + PAGE_SIZE], key);
     Step {
         slot: slot,
         count: count,
@@ -114,7 +116,7 @@ pub fn way_to(pages: &[u8], pg: usize, key: Key) -> Way
 
 // The page of the leaf that a key belongs to, in the tree of this level at this page. No other leaf of the tree has the key.
 pub fn leaf_for(pages: &[u8], level: usize, pg: usize, key: Key) -> usize
-    requires { ⌜ Subtree (now pages) level pg 64 ⌝ }
+    requires { ⌜ Subtree (now pages) level pg pagesMost ⌝ }
     ensures { λ r. ⌜ LeafFor (now (pages .entry)) level pg (key .0) r ⌝ }
 {
     if level == 0 {

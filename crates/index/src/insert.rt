@@ -4,6 +4,7 @@ ghost use mathlib.Core.Bool.{true};
 ghost use mathlib.Core.List.{[], _∷_};
 ghost use Prim.Native.Nat.{_+_, _≤_, _<_, compare};
 ghost use lib.ListN.{length, replicate};
+ghost use Rattle.limits.specs.Limits.{pagesMost, pageSize, pagesSize};
 ghost use Rattle.rules.specs.Document.{endMark};
 ghost use Rattle.pages.specs.Layout.{EntryFits, countOf, putRoot};
 ghost use Rattle.trees.specs.Growth.{missing};
@@ -16,6 +17,7 @@ use super::Grown;
 use super::descent;
 use entries::Entry;
 use entries::Key;
+use limits::PAGE_SIZE;
 use pages::Child;
 use pages::head;
 use pages::inner;
@@ -58,10 +60,10 @@ pub fn fits_page(e: Entry)
 
 // Writes page 0: the root, the pages used and the height.
 pub fn put_top(pages: &mut [u8], root: usize, used: usize, height: usize)
-    requires { ⌜ length (now pages) ≡ 32768 ⌝ }
+    requires { ⌜ length (now pages) ≡ pagesSize ⌝ }
     ensures { λ _. ⌜ now (pages .exit) ≡ putPage (now (pages .entry)) 0 (putRoot (pageAt (now (pages .entry)) 0) root used height) ⌝ }
 {
-    head::put_root(&mut pages[0..512], root, used, height);
+    head::put_root(&mut pages[0..PAGE_SIZE], root, used, height);
 }
 
 // Makes a new root over the old one and the new tree beside it, in the next unused page, and writes page 0.
@@ -69,16 +71,16 @@ fn add_root(pages: &mut [u8], level: usize, root: usize, used: usize, c: Child)
     requires { ⌜ RootIn (now pages) level root used c ⌝ }
     ensures { λ _. ⌜ now (pages .exit) ≡ putPage (putPage (now (pages .entry)) used (rootPage level root c)) 0 (putRoot (pageAt (now (pages .entry)) 0) used (used + 1) (level + 2)) ⌝ }
 {
-    let b = 512 * used;
-    fill_root(&mut pages[b..b + 512], level + 1, root, c);
+    let b = PAGE_SIZE * used;
+    fill_root(&mut pages[b..b + PAGE_SIZE], level + 1, root, c);
     put_top(pages, used, used + 1, level + 2);
 }
 
 // Writes a new root's page over zeros.
 fn fill_root(p: &mut [u8], level: usize, root: usize, c: Child)
-    requires { ⌜ length (now p) ≡ 512 ⌝ }
-    requires { ⌜ now p ≡ replicate 512 0 ⌝ }
-    requires { ⌜ root < 64 ⌝ }
+    requires { ⌜ length (now p) ≡ pageSize ⌝ }
+    requires { ⌜ now p ≡ replicate pageSize 0 ⌝ }
+    requires { ⌜ root < pagesMost ⌝ }
     ensures { λ _. ⌜ now (p .exit) ≡ innerPage level (record { low = record { 0 = 0 }; page = root } ∷ c ∷ []) ⌝ }
 {
     first_child(
@@ -94,8 +96,8 @@ fn fill_root(p: &mut [u8], level: usize, root: usize, c: Child)
 
 // Writes an inner page with one child over zeros.
 fn first_child(p: &mut [u8], level: usize, c: Child)
-    requires { ⌜ length (now p) ≡ 512 ⌝ }
-    requires { ⌜ now p ≡ replicate 512 0 ⌝ }
+    requires { ⌜ length (now p) ≡ pageSize ⌝ }
+    requires { ⌜ now p ≡ replicate pageSize 0 ⌝ }
     ensures { λ _. ⌜ now (p .exit) ≡ innerPage level (c ∷ []) ⌝ }
 {
     clear_inner(p, level);
@@ -104,8 +106,8 @@ fn first_child(p: &mut [u8], level: usize, c: Child)
 
 // Writes the head of an inner page that has no child yet over zeros.
 fn clear_inner(p: &mut [u8], level: usize)
-    requires { ⌜ length (now p) ≡ 512 ⌝ }
-    requires { ⌜ now p ≡ replicate 512 0 ⌝ }
+    requires { ⌜ length (now p) ≡ pageSize ⌝ }
+    requires { ⌜ now p ≡ replicate pageSize 0 ⌝ }
     ensures { λ _. ⌜ now (p .exit) ≡ innerPage level [] ⌝ }
 {
     head::put_head(p, 3, 0, level);
@@ -152,8 +154,8 @@ fn above_child(pages: &[u8], pg: usize, above: usize) -> usize
     requires { ⌜ above ≤ 65535 ⌝ }
     ensures { λ r. ⌜ (r ≡ neededAbove (countOf (pageAt (now (pages .entry)) pg)) above) × (r ≤ above + 1) ⌝ }
 {
-    let a = 512 * pg;
-    if 30 <= head::count_of(&pages[a..a + 512]) {
+    let a = PAGE_SIZE * pg;
+    if limits::INNER_MOST <= head::count_of(&pages[a..a + PAGE_SIZE]) {
         return above + 1;
     }
     0
@@ -165,12 +167,12 @@ fn grow_leaf(pages: &mut [u8], pg: usize, used: usize, above: usize, e: Entry) -
     requires { ⌜ above ≤ 65535 ⌝ }
     ensures { λ r. ⌜ Tried 0 (now (pages .entry)) (now (pages .exit)) pg used above (bookEntry e) r ⌝ }
 {
-    let a = 512 * pg;
+    let a = PAGE_SIZE * pg;
     let key = e.key;
-    let n = head::count_of(&pages[a..a + 512]);
-    let i = leaf::first_at_or_above(&pages[a..a + 512], key);
-    if n < 24 {
-        leaf::insert_entry(&mut pages[a..a + 512], i, e);
+    let n = head::count_of(&pages[a..a + PAGE_SIZE]);
+    let i = leaf::first_at_or_above(&pages[a..a + PAGE_SIZE], key);
+    if n < limits::LEAF_MOST {
+        leaf::insert_entry(&mut pages[a..a + PAGE_SIZE], i, e);
         return Grown::Same(used);
     }
     divide_leaf(pages, pg, used, above, i, e)
@@ -179,11 +181,11 @@ fn grow_leaf(pages: &mut [u8], pg: usize, used: usize, above: usize, e: Entry) -
 // Puts an entry in at a place of a full leaf, if there are pages for the new leaf and for what is needed above.
 fn divide_leaf(pages: &mut [u8], pg: usize, used: usize, above: usize, i: usize, e: Entry) -> Grown
     requires { ⌜ LeafOver (now pages) pg used i (bookEntry e) ⌝ }
-    requires { ⌜ used ≤ 64 ⌝ }
+    requires { ⌜ used ≤ pagesMost ⌝ }
     requires { ⌜ above ≤ 65535 ⌝ }
     ensures { λ r. ⌜ LeafParted (now (pages .entry)) (now (pages .exit)) pg used above i (bookEntry e) r ⌝ }
 {
-    if 64 < used + above + 1 {
+    if limits::PAGES < used + above + 1 {
         return Grown::Short;
     }
     split_leaf(pages, pg, used, i, e)
@@ -194,13 +196,13 @@ fn split_leaf(pages: &mut [u8], pg: usize, used: usize, i: usize, e: Entry) -> G
     requires { ⌜ LeafFull (now pages) pg used i (bookEntry e) ⌝ }
     ensures { λ r. ⌜ LeafSplit (now (pages .entry)) (now (pages .exit)) pg used i (bookEntry e) r ⌝ }
 {
-    let a = 512 * pg;
-    let b = 512 * used;
-    let mut right = [0u8; 512];
+    let a = PAGE_SIZE * pg;
+    let b = PAGE_SIZE * used;
+    let mut right = [0u8; PAGE_SIZE];
     head::put_head(&mut right, 2, 0, 0);
-    leaf::split_leaf(&mut pages[a..a + 512], &mut right, i, e);
+    leaf::split_leaf(&mut pages[a..a + PAGE_SIZE], &mut right, i, e);
     let low = leaf::key_at(&right, 0);
-    numbers::copy_bytes(&mut pages[b..b + 512], 0, &right, 0, 512);
+    numbers::copy_bytes(&mut pages[b..b + PAGE_SIZE], 0, &right, 0, PAGE_SIZE);
     Grown::Split(
         used + 1,
         Child {
@@ -215,9 +217,9 @@ fn grow_inner(pages: &mut [u8], level: usize, pg: usize, used: usize, i: usize, 
     requires { ⌜ InnerRoom (now pages) level pg used i c ⌝ }
     ensures { λ r. ⌜ Widened (now (pages .entry)) (now (pages .exit)) level pg used i c r ⌝ }
 {
-    let a = 512 * pg;
-    if head::count_of(&pages[a..a + 512]) < 30 {
-        inner::insert_child(&mut pages[a..a + 512], i, c);
+    let a = PAGE_SIZE * pg;
+    if head::count_of(&pages[a..a + PAGE_SIZE]) < limits::INNER_MOST {
+        inner::insert_child(&mut pages[a..a + PAGE_SIZE], i, c);
         return Grown::Same(used);
     }
     split_inner(pages, level, pg, used, i, c)
@@ -228,12 +230,12 @@ fn split_inner(pages: &mut [u8], level: usize, pg: usize, used: usize, i: usize,
     requires { ⌜ InnerFull (now pages) level pg used i c ⌝ }
     ensures { λ r. ⌜ Widened (now (pages .entry)) (now (pages .exit)) level pg used i c r ⌝ }
 {
-    let a = 512 * pg;
-    let b = 512 * used;
-    let mut right = [0u8; 512];
+    let a = PAGE_SIZE * pg;
+    let b = PAGE_SIZE * used;
+    let mut right = [0u8; PAGE_SIZE];
     head::put_head(&mut right, 3, 0, level);
-    let low = inner::split_children(&mut pages[a..a + 512], &mut right, i, c);
-    numbers::copy_bytes(&mut pages[b..b + 512], 0, &right, 0, 512);
+    let low = inner::split_children(&mut pages[a..a + PAGE_SIZE], &mut right, i, c);
+    numbers::copy_bytes(&mut pages[b..b + PAGE_SIZE], 0, &right, 0, PAGE_SIZE);
     Grown::Split(
         used + 1,
         Child {

@@ -8,6 +8,7 @@ ghost use Rattle.index.specs.Descents.{OwnLeaf, LeafAt, overwritten};
 use super::descent;
 use super::insert;
 use entries::Entry;
+use limits::PAGE_SIZE;
 use pages::head;
 use pages::leaf;
 
@@ -28,8 +29,8 @@ fn replace_in(pages: &mut [u8], pg: usize, e: Entry)
     requires { ⌜ LeafAt (now pages) pg ⌝ }
     ensures { λ _. ⌜ now (pages .exit) ≡ putPage (now (pages .entry)) pg (leafPage (overwritten (bookEntry e) (entriesOf (pageAt (now (pages .entry)) pg)))) ⌝ }
 {
-    let a = 512 * pg;
-    put_over(&mut pages[a..a + 512], e);
+    let a = PAGE_SIZE * pg;
+    put_over(&mut pages[a..a + PAGE_SIZE], e);
 }
 
 // Puts an entry over the first one at or above its key in a leaf, if that one has the key.

@@ -3,6 +3,7 @@ ghost use mathlib.Core.Path.{_≡_};
 ghost use mathlib.Core.Bool.{true};
 ghost use Prim.Native.Nat.{ℕ, _≤_};
 ghost use lib.ListN.{length};
+ghost use Rattle.limits.specs.Limits.{pagesMost, pageSize, leafMost};
 ghost use Rattle.lists.specs.Lists.{first};
 ghost use Rattle.entries.specs.Meaning.{bookEntry};
 ghost use Rattle.pages.specs.Layout.{countOf, entriesOf};
@@ -15,6 +16,7 @@ use super::Found;
 use super::Sought;
 use super::descent;
 use entries::Entry;
+use limits::PAGE_SIZE;
 use pages::head;
 use pages::leaf;
 
@@ -29,7 +31,7 @@ pub fn find(pages: &[u8], w: Sought) -> Found
 
 // The first entry that is sought in the tree of this level at this page.
 fn seek(pages: &[u8], level: usize, pg: usize, w: Sought) -> Found
-    requires { ⌜ Subtree (now pages) level pg 64 ⌝ }
+    requires { ⌜ Subtree (now pages) level pg pagesMost ⌝ }
     ensures { λ r. ⌜ bookFound r ≡ first (seeks w) (flat ℕ Item level (treeOf level (now (pages .entry)) pg)) ⌝ }
 {
     if level == 0 {
@@ -55,17 +57,17 @@ fn seek(pages: &[u8], level: usize, pg: usize, w: Sought) -> Found
 
 // The first entry that is sought in a leaf of the buffer.
 fn seek_leaf(pages: &[u8], pg: usize, w: Sought) -> Found
-    requires { ⌜ Subtree (now pages) 0 pg 64 ⌝ }
+    requires { ⌜ Subtree (now pages) 0 pg pagesMost ⌝ }
     ensures { λ r. ⌜ bookFound r ≡ first (seeks w) (flat ℕ Item 0 (treeOf 0 (now (pages .entry)) pg)) ⌝ }
 {
-    let a = 512 * pg;
-    find_in(&pages[a..a + 512], w)
+    let a = PAGE_SIZE * pg;
+    find_in(&pages[a..a + PAGE_SIZE], w)
 }
 
 // The first entry that is sought in a leaf.
 fn find_in(p: &[u8], w: Sought) -> Found
-    requires { ⌜ length (now p) ≡ 512 ⌝ }
-    requires { ⌜ countOf (now p) ≤ 24 ⌝ }
+    requires { ⌜ length (now p) ≡ pageSize ⌝ }
+    requires { ⌜ countOf (now p) ≤ leafMost ⌝ }
     requires { ⌜ keysAscend (entriesOf (now p)) ≡ true ⌝ }
     ensures { λ r. ⌜ bookFound r ≡ first (seeks w) (entriesOf (now (p .entry))) ⌝ }
 {

@@ -9,6 +9,7 @@ ghost use Rattle.index.specs.Descents.{OwnLeaf, LeafAt, LeafIn, settledP
 use super::descent;
 use entries::Entry;
 use entries::Key;
+use limits::PAGE_SIZE;
 use pages::head;
 use pages::leaf;
 
@@ -31,11 +32,11 @@ fn settle_page(pages: &mut [u8], q: usize, owner: u16, commits: bool)
     requires { ⌜ LeafIn (now pages) q ⌝ }
     ensures { λ _. ⌜ now (pages .exit) ≡ putPage (now (pages .entry)) q (settledPage commits owner (pageAt (now (pages .entry)) q)) ⌝ }
 {
-    let a = 512 * q;
-    if head::kind_of(&pages[a..a + 512]) != 2 {
+    let a = PAGE_SIZE * q;
+    if head::kind_of(&pages[a..a + PAGE_SIZE]) != 2 {
         return;
     }
-    leaf::settle_leaf(&mut pages[a..a + 512], owner, commits);
+    leaf::settle_leaf(&mut pages[a..a + PAGE_SIZE], owner, commits);
 }
 
 // Settles one entry, that of a key, if it is of the transaction that has ended; left absent it is taken out.
@@ -53,8 +54,8 @@ fn settle_at(pages: &mut [u8], pg: usize, key: Key, owner: u16, commits: bool)
     requires { ⌜ LeafAt (now pages) pg ⌝ }
     ensures { λ _. ⌜ now (pages .exit) ≡ putPage (now (pages .entry)) pg (leafPage (keySettled commits owner (key .0) (entriesOf (pageAt (now (pages .entry)) pg)))) ⌝ }
 {
-    let a = 512 * pg;
-    settle_in(&mut pages[a..a + 512], key, owner, commits);
+    let a = PAGE_SIZE * pg;
+    settle_in(&mut pages[a..a + PAGE_SIZE], key, owner, commits);
 }
 
 // The same, in a leaf by itself. Where there is nothing to settle, nothing is written.
