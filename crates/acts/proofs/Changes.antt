@@ -8,6 +8,7 @@ use mathlib.Core.Option.{some}
 use native.Mathlib.Omega.{arith}
 use borrow.Author.Tests.{eqb-true, not-true, not-false}
 use lib.Dec.{eqb}
+use Rattle.limits.specs.Limits.{transactionsMost}
 use Rattle.lists.specs.Lists.{In}
 use Rattle.lists.proofs.Joins.{map-same}
 use Rattle.rules.specs.Kinds.{Mode, Name, on, Ask}
@@ -24,7 +25,7 @@ use Rattle.entries.specs.declared.Entry as E
 use Rattle.entries.specs.declared.Says as D
 use Rattle.entries.specs.declared.Says.the-variants as DV
 use Rattle.entries.specs.Meaning.{bookEntry, bookSays}
-use Rattle.tables.specs.Layout.{transactionsMost, queued, inPlace, nameIn}
+use Rattle.tables.specs.Layout.{queued, inPlace, nameIn}
 use Rattle.tables.specs.Moves.{heldIn, freeIn, takenAt, lockTaken, queueLeft}
 use Rattle.tables.proofs.Takes.{taken-there}
 use Rattle.tables.proofs.Frames.{only-taken, queued-beside, place-beside}

@@ -9,6 +9,7 @@ use borrow.Author.Tests.{eqb-false, not-true, lt-ltb, le-ltb}
 use lib.Dec.{ltb}
 use lib.ListN.{getD, set, length-set}
 use lib.Seq.{getD-set-other}
+use Rattle.limits.specs.Limits.{transactionsMost}
 use Rattle.lists.proofs.Elements.{keep-in}
 use Rattle.lists.proofs.Pairs.{pairs-keep}
 use Rattle.rules.specs.Kinds.{idle}
@@ -22,7 +23,7 @@ use Rattle.rules.proofs.Sound.{Settles, committed-settles, rolledBack-settles, 
 use Rattle.rules.proofs.Unblocked.{good-sound, good-queues}
 use Rattle.rules.proofs.GoodKept.{sound-good}
 use Rattle.pages.specs.Rows.{endOf}
-use Rattle.tables.specs.Layout.{transactionsMost, queued, inPlace, queueOf, slotsOf, marksOf}
+use Rattle.tables.specs.Layout.{queued, inPlace, queueOf, slotsOf, marksOf}
 use Rattle.tables.specs.Moves.{locksReleased, waitsIn, queueLeft, markPut}
 use Rattle.tables.proofs.Queues.{waits-there}
 use Rattle.index.specs.Pictures.{indexOf}

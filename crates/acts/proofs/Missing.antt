@@ -7,6 +7,7 @@ use mathlib.Core.List.{List}
 use mathlib.Core.Option.{Option, none, some, Option·none-ne-some}
 use borrow.Author.Tests.{lt-ltb, le-ltb}
 use lib.Dec.{eqb, ltb}
+use Rattle.limits.specs.Limits.{locksMost}
 use Rattle.lists.specs.Lists.{first}
 use Rattle.lists.proofs.Tests.{fails, not-any}
 use Rattle.lists.proofs.Elements.{all-in, first-in}
@@ -26,7 +27,7 @@ use Rattle.trees.proofs.Shaped.{fits-shape}
 use Rattle.entries.specs.declared.Entry as E
 use Rattle.entries.specs.declared.Says.the-variants as S
 use Rattle.entries.specs.Meaning.{bookEntry}
-use Rattle.tables.specs.Layout.{locksMost, inPlace, queuedAt, slotsOf, nameIn}
+use Rattle.tables.specs.Layout.{inPlace, queuedAt, slotsOf, nameIn}
 use Rattle.tables.specs.Moves.{heldIn, freeIn, lockTaken, lockGiven, queueLeft}
 use Rattle.tables.proofs.Takes.{holds-is, none-held, refused-same}
 use Rattle.index.specs.declared.Found.{Found}

@@ -8,6 +8,7 @@ use native.Mathlib.Omega.{arith}
 use borrow.Author.Tests.{le-leb}
 use lib.Dec.{leb}
 use lib.ListN.{length, set}
+use Rattle.limits.specs.Limits.{transactionsMost}
 use Rattle.lists.proofs.Tests.{and-both}
 use Rattle.rules.specs.Kinds.{Ask, running}
 use Rattle.rules.specs.Queue.{leave}
@@ -17,7 +18,7 @@ use Rattle.rules.specs.Good.{Good}
 use Rattle.rules.proofs.Orders.{numbers-ordered}
 use Rattle.rules.proofs.GoodKept.{good-kept}
 use Rattle.rules.proofs.Keeps.{Kept, Anyone}
-use Rattle.tables.specs.Layout.{transactionsMost, queued, queuedAt, queueOf, slotsOf, marksOf, inPlace}
+use Rattle.tables.specs.Layout.{queued, queuedAt, queueOf, slotsOf, marksOf, inPlace}
 use Rattle.tables.specs.Moves.{markPut, queueJoined, queueLeft}
 use Rattle.tables.proofs.Queues.{length-queue}
 use Rattle.desks.specs.States.{book, stateOf, deskWith}

@@ -10,6 +10,7 @@ use mathlib.Core.Option.{Option, none, some}
 use native.Mathlib.Omega.{arith}
 use lib.Dec.{eqb}
 use borrow.Author.Tests.{eq-eqb}
+use Rattle.limits.specs.Limits.{locksMost}
 use Rattle.lists.specs.Lists.{In}
 use Rattle.lists.proofs.Elements.{tab-in}
 use Rattle.lists.proofs.Tests.{and-both}
@@ -22,7 +23,7 @@ use Rattle.trees.specs.Trees.{Index, flat}
 use Rattle.tables.specs.declared.Lock as L
 use Rattle.tables.specs.declared.Slot as Sl
 use Rattle.tables.specs.declared.Slot.the-variants as SV
-use Rattle.tables.specs.Layout.{locksMost, nameNumber, slotAt, slotsOf, bookMode, bookSlot}
+use Rattle.tables.specs.Layout.{nameNumber, slotAt, slotsOf, bookMode, bookSlot}
 use Rattle.tables.proofs.Values.{name-back}
 use Rattle.index.specs.Pictures.{Item, indexOf, entriesIn, WholePages}
 use Rattle.index.specs.Changes.{settledIn, settledAt, Becomes}

@@ -6,6 +6,7 @@ use mathlib.Core.Bool.{Bool, true, false, cond}
 use mathlib.Core.List.{List}
 use mathlib.Core.Option.{Option, none, some}
 use native.Mathlib.Omega.{arith}
+use Rattle.limits.specs.Limits.{transactionsMost}
 use Rattle.lists.proofs.Elements.{in-tab}
 use Rattle.rules.specs.Kinds.{Mode, Name}
 use Rattle.rules.specs.Entries.{isThere}
@@ -15,7 +16,7 @@ use Rattle.rules.specs.Runs.{Sy, locksShort, Ran, unmoved, locked, given, takin
 use Rattle.trees.specs.Shapes.{shape}
 use Rattle.entries.specs.declared.Says as S
 use Rattle.entries.specs.Meaning.{bookSays}
-use Rattle.tables.specs.Layout.{transactionsMost, queued, inPlace, queuedAt, queueOf, slotsOf, marksOf}
+use Rattle.tables.specs.Layout.{queued, inPlace, queuedAt, queueOf, slotsOf, marksOf}
 use Rattle.tables.specs.Moves.{lockTaken, lockGiven, queueLeft}
 use Rattle.tables.proofs.Queues.{length-queue}
 use Rattle.index.specs.Pictures.{keyOf, indexOf, entriesIn, WholePages}

@@ -6,11 +6,12 @@ use mathlib.Core.List.{List}
 use mathlib.Core.Option.{Option}
 use native.Mathlib.Omega.{arith}
 use lib.ListN.{length}
+use Rattle.limits.specs.Limits.{transactionsMost}
 use Rattle.rules.specs.Kinds.{Lock, Queued, Mark}
 use Rattle.rules.specs.Queue.{St}
 use Rattle.rules.specs.Good.{Good}
 use Rattle.trees.specs.Shapes.{shape}
-use Rattle.tables.specs.Layout.{transactionsMost, queued, slotsOf, queueOf, marksOf}
+use Rattle.tables.specs.Layout.{queued, slotsOf, queueOf, marksOf}
 use Rattle.tables.proofs.Queues.{length-queue}
 use Rattle.index.specs.Pictures.{keyOf, indexOf, entriesIn, WholePages}
 use Rattle.desks.specs.States.{book, stateOf, deskWith}

@@ -1,7 +1,8 @@
 // What a run does to the desk. (Document 01, "Working the queue".)
 ghost use mathlib.Core.Path.{_≡_};
 ghost use Prim.Native.Nat.{_<_, _≤_};
-ghost use Rattle.tables.specs.Layout.{deskSize, transactionsMost, queued, inPlace, nameIn, bookMode};
+ghost use Rattle.limits.specs.Limits.{transactionsMost, deskSize};
+ghost use Rattle.tables.specs.Layout.{queued, inPlace, nameIn, bookMode};
 ghost use Rattle.tables.specs.Moves.{heldIn, freeIn, lockTaken, lockGiven, queueLeft};
 use entries::Key;
 use tables::Mode;

@@ -170,14 +170,11 @@ impl Entry {
     }
 }
 
-// Transactions are numbered from 1 to this.
-pub const TRANSACTIONS: u16 = 16;
-
 // Whether a transaction has this number.
 pub fn is_transaction(t: u16) -> bool
     ensures { λ r. ⌜ r ≡ isTransaction (document endless) t ⌝ }
 {
-    (1 <= t) & (t <= TRANSACTIONS)
+    (1 <= t) & (t <= limits::LAST_TRANSACTION)
 }
 
 // What joins the queue.

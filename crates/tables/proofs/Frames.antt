@@ -9,18 +9,19 @@ use native.Mathlib.Omega.{arith}
 use borrow.Author.Tests.{ltb-true}
 use lib.Dec.{ltb, lit<, lit≤}
 use lib.ListN.{length, set}
+use Rattle.limits.specs.Limits.{locksMost, deskHeadSize, slotSize, deskSize}
 use Rattle.numbers.specs.Numbers.{numberAt, putNumber, widthOf, fieldsAt, Apart}
 use Rattle.numbers.proofs.Agree.{Touches, touches-wider}
 use Rattle.numbers.proofs.Numbers.{number-apart, number-same, number-other, touches-putNumber}
 use Rattle.numbers.proofs.Fields.{fields-apart, touches-putFields}
 use Rattle.rules.specs.Kinds.{Mode, Name, Lock}
-use Rattle.tables.specs.Layout.{deskSize, locksMost, headWidths, queued, queuePlace, inPlace, recordPlace, askAt, askWidths, putAsk, lockWidths, lockPlace, slotFields, slotAt, putSlot}
+use Rattle.tables.specs.Layout.{headWidths, queued, queuePlace, inPlace, recordPlace, askAt, askWidths, putAsk, lockWidths, lockPlace, slotFields, slotAt, putSlot}
 use Rattle.tables.specs.Moves.{heldIn, freeIn, strengthened, lockTaken, locksReleased, markPut, markNumber}
 use Rattle.tables.proofs.Back.{askOf, ask-of}
 use Rattle.tables.proofs.Releases.{touches-releasedTo, releasedTo}
 
 module _ {b m : ℕ} {d u : List ℕ} (f : Touches b m d u) where
-  pub head-beside : 32 ≤ b → fieldsAt headWidths u 0 ≡ fieldsAt headWidths d 0
+  pub head-beside : deskHeadSize ≤ b → fieldsAt headWidths u 0 ≡ fieldsAt headWidths d 0
   unfolding widthOf
   head-beside h = fields-apart headWidths 0 f (omega arith)
 
@@ -49,7 +50,7 @@ head-count d n h l =
 
 -- ---- a write in the lock table: only its bytes differ
 abbrev pub OnlyLocks : List ℕ → List ℕ → Type 0
-OnlyLocks d u = Touches (lockPlace 0) (16 * locksMost) d u
+OnlyLocks d u = Touches (lockPlace 0) (slotSize * locksMost) d u
 
 module _ {d u : List ℕ} (f : OnlyLocks d u) where
   pub head-kept : fieldsAt headWidths u 0 ≡ fieldsAt headWidths d 0
@@ -57,7 +58,7 @@ module _ {d u : List ℕ} (f : OnlyLocks d u) where
 
 pub only-put : (d : List ℕ) (i : ℕ) (x : Option (Lock ℕ)) → i < locksMost → OnlyLocks d (putSlot d i x)
 unfolding putSlot widthOf
-only-put d i x h = touches-wider (lockPlace 0) (16 * locksMost) (omega arith) (omega arith) (touches-putFields lockWidths d (lockPlace i) (slotFields x))
+only-put d i x h = touches-wider (lockPlace 0) (slotSize * locksMost) (omega arith) (omega arith) (touches-putFields lockWidths d (lockPlace i) (slotFields x))
 
 pub only-taken : (d : List ℕ) (t : ℕ) (n : Name ℕ) (m : Mode) → OnlyLocks d (lockTaken d t n m)
 unfolding lockTaken

@@ -7,11 +7,12 @@ use mathlib.Core.List.{List}
 use native.Mathlib.Omega.{arith}
 use lib.Dec.{lit<}
 use lib.ListN.{length, getD}
+use Rattle.limits.specs.Limits.{transactionsMost}
 use Rattle.lists.proofs.Tables.{length-tab, getD-tab}
 use Rattle.numbers.specs.Numbers.{numberAt}
 use Rattle.rules.specs.Kinds.{Mark, idle, running}
 use Rattle.rules.specs.Desk as D
-use Rattle.tables.specs.Layout.{transactionsMost, recordPlace, markIn, isRunning, marksOf}
+use Rattle.tables.specs.Layout.{recordPlace, markIn, isRunning, marksOf}
 use Rattle.tables.specs.Moves.{markNumber}
 
 pub mark-fits : (b : Bool) → markNumber b < 256 ^ 2

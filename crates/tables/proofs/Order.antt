@@ -8,6 +8,7 @@ use native.Mathlib.Omega.{arith}
 use borrow.Author.Tests.{leb-true}
 use lib.Dec.{leb}
 use lib.ListN.{length}
+use Rattle.limits.specs.Limits.{transactionsMost}
 use Rattle.lists.specs.Lists.{In, pairs}
 use Rattle.lists.proofs.Tests.{and-left, and-right}
 use Rattle.lists.proofs.Elements.{in-tab}
@@ -19,7 +20,7 @@ use Rattle.rules.specs.Desk.{isTransaction}
 use Rattle.rules.specs.Good.{Good, otherAsker}
 use Rattle.rules.specs.Document.{document}
 use Rattle.rules.proofs.Waits.{in-everyone, runs-known, queued-runs}
-use Rattle.tables.specs.Layout.{transactionsMost, queued, inPlace, queuedAt, queueOf}
+use Rattle.tables.specs.Layout.{queued, inPlace, queuedAt, queueOf}
 
 pub record InOrder (d : List ℕ) : Type 0 where
   pub few : queued d ≤ transactionsMost

@@ -11,6 +11,7 @@ use native.Mathlib.Omega.{arith}
 use borrow.Author.Tests.{eqb-true, eqb-false, eq-eqb, ne-eqb, lt-ltb, le-ltb, not-true}
 use lib.Dec.{eqb, ltb}
 use lib.ListN.{length, getD, set}
+use Rattle.limits.specs.Limits.{transactionsMost, deskSize}
 use Rattle.lists.specs.Lists.{all, any, keep, pairs, tab, removeAt}
 use Rattle.lists.proofs.Tests.{and-left, and-right, all-at, all-each, keep-all, not-any}
 use Rattle.lists.proofs.Tables.{length-tab, getD-tab, tab-remove}
@@ -23,7 +24,7 @@ use Rattle.rules.specs.Kinds.{Paging, Ask, Queued}
 use Rattle.rules.specs.Queue.{leave}
 use Rattle.rules.specs.Good.{otherAsker}
 use Rattle.rules.specs.Document.{document}
-use Rattle.tables.specs.Layout.{deskSize, transactionsMost, headWidths, queued, queuePlace, inPlace, recordPlace, askAt, askFields, putAsk, queuedAt, queueOf}
+use Rattle.tables.specs.Layout.{headWidths, queued, queuePlace, inPlace, recordPlace, askAt, askFields, putAsk, queuedAt, queueOf}
 use Rattle.tables.specs.Moves.{waitsIn, queueJoined, queueLeft}
 use Rattle.tables.proofs.Order.{InOrder}
 use Rattle.tables.proofs.Frames.{touches-ask, ask-beside, place-beside, head-beside, head-count}
@@ -113,7 +114,7 @@ module _ (d : List ℕ) (q : ℕ) (size : length d ≡ deskSize) (order : InOrde
   cleared = putAsk d leaver (0 ∷ 0 ∷ 0 ∷ 0 ∷ [])
 
   abbrev closed : List ℕ
-  closed = moved (2 * (15 - q)) (queuePlace (q + 1)) (queuePlace q) cleared
+  closed = moved (2 * (transactionsMost - 1 - q)) (queuePlace (q + 1)) (queuePlace q) cleared
 
   abbrev blanked : List ℕ
   blanked = zeroed 2 62 closed
@@ -124,11 +125,11 @@ module _ (d : List ℕ) (q : ℕ) (size : length d ≡ deskSize) (order : InOrde
   touches-cleared : Touches (recordPlace leaver + 2) 22 d cleared
   touches-cleared = touches-ask d leaver (0 ∷ 0 ∷ 0 ∷ 0 ∷ [])
 
-  touches-closed : Touches (queuePlace q) (2 * (15 - q)) cleared closed
+  touches-closed : Touches (queuePlace q) (2 * (transactionsMost - 1 - q)) cleared closed
   touches-closed =
       let l = q-low in
       let n = touches-cleared .len in
-      touches-copied (2 * (15 - q)) cleared (queuePlace (q + 1)) (queuePlace q) cleared (omega arith) (omega arith)
+      touches-copied (2 * (transactionsMost - 1 - q)) cleared (queuePlace (q + 1)) (queuePlace q) cleared (omega arith) (omega arith)
 
   touches-blanked : Touches 62 2 closed blanked
   touches-blanked = touches-zeroed 2 62 closed (omega (arith, touches-closed .len, touches-cleared .len))
@@ -171,17 +172,17 @@ module _ (d : List ℕ) (q : ℕ) (size : length d ≡ deskSize) (order : InOrde
       let m = touches-cleared .len in
       let x : queuePlace q + 2 * (i - q) ≡ queuePlace i = omega arith in
       let y : queuePlace (q + 1) + 2 * (i - q) ≡ queuePlace (i + 1) = omega arith in
-      let f = agree-copied (2 * (15 - q)) cleared (queuePlace (q + 1)) (queuePlace q) cleared (omega arith) (omega arith) in
+      let f = agree-copied (2 * (transactionsMost - 1 - q)) cleared (queuePlace (q + 1)) (queuePlace q) cleared (omega arith) (omega arith) in
       let g = rw (x, y) at (agree-within (2 * (i - q)) 2 (omega arith) f) in
       place-beside touches-recounted i (omega arith)
       ∙ place-beside touches-blanked i (omega arith)
       ∙ numberAt-ext 2 g
       ∙ place-beside touches-cleared (i + 1) (omega arith)
 
-  pub place-last : inPlace (queueLeft d q) 15 ≡ 0
+  pub place-last : inPlace (queueLeft d q) (transactionsMost - 1) ≡ 0
   unfolding numberAt
   place-last =
-      place-beside touches-recounted 15 (omega arith)
+      place-beside touches-recounted (transactionsMost - 1) (omega arith)
       ∙ numberAt-ext 2 (agree-zeroed 2 62 closed (omega (arith, touches-closed .len, touches-cleared .len)))
 
   ask-left : (s : ℕ) → 1 ≤ s → s ≢ leaver → askAt (queueLeft d q) s ≡ askAt d s

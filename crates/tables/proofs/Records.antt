@@ -8,19 +8,20 @@ use mathlib.Core.List.{List, [], _∷_, _++_}
 use native.Mathlib.Omega.{arith}
 use lib.Dec.{lit<}
 use lib.ListN.{length, getD, set}
+use Rattle.limits.specs.Limits.{transactionsMost, recordSize, deskSize}
 use Rattle.numbers.specs.Numbers.{numberAt, widthOf, fieldsAt, Fits, Apart}
 use Rattle.numbers.proofs.Agree.{Touches}
 use Rattle.numbers.proofs.Numbers.{number-apart, number-same, touches-putNumber}
 use Rattle.numbers.proofs.Fields.{fields-apart, fields-same}
 use Rattle.rules.specs.Kinds.{Ask}
-use Rattle.tables.specs.Layout.{deskSize, transactionsMost, queued, inPlace, recordPlace, recordWidths, recordAt, askWidths, askFields, putAsk}
+use Rattle.tables.specs.Layout.{queued, inPlace, recordPlace, recordWidths, recordAt, askWidths, askFields, putAsk}
 use Rattle.tables.specs.Moves.{queueJoined, queueLeft, markNumber, markPut}
 use Rattle.tables.proofs.Order.{InOrder}
 use Rattle.tables.proofs.Frames.{OnlyLocks, touches-ask}
 use Rattle.tables.proofs.Marks.{mark-fits}
 use Rattle.tables.proofs.Queues.{touches-joined, touches-left}
 
-pub record-beside : {b m : ℕ} {d u : List ℕ} → Touches b m d u → (t : ℕ) → Apart (recordPlace t) 32 b m → recordAt u t ≡ recordAt d t
+pub record-beside : {b m : ℕ} {d u : List ℕ} → Touches b m d u → (t : ℕ) → Apart (recordPlace t) recordSize b m → recordAt u t ≡ recordAt d t
 unfolding recordAt widthOf
 record-beside f t h = fields-apart recordWidths (recordPlace t) f h
 

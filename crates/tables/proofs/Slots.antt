@@ -9,12 +9,13 @@ use native.Mathlib.Nat.{zero-add}
 use native.Mathlib.Omega.{arith}
 use lib.Dec.{lit<, lit≤}
 use lib.ListN.{length, getD, set}
+use Rattle.limits.specs.Limits.{locksMost, slotSize, slotsPlace, deskSize}
 use Rattle.lists.proofs.Tables.{length-tab, getD-tab, tab-set}
 use Rattle.numbers.specs.Numbers.{widthOf, Fits}
 use Rattle.numbers.proofs.Fields.{fields-same, fields-other}
 use Rattle.numbers.proofs.Rows.{rows-distinct}
 use Rattle.rules.specs.Kinds.{Mode, S, X, Lock}
-use Rattle.tables.specs.Layout.{deskSize, locksMost, lockWidths, lockPlace, nameIn, modeNumber, slotIn, slotFields, slotAt, putSlot, slotsOf}
+use Rattle.tables.specs.Layout.{lockWidths, lockPlace, nameIn, modeNumber, slotIn, slotFields, slotAt, putSlot, slotsOf}
 use Rattle.tables.proofs.Values.{name-back}
 use Rattle.tables.proofs.Back.{slot-there}
 
@@ -42,7 +43,7 @@ unfolding slotsOf slotAt putSlot widthOf
 slots-put d i x size h fit back =
     tab-set locksMost (slotAt d) (slotAt (putSlot d i x)) i x h
     (ap slotIn (fields-same lockWidths d (lockPlace i) (slotFields x) fit (omega arith)) ∙ back)
-    (λ k l e. ap slotIn (fields-other lockWidths (lockPlace k) lockWidths d (lockPlace i) (slotFields x) (rows-distinct 16 16 576 k i (lit≤ tt) e)))
+    (λ k l e. ap slotIn (fields-other lockWidths (lockPlace k) lockWidths d (lockPlace i) (slotFields x) (rows-distinct slotSize slotSize slotsPlace k i (lit≤ tt) e)))
 
 pub length-slots : (d : List ℕ) → length (slotsOf d) ≡ locksMost
 unfolding slotsOf

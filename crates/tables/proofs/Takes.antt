@@ -10,6 +10,7 @@ use mathlib.Core.Option.{Option, none, some}
 use borrow.Author.Tests.{eqb-true, eq-eqb, lt-ltb, le-ltb, ltb-true}
 use lib.Dec.{eqb, ltb}
 use lib.ListN.{length, getD, set}
+use Rattle.limits.specs.Limits.{locksMost, deskSize}
 use Rattle.lists.specs.Lists.{all, any, pairs, place}
 use Rattle.lists.proofs.Tests.{and-left, and-right}
 use Rattle.lists.proofs.Scans.{place-any, place-passes, place-none}
@@ -19,7 +20,7 @@ use Rattle.rules.specs.Locks.{Slots, inUse, stronger, sameName, isOf, holds, ra
 use Rattle.rules.specs.Good.{together}
 use Rattle.rules.specs.Document.{document, endless}
 use Rattle.tables.specs.declared.Slot as Sl
-use Rattle.tables.specs.Layout.{deskSize, locksMost, nameIn, slotAt, putSlot, slotsOf, bookSlot}
+use Rattle.tables.specs.Layout.{nameIn, slotAt, putSlot, slotsOf, bookSlot}
 use Rattle.tables.specs.Moves.{isSlotOf, strengthened, heldIn, freeIn, takenAt, givenAt, lockTaken, lockGiven}
 use Rattle.tables.proofs.Values.{names-any, same-is, same-itself}
 use Rattle.tables.proofs.Slots.{lock, lock-fits, lock-back, slots-put, length-slots, slot-in}

@@ -7,6 +7,7 @@ use mathlib.Core.List.{List, [], _∷_}
 use mathlib.Core.Option.{none}
 use borrow.Author.Tests.{eqb-true, eqb-false, eq-eqb, ne-eqb}
 use lib.Dec.{eqb}
+use Rattle.limits.specs.Limits.{slotSize, slotsPlace}
 use Rattle.numbers.specs.Numbers.{numberAt, fieldsAt, putFields}
 use Rattle.rules.specs.Kinds.{Ask, read, insert, delete, Paging, Mode, S, X, Name, on, end}
 use Rattle.rules.specs.Locks.{conflict, stronger, sameName}
@@ -82,12 +83,12 @@ pub held-strengthened : (s : Sl.Slot) (l : L.Lock) (m : Mode) (x : M.Mode) → s
 held-strengthened s l m x e p = rw (e, p)
 
 -- ---- a slot read, and written
-pub read-free : (d : List ℕ) (i holder : ℕ) → holder ≡ numberAt 2 d (576 + 16 * i + 8) → holder ≡ 0 → none ≡ slotAt d i
+pub read-free : (d : List ℕ) (i holder : ℕ) → holder ≡ numberAt 2 d (slotsPlace + slotSize * i + 8) → holder ≡ 0 → none ≡ slotAt d i
 unfolding slotAt slotIn fieldsAt
-read-free d i holder e h = let z : eqb (numberAt 2 d (576 + 16 * i + 8)) 0 ≡ true = eq-eqb (numberAt 2 d (576 + 16 * i + 8)) 0 (sym e ∙ h) in rw z
+read-free d i holder e h = let z : eqb (numberAt 2 d (slotsPlace + slotSize * i + 8)) 0 ≡ true = eq-eqb (numberAt 2 d (slotsPlace + slotSize * i + 8)) 0 (sym e ∙ h) in rw z
 
-pub read-held : (d : List ℕ) (i : ℕ) (k : Key) (holder number : ℕ) (x : M.Mode) → holder ≡ numberAt 2 d (576 + 16 * i + 8) → (holder ≡ 0 → ⊥)
-    → k .0 ≡ numberAt 8 d (576 + 16 * i) → number ≡ numberAt 2 d (576 + 16 * i + 8 + 2) → bookMode x ≡ modeIn number
+pub read-held : (d : List ℕ) (i : ℕ) (k : Key) (holder number : ℕ) (x : M.Mode) → holder ≡ numberAt 2 d (slotsPlace + slotSize * i + 8) → (holder ≡ 0 → ⊥)
+    → k .0 ≡ numberAt 8 d (slotsPlace + slotSize * i) → number ≡ numberAt 2 d (slotsPlace + slotSize * i + 8 + 2) → bookMode x ≡ modeIn number
     → bookSlot (SV.Held (record { name = k; holder = holder; mode = x })) ≡ slotAt d i
 unfolding slotAt slotIn fieldsAt
 read-held d i k holder number x e h p q r =

@@ -1,10 +1,11 @@
 -- Document 01, "Records and pages": the bytes of the desk, read as the rule book's lock slots, queue and marks. Assumes nothing.
-use Prim.Native.Nat.{ℕ, _+_, _*_}
+use Prim.Native.Nat.{ℕ, _+_, _*_, _-_}
 use mathlib.Core.Bool.{Bool, cond, not}
 use mathlib.Core.List.{List, [], _∷_}
 use mathlib.Core.Option.{Option, none, some}
 use lib.Dec.{eqb}
 use lib.ListN.{getD}
+use Rattle.limits.specs.Limits.{transactionsMost, locksMost, deskHeadSize, recordSize, recordsPlace, slotSize, slotsPlace}
 use Rattle.lists.specs.Lists.{tab}
 use Rattle.numbers.specs.Numbers.{numberAt, fieldsAt, putFields}
 use Rattle.rules.specs.Kinds.{Ask, read, insert, delete, Queued, Mark, idle, running, Mode, S, X, Name, on, end, Lock}
@@ -13,16 +14,6 @@ use Rattle.tables.specs.declared.Mode as M
 use Rattle.tables.specs.declared.Mode.the-variants as MV
 use Rattle.tables.specs.declared.Slot as Sl
 use Rattle.tables.specs.declared.Slot.the-variants as SV
-
--- the limits
-abbrev pub transactionsMost : ℕ
-transactionsMost = 16
-
-abbrev pub locksMost : ℕ
-locksMost = 256
-
-abbrev pub deskSize : ℕ
-deskSize = 4672
 
 -- "Desk: 32-byte head (length 4,672, kind 8, queue count, 26 zeros)"
 abbrev pub headWidths : List ℕ
@@ -33,7 +24,7 @@ queued d = numberAt 2 d 4
 
 -- "queue of 16 two-byte transaction numbers, oldest first"
 abbrev pub queuePlace : ℕ → ℕ
-queuePlace i = 32 + 2 * i
+queuePlace i = deskHeadSize + 2 * i
 
 abbrev pub inPlace : List ℕ → ℕ → ℕ
 inPlace d i = numberAt 2 d (queuePlace i)
@@ -41,7 +32,7 @@ inPlace d i = numberAt 2 d (queuePlace i)
 -- "16 transactions of 32 bytes (running 2: 1 if so, waiting kind 2, record 4, lo 8, hi 8, eight zeros; delete and insert use lo)";
 -- transaction 1 stands at byte 64
 abbrev pub recordPlace : ℕ → ℕ
-recordPlace t = 32 + 32 * t
+recordPlace t = recordsPlace - recordSize + recordSize * t
 
 abbrev pub recordWidths : List ℕ
 recordWidths = 2 ∷ 2 ∷ 4 ∷ 8 ∷ 8 ∷ 8 ∷ []
@@ -85,7 +76,7 @@ abbrev pub lockWidths : List ℕ
 lockWidths = 8 ∷ 2 ∷ 2 ∷ 4 ∷ []
 
 abbrev pub lockPlace : ℕ → ℕ
-lockPlace i = 576 + 16 * i
+lockPlace i = slotsPlace + slotSize * i
 
 abbrev pub nameIn : ℕ → Name ℕ
 nameIn k = cond (eqb k endMark) end (on k)

@@ -5,13 +5,14 @@ use mathlib.Core.List.{List, [], _∷_}
 use mathlib.Core.Option.{Option, none, some}
 use lib.Dec.{eqb, ltb}
 use lib.ListN.{replicate}
+use Rattle.limits.specs.Limits.{transactionsMost, locksMost, slotSize}
 use Rattle.lists.specs.Lists.{tab, join, place}
 use Rattle.numbers.specs.Numbers.{numberAt, putNumber, part, putPart, moved, zeroed}
 use Rattle.rules.specs.Kinds.{Ask, Mode, Name, Lock}
 use Rattle.rules.specs.Entries.{isThere}
 use Rattle.rules.specs.Locks.{isOf, sameName, conflict, stronger}
 use Rattle.rules.specs.Document.{document, endless}
-use Rattle.tables.specs.Layout.{transactionsMost, locksMost, slotsOf, slotAt, putSlot, lockPlace, queueOf, queued, queuePlace, inPlace, recordPlace, putAsk, askFields}
+use Rattle.tables.specs.Layout.{slotsOf, slotAt, putSlot, lockPlace, queueOf, queued, queuePlace, inPlace, recordPlace, putAsk, askFields}
 
 abbrev pub isSlotOf : ℕ → Name ℕ → Option (Lock ℕ) → Bool
 isSlotOf t n none = false
@@ -55,13 +56,13 @@ lockGiven d t n = givenAt (heldIn d t n) (freeIn d)
 
 -- "a released one is zeroed": the slots of t zero, the others as they are
 abbrev pub rowFreed : ℕ → List ℕ → List ℕ
-rowFreed t r = cond (eqb (numberAt 2 r 8) t) (replicate 16 0) r
+rowFreed t r = cond (eqb (numberAt 2 r 8) t) (replicate slotSize 0) r
 
 unfoldable pub rowReleased : ℕ → ℕ → List ℕ → List ℕ
-rowReleased t i d = putPart (lockPlace i) (rowFreed t (part (lockPlace i) 16 d)) d
+rowReleased t i d = putPart (lockPlace i) (rowFreed t (part (lockPlace i) slotSize d)) d
 
 unfoldable pub locksReleased : ℕ → List ℕ → List ℕ
-locksReleased t d = putPart (lockPlace 0) (join (rowFreed t) (tab locksMost 0 (λ i. part (lockPlace i) 16 d))) d
+locksReleased t d = putPart (lockPlace 0) (join (rowFreed t) (tab locksMost 0 (λ i. part (lockPlace i) slotSize d))) d
 
 -- the place of t's request in the queue, or how many wait where t's does not
 unfoldable pub waitsIn : List ℕ → ℕ → ℕ

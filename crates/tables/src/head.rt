@@ -1,7 +1,11 @@
 // The head of the desk buffer; the count of the queue, which stands there too, is the queue's.
 ghost use mathlib.Core.Path.{_≡_};
+ghost use Prim.Native.Nat.{_-_};
+ghost use Rattle.limits.specs.Limits.{deskHeadSize, deskSize};
 ghost use Rattle.numbers.specs.Numbers.{numberAt, zeroAt};
-ghost use Rattle.tables.specs.Layout.{deskSize};
+
+// How many bytes there are behind the count of the queue.
+const ZEROS: usize = limits::DESK_HEAD_SIZE - 6;
 
 // The length that the desk says it has.
 pub fn length_of(d: &[u8]) -> usize
@@ -19,10 +23,10 @@ pub fn kind_of(d: &[u8]) -> usize
     numbers::number_at(d, 2)
 }
 
-// Whether the 26 bytes behind the count of the queue are zero.
+// Whether what is behind the count of the queue is zero.
 pub fn has_zeros(d: &[u8]) -> bool
     requires { do ⌜ (← ⟦d.len()⟧) ≡ deskSize ⌝ }
-    ensures { λ r. ⌜ r ≡ zeroAt 26 6 (now (d .entry)) ⌝ }
+    ensures { λ r. ⌜ r ≡ zeroAt (deskHeadSize - 6) 6 (now (d .entry)) ⌝ }
 {
-    numbers::is_zero(d, 6, 26)
+    numbers::is_zero(d, 6, ZEROS)
 }

@@ -13,12 +13,6 @@ pub mod locks;
 pub mod queue;
 pub mod transactions;
 
-// How many transactions there may be.
-pub const TRANSACTIONS: usize = 16;
-
-// How many locks there may be: the slots of the lock table.
-pub const LOCKS: usize = 256;
-
 pub enum Mode {
     S,
     X,

@@ -3,20 +3,21 @@ ghost use mathlib.Core.Path.{_≡_};
 ghost use mathlib.Core.List.{[], _∷_};
 ghost use Prim.Native.Nat.{_+_, _*_, _<_};
 ghost use lib.ListN.{getD};
+ghost use Rattle.limits.specs.Limits.{locksMost, slotSize, deskSize};
 ghost use Rattle.numbers.specs.Numbers.{numberAt, putFields, zeroAt};
-ghost use Rattle.tables.specs.Layout.{deskSize, locksMost, lockWidths, lockPlace, nameIn, slotAt, putSlot, bookMode, bookSlot};
+ghost use Rattle.tables.specs.Layout.{lockWidths, lockPlace, nameIn, slotAt, putSlot, bookMode, bookSlot};
 ghost use Rattle.tables.specs.Moves.{takenAt, givenAt, rowReleased, locksReleased};
-use crate::LOCKS;
 use crate::Lock;
 use crate::Mode;
 use crate::Slot;
 use entries::Key;
+use limits::LOCKS;
 
 // Where the slots start.
-const SLOTS: usize = 576;
+const SLOTS: usize = limits::SLOTS_PLACE;
 
 // How many bytes a slot has.
-const WIDTH: usize = 16;
+const WIDTH: usize = limits::SLOT_SIZE;
 
 // Where the holder stands in a slot: the bytes before it are the name's.
 pub const HOLDER: usize = 8;
@@ -69,7 +70,7 @@ pub fn filler_at(d: &[u8], i: usize) -> u32
 pub fn byte_at(d: &[u8], i: usize, b: usize) -> u8
     requires { do ⌜ (← ⟦d.len()⟧) ≡ deskSize ⌝ }
     requires { ⌜ i < locksMost ⌝ }
-    requires { ⌜ b < 16 ⌝ }
+    requires { ⌜ b < slotSize ⌝ }
     ensures { λ r. ⌜ r ≡ getD (now (d .entry)) (lockPlace i + b) 0 ⌝ }
 {
     d[slot_place(i) + b]
@@ -78,7 +79,7 @@ pub fn byte_at(d: &[u8], i: usize, b: usize) -> u8
 // Whether every byte of the slots is zero: all are free. One wide look tells.
 pub fn are_zero(d: &[u8]) -> bool
     requires { do ⌜ (← ⟦d.len()⟧) ≡ deskSize ⌝ }
-    ensures { λ r. ⌜ r ≡ zeroAt (16 * locksMost) (lockPlace 0) (now (d .entry)) ⌝ }
+    ensures { λ r. ⌜ r ≡ zeroAt (slotSize * locksMost) (lockPlace 0) (now (d .entry)) ⌝ }
 {
     numbers::is_zero(d, SLOTS, WIDTH * LOCKS)
 }

@@ -2,19 +2,20 @@
 ghost use mathlib.Core.Path.{_≡_};
 ghost use Prim.Native.Nat.{_*_, _-_, _<_, _≤_};
 ghost use lib.Dec.{eqb};
+ghost use Rattle.limits.specs.Limits.{transactionsMost, deskSize};
 ghost use Rattle.numbers.specs.Numbers.{zeroAt};
 ghost use Rattle.entries.specs.Meaning.{bookAsk};
-ghost use Rattle.tables.specs.Layout.{deskSize, transactionsMost, queued, queuePlace, inPlace};
+ghost use Rattle.tables.specs.Layout.{queued, queuePlace, inPlace};
 ghost use Rattle.tables.specs.Moves.{waitsIn, queueJoined, queueLeft};
-use crate::TRANSACTIONS;
 use crate::transactions;
 use entries::Ask;
+use limits::TRANSACTIONS;
 
 // Where the count of the queue stands.
 const COUNT: usize = 4;
 
 // Where its places start, two bytes each.
-const PLACES: usize = 32;
+const PLACES: usize = limits::DESK_HEAD_SIZE;
 
 // How many requests wait.
 pub fn queued(d: &[u8]) -> usize

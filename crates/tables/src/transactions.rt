@@ -2,18 +2,19 @@
 ghost use mathlib.Core.Path.{_≡_};
 ghost use mathlib.Core.List.{[], _∷_};
 ghost use Prim.Native.Nat.{_+_, _*_, _≤_};
+ghost use Rattle.limits.specs.Limits.{transactionsMost, deskSize};
 ghost use Rattle.numbers.specs.Numbers.{numberAt};
 ghost use Rattle.entries.specs.Meaning.{bookAsk};
-ghost use Rattle.tables.specs.Layout.{deskSize, transactionsMost, recordPlace, isRunning, isWaiting, askAt, askFields, putAsk};
+ghost use Rattle.tables.specs.Layout.{recordPlace, isRunning, isWaiting, askAt, askFields, putAsk};
 ghost use Rattle.tables.specs.Moves.{markNumber, markPut};
 use entries::Ask;
 use entries::Key;
 
 // Where the records start, counted from a transaction 0 that there is not.
-const RECORDS: usize = 32;
+const RECORDS: usize = limits::RECORDS_PLACE - limits::RECORD_SIZE;
 
 // How many bytes a record has.
-const WIDTH: usize = 32;
+const WIDTH: usize = limits::RECORD_SIZE;
 
 // Where a transaction's record stands.
 fn record_place(t: u16) -> usize

@@ -8,6 +8,7 @@ use mathlib.Core.List.{List}
 use mathlib.Core.Option.{Option, none, some, Option·none-ne-some, Option·some-injective}
 use borrow.Author.Tests.{eqb-false, not-true}
 use lib.Dec.{eqb}
+use Rattle.limits.specs.Limits.{transactionsMost}
 use Rattle.lists.specs.Lists.{In, tab, isNil}
 use Rattle.lists.proofs.Tests.{nil-is}
 use Rattle.lists.proofs.Elements.{first-in}
@@ -21,7 +22,7 @@ use Rattle.rules.proofs.Waits.{oldest-waits}
 use Rattle.circles.proofs.Known.{waits-known}
 use Rattle.entries.specs.declared.Answer.{Answer}
 use Rattle.entries.specs.declared.Says.the-variants.{Circle}
-use Rattle.tables.specs.Layout.{queued, inPlace, queuedAt, slotsOf, transactionsMost}
+use Rattle.tables.specs.Layout.{queued, inPlace, queuedAt, slotsOf}
 use Rattle.tables.specs.Moves.{queueLeft}
 use Rattle.index.specs.Pictures.{entriesIn}
 use Rattle.desks.specs.States.{book, stateOf}

@@ -6,6 +6,7 @@ use mathlib.Core.List.{List, _∷_}
 use mathlib.Core.Option.{some}
 use native.Mathlib.Omega.{arith}
 use lib.ListN.{length}
+use Rattle.limits.specs.Limits.{answerSize}
 use Rattle.rules.specs.Runs.{Worked, turn}
 use Rattle.rules.proofs.Rest.{turn-takes-one, worked-turn, worked-done}
 use Rattle.entries.specs.declared.Answer.{Answer}
@@ -35,15 +36,15 @@ module _ (p d p′ d′ : List ℕ) (w : Whole p d) (x : Turned) (h : Turns p d 
 -- ---- between two turns: from o₀ at `from`, the answers end at `end` of o
 pub record Left (p₀ d₀ o₀ : List ℕ) (from : ℕ) (p d o : List ℕ) (end : ℕ) : Type 0 where
   pub whole : Whole p d
-  pub room : end + 20 * queued d ≤ length o
+  pub room : end + answerSize * queued d ≤ length o
   pub pages : length p ≡ length p₀
   pub desk : length d ≡ length d₀
   pub space : length o ≡ length o₀
   pub state : workedOf p₀ d₀ .state ≡ workedOf p d .state
   pub answers : written o₀ from (workedOf p₀ d₀ .answers) ≡ written o end (workedOf p d .answers)
-  pub ends : from + 20 * length (workedOf p₀ d₀ .answers) ≡ end + 20 * length (workedOf p d .answers)
+  pub ends : from + answerSize * length (workedOf p₀ d₀ .answers) ≡ end + answerSize * length (workedOf p d .answers)
 
-pub left-start : (p d o : List ℕ) (from : ℕ) → Whole p d → from + 20 * queued d ≤ length o → Left p d o from p d o from
+pub left-start : (p d o : List ℕ) (from : ℕ) → Whole p d → from + answerSize * queued d ≤ length o → Left p d o from p d o from
 left-start p d o from w h = record { whole = w; room = h; pages = refl; desk = refl; space = refl; state = refl; answers = refl; ends = refl }
 
 module _ (p₀ d₀ o₀ : List ℕ) (from : ℕ) (p d o : List ℕ) (end : ℕ) (l : Left p₀ d₀ o₀ from p d o end) (p′ d′ : List ℕ) (x : Turned)
@@ -52,13 +53,13 @@ module _ (p₀ d₀ o₀ : List ℕ) (from : ℕ) (p d o : List ℕ) (end : ℕ)
     one : suc (queued d′) ≡ queued d
     one = takes-one p d p′ d′ (l .whole) x h a e
 
-    pub left-room : end + 20 ≤ length o
+    pub left-room : end + answerSize ≤ length o
     left-room = let r = l .room in omega (arith, one)
 
     pub left-less : queued d′ < queued d
     left-less = omega (arith, one)
 
-    pub left-turn : (o′ : List ℕ) → o′ ≡ putAnswer o end (bookAnswer a) → Left p₀ d₀ o₀ from p′ d′ o′ (end + 20)
+    pub left-turn : (o′ : List ℕ) → o′ ≡ putAnswer o end (bookAnswer a) → Left p₀ d₀ o₀ from p′ d′ o′ (end + answerSize)
     unfolding written
     left-turn o′ k =
         let on = goes-on p d p′ d′ (l .whole) x h a e in
@@ -73,7 +74,7 @@ module _ (p₀ d₀ o₀ : List ℕ) (from : ℕ) (p d o : List ℕ) (end : ℕ)
           state = l .state ∙ ap (λ (y : Worked book). y .state) on;
           answers =
               l .answers ∙ ap (λ (y : Worked book). written o end (y .answers)) on
-              ∙ ap (λ y. written y (end + 20) (workedOf p′ d′ .answers)) (sym k);
+              ∙ ap (λ y. written y (end + answerSize) (workedOf p′ d′ .answers)) (sym k);
           ends = let m = l .ends in omega (arith, n);
         }
 

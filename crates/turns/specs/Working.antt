@@ -4,6 +4,7 @@ use mathlib.Core.Path.{_≡_}
 use mathlib.Core.List.{List}
 use mathlib.Core.Option.{Option, none, some}
 use lib.ListN.{length}
+use Rattle.limits.specs.Limits.{answerSize}
 use Rattle.rules.specs.Queue.{St}
 use Rattle.rules.specs.Runs.{circle, unmoved, left, Turn, turn, Worked, worked}
 use Rattle.entries.specs.declared.Answer.{Answer}
@@ -20,7 +21,7 @@ use Rattle.turns.specs.declared.Turned.the-variants as TV
 pub record Wrote (o : List ℕ) (at : ℕ) (w : Worked book) (p′ d′ o′ : List ℕ) (r : ℕ) : Type 0 where
   pub says : Says p′ d′ (w .state)
   pub answers : o′ ≡ written o at (w .answers)
-  pub ends : r ≡ at + 20 * length (w .answers)
+  pub ends : r ≡ at + answerSize * length (w .answers)
 
 -- the queue worked
 abbrev pub workedOf : List ℕ → List ℕ → Worked book

@@ -3,14 +3,16 @@ ghost use mathlib.Core.Path.{_≡_};
 ghost use Prim.Native.Nat.{_+_, _*_, _<_, _≤_};
 ghost use mathlib.Core.Option.{none};
 ghost use lib.ListN.{length};
+ghost use Rattle.limits.specs.Limits.{transactionsMost, answerSize};
 ghost use Rattle.rules.specs.Queue.{oldest};
-ghost use Rattle.tables.specs.Layout.{transactionsMost, queued};
+ghost use Rattle.tables.specs.Layout.{queued};
 ghost use Rattle.desks.specs.States.{book, stateOf};
 ghost use Rattle.desks.specs.Whole.{Whole};
 ghost use Rattle.waits.specs.Notes.{Noted};
 ghost use Rattle.turns.specs.Working.{GaveWay, Turns, Wrote, workedOf};
 use entries::Answer;
 use entries::Says;
+use limits::TRANSACTIONS;
 use tables::queue;
 use waits::Place;
 use waits::Turn;
@@ -68,15 +70,15 @@ fn turn(pages: &mut [u8], desk: &mut [u8]) -> Turned
     requires { ⌜ Whole (now pages) (now desk) ⌝ }
     ensures { λ r. ⌜ Turns (now (pages .entry)) (now (desk .entry)) (now (pages .exit)) (now (desk .exit)) r ⌝ }
 {
-    let mut names: [u64; 16] = [0; 16];
-    let mut modes: [u16; 16] = [0; 16];
+    let mut names: [u64; TRANSACTIONS] = [0; TRANSACTIONS];
+    let mut modes: [u16; TRANSACTIONS] = [0; TRANSACTIONS];
     turn_noting(pages, desk, &mut names, &mut modes)
 }
 
 // Works the queue to rest. The answers are written one after the other from a place on; it gives the place where they end.
 pub fn work(pages: &mut [u8], desk: &mut [u8], answers: &mut [u8], at: usize) -> usize
     requires { ⌜ Whole (now pages) (now desk) ⌝ }
-    requires { ⌜ at + 20 * queued (now desk) ≤ length (now answers) ⌝ }
+    requires { ⌜ at + answerSize * queued (now desk) ≤ length (now answers) ⌝ }
     ensures { λ r. ⌜ Wrote (now (answers .entry)) at (workedOf (now (pages .entry)) (now (desk .entry))) (now (pages .exit)) (now (desk .exit)) (now (answers .exit)) r ⌝ }
 {
     let mut end = at;
@@ -86,6 +88,6 @@ pub fn work(pages: &mut [u8], desk: &mut [u8], answers: &mut [u8], at: usize) ->
             return end;
         };
         entries::put_answer(answers, end, answer);
-        end += 20;
+        end += limits::ANSWER_SIZE;
     }
 }

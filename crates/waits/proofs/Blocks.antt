@@ -7,13 +7,14 @@ use mathlib.Core.List.{List, [], _++_}
 use native.Mathlib.Nat.{sub-zero}
 use borrow.Author.Tests.{lt-ltb, le-ltb}
 use lib.Dec.{eqb, ltb}
+use Rattle.limits.specs.Limits.{locksMost}
 use Rattle.lists.specs.Lists.{any, isNil, tab}
 use Rattle.lists.proofs.Tests.{nil-append, nil-kept}
 use Rattle.rules.specs.Kinds.{Name, Paging}
 use Rattle.rules.specs.Locks as K
 use Rattle.trees.specs.Trees.{documentSizes}
 use Rattle.trees.specs.Shapes.{treePaging}
-use Rattle.tables.specs.Layout.{locksMost, queuedAt, slotsOf, bookMode}
+use Rattle.tables.specs.Layout.{queuedAt, slotsOf, bookMode}
 use Rattle.tables.specs.Moves.{isSlotAgainst, heldIn}
 use Rattle.tables.proofs.Values.{same-name}
 use Rattle.tables.proofs.Holders.{holders-none}

@@ -9,6 +9,7 @@ use mathlib.Core.Option.{Option, none, some}
 use native.Mathlib.Omega.{arith}
 use borrow.Author.Tests.{leb-true}
 use lib.Dec.{leb}
+use Rattle.limits.specs.Limits.{transactionsMost, locksMost}
 use Rattle.lists.specs.Lists.{In}
 use Rattle.lists.proofs.Tests.{and-left, and-right}
 use Rattle.lists.proofs.Elements.{all-in, in-tab}
@@ -19,7 +20,7 @@ use Rattle.rules.specs.Good.{ascending, isName, lockStands}
 use Rattle.rules.proofs.Waits.{runs-known}
 use Rattle.trees.specs.Trees.{documentSizes}
 use Rattle.trees.specs.Shapes.{treePaging}
-use Rattle.tables.specs.Layout.{transactionsMost, locksMost, queued, inPlace, slotAt, slotsOf}
+use Rattle.tables.specs.Layout.{queued, inPlace, slotAt, slotsOf}
 use Rattle.tables.proofs.Order.{InOrder, in-order}
 use Rattle.index.specs.Pictures.{entriesIn}
 use Rattle.desks.specs.States.{book, stateOf}

@@ -9,8 +9,9 @@ use borrow.Author.Tests.{eqb-true, eqb-false}
 use lib.Dec.{eqb}
 use lib.ListN.{length, getD, set, length-set}
 use lib.Seq.{getD-set-same, getD-set-other}
+use Rattle.limits.specs.Limits.{transactionsMost}
 use Rattle.tables.specs.declared.Mode.{Mode}
-use Rattle.tables.specs.Layout.{transactionsMost, queued, inPlace, nameIn, modeIn, modeNumber, bookMode}
+use Rattle.tables.specs.Layout.{queued, inPlace, nameIn, modeIn, modeNumber, bookMode}
 use Rattle.tables.proofs.Back.{mode-there}
 use Rattle.waits.specs.declared.Want.{Want}
 use Rattle.waits.specs.declared.Looked.{Looked}

@@ -7,12 +7,13 @@ use mathlib.Core.List.{List, [], _∷_, _++_}
 use mathlib.Core.Option.{Option, none, some}
 use native.Mathlib.Nat.{sub-zero}
 use native.Mathlib.Omega.{arith}
+use Rattle.limits.specs.Limits.{locksMost}
 use Rattle.lists.specs.Lists.{any, first, isNil, tab}
 use Rattle.lists.proofs.Tables.{tab-next, tab-done, tab-last}
 use Rattle.rules.specs.Kinds.{Entry}
 use Rattle.rules.specs.Locks as K
 use Rattle.rules.specs.Queue.{Wait, waitsFrom, waits, oldest}
-use Rattle.tables.specs.Layout.{locksMost, queued, queuedAt, queueOf, slotsOf}
+use Rattle.tables.specs.Layout.{queued, queuedAt, queueOf, slotsOf}
 use Rattle.tables.specs.Moves.{isSlotAgainst, heldIn}
 use Rattle.index.specs.Pictures.{entriesIn}
 use Rattle.desks.specs.States.{book, stateOf}

@@ -9,6 +9,7 @@ use mathlib.Core.Option.{Option, none, some}
 use native.Mathlib.Nat.{sub-zero, zero-add}
 use native.Mathlib.Omega.{arith}
 use lib.ListN.{length, set, replicate}
+use Rattle.limits.specs.Limits.{transactionsMost}
 use Rattle.lists.specs.Lists.{In, last, pairs, tab}
 use Rattle.lists.proofs.Tables.{tab-append, tab-next}
 use Rattle.lists.proofs.Elements.{in-right}
@@ -17,7 +18,7 @@ use Rattle.rules.specs.Kinds.{Entry, Queued}
 use Rattle.rules.specs.Locks as K
 use Rattle.rules.specs.Queue.{Wait, waitsFrom, waits, onCircle, newest}
 use Rattle.rules.specs.Good.{otherAsker}
-use Rattle.tables.specs.Layout.{transactionsMost, queued, inPlace, queuedAt, queueOf, slotsOf}
+use Rattle.tables.specs.Layout.{queued, inPlace, queuedAt, queueOf, slotsOf}
 use Rattle.index.specs.Pictures.{entriesIn}
 use Rattle.desks.specs.States.{book, stateOf}
 use Rattle.desks.specs.Whole.{Whole}
@@ -73,11 +74,11 @@ module _ (p d : List ℕ) where
       (in-right (waitsFrom book (entriesIn p) (slotsOf d) [] (ahead d q)) (waitsFrom book (entriesIn p) (slotsOf d) (ahead d q) (queuedAt d q ∷ rest)) (waitAt p d q) (inl refl))
 
   -- ---- the rows
-  pub rows-start : RowOf book (replicate 17 0) (waitsTo p d 0)
+  pub rows-start : RowOf book (replicate (transactionsMost + 1) 0) (waitsTo p d 0)
   unfolding waitsTo waitsFrom ahead tab
-  rows-start = row-none book 17
+  rows-start = row-none book (transactionsMost + 1)
 
-  pub rows-turn : (row : List ℕ) (n q t m : ℕ) → Whole p d → n ≡ queued d → q < n → t ≡ inPlace d q → SetOf m (blockersAt p d q) → length row ≡ 17
+  pub rows-turn : (row : List ℕ) (n q t m : ℕ) → Whole p d → n ≡ queued d → q < n → t ≡ inPlace d q → SetOf m (blockersAt p d q) → length row ≡ transactionsMost + 1
       → RowOf book row (waitsTo p d q) → RowOf book (set row t m) (waitsTo p d (q + 1))
   unfolding waitsTo blockersAt queuedAt stateOf
   rows-turn row n q t m k e h a s l r =
@@ -88,7 +89,7 @@ module _ (p d : List ℕ) where
       rw (a, ← ahead-next d q)
       (row-queued book (entriesIn p) (slotsOf d) (ahead d q) (queuedAt d q) (tab (queued d - (q + 1)) (q + 1) (queuedAt d)) row m differ low s r)
 
-  pub rows-end : (row : List ℕ) (n q : ℕ) → n ≡ queued d → n ≤ q → q ≤ n → length row ≡ 17 → RowOf book row (waitsTo p d q) → Rows p d row
+  pub rows-end : (row : List ℕ) (n q : ℕ) → n ≡ queued d → n ≤ q → q ≤ n → length row ≡ transactionsMost + 1 → RowOf book row (waitsTo p d q) → Rows p d row
   rows-end row n q e h l s r =
       let same : q ≡ queued d = omega arith in
       record { long = s; links = subst (RowOf book row) (ap (waitsTo p d) same ∙ waits-all) r }

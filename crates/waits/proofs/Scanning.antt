@@ -7,6 +7,7 @@ use mathlib.Core.List.{List, [], _∷_}
 use mathlib.Core.Option.{Option}
 use native.Mathlib.Omega.{arith}
 use lib.Dec.{eqb}
+use Rattle.limits.specs.Limits.{locksMost}
 use Rattle.lists.specs.Lists.{any, place, tab}
 use Rattle.lists.proofs.Tables.{tab-last, length-tab}
 use Rattle.lists.proofs.Scans.{place-last}
@@ -16,7 +17,7 @@ use Rattle.rules.specs.Kinds.{Name, Lock}
 use Rattle.rules.specs.Entries.{isThere}
 use Rattle.rules.specs.Locks as K
 use Rattle.tables.specs.declared.Slot.{Slot}
-use Rattle.tables.specs.Layout.{locksMost, slotAt, slotsOf, bookSlot}
+use Rattle.tables.specs.Layout.{slotAt, slotsOf, bookSlot}
 use Rattle.tables.specs.Moves.{isSlotOf, isSlotAgainst, heldIn, freeIn}
 use Rattle.desks.specs.States.{book}
 use Rattle.waits.specs.declared.Seen.{Seen}

@@ -9,6 +9,7 @@ use native.Mathlib.Omega.{arith}
 use borrow.Author.Tests.{lt-ltb, le-ltb}
 use lib.Bits.{bitOr}
 use lib.Dec.{ltb}
+use Rattle.limits.specs.Limits.{transactionsMost, locksMost}
 use Rattle.lists.specs.Lists.{keep, member, tab}
 use Rattle.lists.proofs.Tests.{any-append, keep-append}
 use Rattle.lists.proofs.Joins.{map-append}
@@ -16,7 +17,7 @@ use Rattle.lists.proofs.Tables.{tab-last}
 use Rattle.rules.specs.Kinds.{Name, Mode, Lock, Queued}
 use Rattle.rules.specs.Locks as K
 use Rattle.tables.specs.declared.Slot.{Slot}
-use Rattle.tables.specs.Layout.{transactionsMost, locksMost, queued, inPlace, queuedAt, slotAt, slotsOf, bookSlot}
+use Rattle.tables.specs.Layout.{queued, inPlace, queuedAt, slotAt, slotsOf, bookSlot}
 use Rattle.tables.specs.Moves.{isSlotOf, isSlotAgainst, heldIn}
 use Rattle.tables.proofs.Holders as H
 use Rattle.index.specs.Pictures.{entriesIn}

@@ -6,11 +6,12 @@ use mathlib.Core.List.{List}
 use mathlib.Core.Option.{Option, none, some}
 use lib.Dec.{eqb}
 use lib.ListN.{length}
+use Rattle.limits.specs.Limits.{transactionsMost, locksMost}
 use Rattle.lists.specs.Lists.{any, tab}
 use Rattle.rules.specs.Kinds.{Entry, Queued, Lock}
 use Rattle.rules.specs.Locks as K
 use Rattle.rules.specs.Queue.{waits}
-use Rattle.tables.specs.Layout.{transactionsMost, locksMost, inPlace, queuedAt, slotAt, slotsOf}
+use Rattle.tables.specs.Layout.{inPlace, queuedAt, slotAt, slotsOf}
 use Rattle.tables.specs.Moves.{isSlotAgainst}
 use Rattle.index.specs.Pictures.{entriesIn}
 use Rattle.desks.specs.States.{book, stateOf}

@@ -5,9 +5,10 @@ use mathlib.Core.Path.{_≡_}
 use mathlib.Core.Bool.{true, false}
 use mathlib.Core.List.{List}
 use lib.ListN.{length, getD}
+use Rattle.limits.specs.Limits.{transactionsMost}
 use Rattle.lists.specs.Lists.{isNil}
 use Rattle.rules.specs.Locks as K
-use Rattle.tables.specs.Layout.{transactionsMost, queued, nameIn, modeIn}
+use Rattle.tables.specs.Layout.{queued, nameIn, modeIn}
 use Rattle.index.specs.Searches.{bookFound}
 use Rattle.desks.specs.States.{book}
 use Rattle.waits.specs.declared.Looked.{Looked}

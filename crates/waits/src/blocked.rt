@@ -1,7 +1,8 @@
 // The oldest request that nobody blocks. (Document 01, "Locks" and "Working the queue".)
 ghost use mathlib.Core.Path.{_≡_};
 ghost use Prim.Native.Nat.{_+_, _<_};
-ghost use Rattle.tables.specs.Layout.{transactionsMost, locksMost, queued, queuedAt};
+ghost use Rattle.limits.specs.Limits.{transactionsMost, locksMost};
+ghost use Rattle.tables.specs.Layout.{queued, queuedAt};
 ghost use Rattle.desks.specs.Whole.{Whole};
 ghost use Rattle.waits.specs.Choices.{bookWant, OldestIs};
 ghost use Rattle.waits.specs.Blocks.{isRival, isBehind};
@@ -16,7 +17,7 @@ use super::Want;
 use super::notes;
 use super::slots;
 use super::targets;
-use tables::LOCKS;
+use limits::LOCKS;
 use tables::queue;
 
 // Whether the request at place i, whose want is noted, is another's and wants the same, in a conflicting mode.

@@ -2,8 +2,9 @@
 // What each request wants is noted.
 ghost use mathlib.Core.Path.{_≡_};
 ghost use Prim.Native.Nat.{_+_, _<_};
+ghost use Rattle.limits.specs.Limits.{locksMost, deskSize};
 ghost use Rattle.rules.specs.Locks.{earlier};
-ghost use Rattle.tables.specs.Layout.{deskSize, locksMost, queued, queuedAt, bookSlot};
+ghost use Rattle.tables.specs.Layout.{queued, queuedAt, bookSlot};
 ghost use Rattle.index.specs.Pictures.{entriesIn};
 ghost use Rattle.desks.specs.States.{book};
 ghost use Rattle.desks.specs.Whole.{Whole};
@@ -18,7 +19,8 @@ use super::Want;
 use super::blocked;
 use super::notes;
 use super::slots;
-use tables::LOCKS;
+use limits::LOCKS;
+use limits::TRANSACTIONS;
 use tables::Slot;
 use tables::locks;
 use tables::queue;
@@ -125,13 +127,13 @@ fn blockers_of(pages: &[u8], desk: &[u8], names: &[u64], modes: &[u16], q: usize
 }
 
 // For each transaction, at its number, all who block its queued request.
-fn rows_of(pages: &[u8], desk: &[u8], names: &[u64], modes: &[u16]) -> [u64; 17]
+fn rows_of(pages: &[u8], desk: &[u8], names: &[u64], modes: &[u16]) -> [u64; TRANSACTIONS + 1]
     requires { ⌜ Whole (now pages) (now desk) ⌝ }
     requires { ⌜ Noted (now pages) (now desk) (now names) (now modes) (queued (now desk)) ⌝ }
     ensures { λ r. ⌜ Rows (now (pages .entry)) (now (desk .entry)) r ⌝ }
 {
     let n = queue::queued(desk);
-    let mut row: [u64; 17] = [0; 17];
+    let mut row: [u64; TRANSACTIONS + 1] = [0; TRANSACTIONS + 1];
     let mut q: usize = 0;
     while q < n {
         let t = queue::in_place(desk, q) as usize;

@@ -1,7 +1,7 @@
 // What the queued requests want, noted by their places: a name and a mode's number each. (Document 01, "Working the queue".)
 // The pages are what the promises speak of; a want that is noted is not searched for again.
 ghost use Prim.Native.Nat.{_+_, _<_};
-ghost use Rattle.tables.specs.Layout.{transactionsMost};
+ghost use Rattle.limits.specs.Limits.{transactionsMost};
 ghost use Rattle.desks.specs.Whole.{Whole};
 ghost use Rattle.waits.specs.Blocks.{WantAt};
 ghost use Rattle.waits.specs.Notes.{Noted};

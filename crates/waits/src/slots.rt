@@ -1,7 +1,8 @@
 // One scan of the lock table tells a request all that it needs of the locks, a slot at a time. (Document 01, "Locks".)
 ghost use mathlib.Core.Path.{_≡_};
 ghost use Prim.Native.Nat.{_<_};
-ghost use Rattle.tables.specs.Layout.{deskSize, locksMost, bookSlot};
+ghost use Rattle.limits.specs.Limits.{locksMost, deskSize};
+ghost use Rattle.tables.specs.Layout.{bookSlot};
 ghost use Rattle.tables.specs.Moves.{isSlotOf, isSlotAgainst};
 ghost use Rattle.waits.specs.Choices.{bookWant};
 ghost use Rattle.waits.specs.Slots.{firstTo, seenWith, SeenTo, SightAt};

@@ -3,13 +3,14 @@
 ghost use mathlib.Core.Path.{_≡_};
 ghost use Prim.Native.Nat.{_<_, _≤_};
 ghost use lib.ListN.{length};
+ghost use Rattle.limits.specs.Limits.{transactionsMost, locksMost, deskSize};
 ghost use Rattle.lists.specs.Lists.{tab, all};
-ghost use Rattle.tables.specs.Layout.{deskSize, transactionsMost, locksMost, queued, recordAt};
+ghost use Rattle.tables.specs.Layout.{queued, recordAt};
 ghost use Rattle.whole_desk.specs.Checks.{headOk, askersIn, formOk, plainOk, recordOk, slotOk, deskOk};
 use entries::Ask;
 use entries::Key;
+use limits::LOCKS;
 use sets::Set;
-use tables::LOCKS;
 use tables::head;
 use tables::locks;
 use tables::queue;
@@ -24,7 +25,10 @@ fn has_head(d: &[u8]) -> bool
     let n = queue::queued(d);
     let length = head::length_of(d);
     let kind = head::kind_of(d);
-    if !((length == 4672) & (kind == 8) & (n <= tables::TRANSACTIONS) & head::has_zeros(d)) {
+    if !((length == limits::DESK_SIZE)
+        & (kind == 8)
+        & (n <= limits::TRANSACTIONS)
+        & head::has_zeros(d)) {
         return false;
     }
     queue::is_zero_from(d, n)
@@ -118,7 +122,7 @@ fn is_slot(d: &[u8], i: usize) -> bool
     if holder == 0 {
         return (name.0 == Key::LOWEST.0) & (mode == 0) & (filler == 0);
     }
-    if holder > entries::TRANSACTIONS {
+    if holder > limits::LAST_TRANSACTION {
         return false;
     }
     transactions::is_running(d, holder) & ((mode == 1) | (mode == 2)) & (filler == 0)

@@ -3,7 +3,7 @@
 use borrow.Author.Needs.{needs}
 use native.Mathlib.Omega.{arith}
 use Prim.Native.Nat.{_≤_, _-_}
-use Rattle.tables.specs.Layout.{locksMost}
+use Rattle.limits.specs.Limits.{locksMost}
 use Rattle.acts.proofs.ending.has_many.Statement.{statement}
 use Rattle.acts.proofs.ending.has_many.Tie as tie
 

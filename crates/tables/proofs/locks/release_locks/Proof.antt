@@ -4,15 +4,16 @@ use borrow.Author.Needs.{needs}
 use mathlib.Core.Path.{_≡_}
 use Prim.Native.Nat.{_-_, _≤_}
 use lib.ListN.{length}
+use Rattle.limits.specs.Limits.{locksMost, deskSize}
 use Rattle.tables.proofs.Releases.{releasedTo, release-start, release-turn, release-end}
 use Rattle.tables.proofs.locks.release_locks.Statement.{statement}
 use Rattle.tables.proofs.locks.release_locks.Tie as tie
 
 abbrev Inv-loop : tie.InvT-loop
-Inv-loop d₀ t i₀ d i = (i ≤ 256) × ((length d ≡ 4672) × (d ≡ releasedTo t i d₀))
+Inv-loop d₀ t i₀ d i = (i ≤ locksMost) × ((length d ≡ deskSize) × (d ≡ releasedTo t i d₀))
 
 abbrev μ-loop : tie.MeasureT-loop
-μ-loop d₀ t i₀ d i = 256 - i
+μ-loop d₀ t i₀ d i = locksMost - i
 
 loop-holds : tie.Need-loop-holds Inv-loop μ-loop
 loop-holds c = (search needs, (search needs, search (needs, release-start)))

@@ -4,6 +4,7 @@
 use borrow.Author.Needs.{needs}
 use Prim.Native.Nat.{_≤_, _-_}
 use mathlib.Core.Path.{_≡_}
+use Rattle.limits.specs.Limits.{locksMost}
 use Rattle.rules.specs.Queue.{oldest}
 use Rattle.desks.specs.States.{book, stateOf}
 use Rattle.waits.specs.declared.Turn.the-variants.{Nobody}
@@ -17,10 +18,10 @@ use Rattle.waits.proofs.blocked.oldest.Statement.{statement}
 use Rattle.waits.proofs.blocked.oldest.Tie as tie
 
 abbrev Inv-loop : tie.InvT-loop
-Inv-loop pages desk names modes n turn next q looked w seen₀ i₀ seen i = (i ≤ 256) × SeenTo desk (w .asker) (bookWant w) i seen
+Inv-loop pages desk names modes n turn next q looked w seen₀ i₀ seen i = (i ≤ locksMost) × SeenTo desk (w .asker) (bookWant w) i seen
 
 abbrev μ-loop : tie.MeasureT-loop
-μ-loop pages desk names modes n turn next q looked w seen₀ i₀ seen i = 256 - i
+μ-loop pages desk names modes n turn next q looked w seen₀ i₀ seen i = locksMost - i
 
 abbrev Inv-queue : tie.InvT-queue
 Inv-queue pages desk names₀ modes₀ n turn₀ next₀ names modes turn next =

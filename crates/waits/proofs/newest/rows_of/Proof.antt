@@ -4,6 +4,7 @@ use borrow.Author.Needs.{needs}
 use Prim.Native.Nat.{_≤_, _-_}
 use mathlib.Core.Path.{_≡_}
 use lib.ListN.{length}
+use Rattle.limits.specs.Limits.{transactionsMost}
 use Rattle.desks.specs.States.{book}
 use Rattle.circles.specs.Sets.{RowOf}
 use Rattle.waits.proofs.Known.{place-under, asker-under}
@@ -13,7 +14,7 @@ use Rattle.waits.proofs.newest.rows_of.Statement.{statement}
 use Rattle.waits.proofs.newest.rows_of.Tie as tie
 
 abbrev Inv-loop : tie.InvT-loop
-Inv-loop pages desk names modes n row₀ q₀ row q = (q ≤ n) × ((length row ≡ 17) × RowOf book row (waitsTo pages desk q))
+Inv-loop pages desk names modes n row₀ q₀ row q = (q ≤ n) × ((length row ≡ transactionsMost + 1) × RowOf book row (waitsTo pages desk q))
 
 abbrev μ-loop : tie.MeasureT-loop
 μ-loop pages desk names modes n row₀ q₀ row q = n - q

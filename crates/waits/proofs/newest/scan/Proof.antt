@@ -2,6 +2,7 @@
 -- The measure is the number of slots left. Assumes nothing.
 use borrow.Author.Needs.{needs}
 use Prim.Native.Nat.{_≤_, _-_}
+use Rattle.limits.specs.Limits.{locksMost}
 use Rattle.waits.specs.Choices.{bookWant}
 use Rattle.waits.specs.Slots.{Scanned}
 use Rattle.waits.proofs.Sets.{holder-at, scan-start, scan-turn, scan-end}
@@ -9,10 +10,10 @@ use Rattle.waits.proofs.newest.scan.Statement.{statement}
 use Rattle.waits.proofs.newest.scan.Tie as tie
 
 abbrev Inv-loop : tie.InvT-loop
-Inv-loop desk w held₀ i₀ held i = (i ≤ 256) × Scanned desk (w .asker) (bookWant w) i held
+Inv-loop desk w held₀ i₀ held i = (i ≤ locksMost) × Scanned desk (w .asker) (bookWant w) i held
 
 abbrev μ-loop : tie.MeasureT-loop
-μ-loop desk w held₀ i₀ held i = 256 - i
+μ-loop desk w held₀ i₀ held i = locksMost - i
 
 loop-holds : tie.Need-loop-holds Inv-loop μ-loop
 loop-holds c = (search needs, search (needs, scan-start))
