@@ -47,7 +47,7 @@ isRival p t w x = not (eqb (x .asker) t) && K.clash book (K.wanted book (entries
 unfoldable pub isBehind : List ℕ → List ℕ → ℕ → ℕ → K.Want book → Bool
 isBehind p d q t w = not (K.holds book (slotsOf d) t (w .name)) && any (isRival p t w) (ahead d q)
 
--- every lock's holder is a transaction
+-- a lock's holder is a transaction; every lock's is
 pub record HolderKnown (x : Option (Lock ℕ)) : Type 0 where
   pub low : (l : Lock ℕ) → x ≡ some l → 1 ≤ l .holder
   pub high : (l : Lock ℕ) → x ≡ some l → l .holder ≤ transactionsMost

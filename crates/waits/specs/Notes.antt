@@ -33,7 +33,7 @@ pub record LookedAt (p d ns ms : List ℕ) (q : ℕ) (l : Looked) : Type 0 where
   pub want : WantAt p d q (l .want)
   pub noted : Noted p d ns ms (q + 1)
 
--- all are, where nobody can run
+-- the wants of all are noted, where nobody can run
 abbrev pub NotedIn : List ℕ → List ℕ → List ℕ → List ℕ → Turn → Type 0
 NotedIn p d ns ms (Runs x) = Unit {0}
 NotedIn p d ns ms Nobody = Noted p d ns ms (queued d)
