@@ -1,7 +1,7 @@
 -- `waits::newest::rows_of` meets its contract. The invariant: the row is that of the requests before place q.
 -- The measure is the number of places left. Assumes nothing.
 use borrow.Author.Needs.{needs}
-use Prim.Native.Nat.{_≤_, _-_}
+use Prim.Native.Nat.{_+_, _≤_, _-_}
 use mathlib.Core.Path.{_≡_}
 use lib.ListN.{length}
 use Rattle.limits.specs.Limits.{transactionsMost}
