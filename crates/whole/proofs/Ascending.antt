@@ -12,6 +12,7 @@ use native.Mathlib.Omega.{arith}
 use borrow.Author.Tests.{eqb-true, eqb-false, eq-eqb, ltb-true, lt-ltb, not-true}
 use lib.Dec.{eqb, ltb}
 use lib.ListN.{length, getD, List·getD-eq-default}
+use Rattle.limits.specs.Limits.{locksMost, deskSize}
 use Rattle.lists.specs.Lists.{tab, all, pairs}
 use Rattle.lists.proofs.Tests.{both, and-both, either, or-left, or-right, fails, eqb-turn}
 use Rattle.lists.proofs.Tables.{all-tab, all-of-tab}
@@ -149,7 +150,7 @@ pairs-in-tab r (suc n) i f h a b l k u =
 
 -- ---- a lock at a place
 -- there is no lock past the last slot
-none-past : (d : List ℕ) (i : ℕ) → length d ≡ 4672 → 256 ≤ i → slotAt d i ≡ none
+none-past : (d : List ℕ) (i : ℕ) → length d ≡ deskSize → locksMost ≤ i → slotAt d i ≡ none
 unfolding slotAt slotIn fieldsAt
 none-past d i size h =
     let z : numberAt 2 d (lockPlace i + 8) ≡ 0 =
@@ -157,9 +158,9 @@ none-past d i size h =
     rw z refl
 
 -- so where a test fails or passes other than of a free slot, it is of a slot
-pub slot-some : (t : Option (Lock ℕ) → Bool) (b : Bool) (d : List ℕ) (i : ℕ) → length d ≡ 4672 → (t none ≡ b → ⊥) → t (slotAt d i) ≡ b → i < 256
+pub slot-some : (t : Option (Lock ℕ) → Bool) (b : Bool) (d : List ℕ) (i : ℕ) → length d ≡ deskSize → (t none ≡ b → ⊥) → t (slotAt d i) ≡ b → i < locksMost
 slot-some t b d i size free h =
-    elim (decLt i 256) [ yes l ↦ l | no l ↦ absurd (free (sym (ap t (none-past d i size (omega arith))) ∙ h)) ]
+    elim (decLt i locksMost) [ yes l ↦ l | no l ↦ absurd (free (sym (ap t (none-past d i size (omega arith))) ∙ h)) ]
 
 abbrev pub nameOf : Option (Lock ℕ) → ℕ
 nameOf none = 0
@@ -182,7 +183,7 @@ free-second none = refl
 free-second (some k) = refl
 
 module _ (d o p : List ℕ) (m : ℕ) (up : all (goesUp d o) (tab (m - 1) 1 (λ a. a)) ≡ true)
-    (whole : all (hasPlace d o p m) (tab 256 0 (λ i. i)) ≡ true) where
+    (whole : all (hasPlace d o p m) (tab locksMost 0 (λ i. i)) ≡ true) where
   climbs : (a b : ℕ) → a < b → b < m → comesFirst (placed d o a) (placed d o b) ≡ true
   unfolding goesUp
   climbs a zero l h = absurd (omega arith)
@@ -202,9 +203,9 @@ module _ (d o p : List ℕ) (m : ℕ) (up : all (goesUp d o) (tab (m - 1) 1 (λ 
     pub below : at < m
     pub is : getD o at 0 ≡ i
 
-  place-of : (i : ℕ) → i < 256 → (slotAt d i ≡ none) ⊎ Place i
+  place-of : (i : ℕ) → i < locksMost → (slotAt d i ≡ none) ⊎ Place i
   unfolding hasPlace
-  place-of i h = go (slotAt d i) refl (all-tab (hasPlace d o p m) 256 0 (λ i. i) i whole (omega arith) (omega arith))
+  place-of i h = go (slotAt d i) refl (all-tab (hasPlace d o p m) locksMost 0 (λ i. i) i whole (omega arith) (omega arith))
     where
       go : (x : Option (Lock ℕ)) → slotAt d i ≡ x → (not (isThere (slotAt d i)) || (ltb (getD p i 0) m && eqb (getD o (getD p i 0) 0) i)) ≡ true
           → (slotAt d i ≡ none) ⊎ Place i
@@ -231,18 +232,18 @@ module _ (d o p : List ℕ) (m : ℕ) (up : all (goesUp d o) (tab (m - 1) 1 (λ 
 
   pub order-pairs : pairs slotTogether (slotsOf d) ≡ true
   unfolding slotsOf
-  order-pairs = pairs-of-tab slotTogether 256 0 (slotAt d) (λ i j _ l u. two i j l (place-of i (omega arith)) (place-of j (omega arith)))
+  order-pairs = pairs-of-tab slotTogether locksMost 0 (slotAt d) (λ i j _ l u. two i j l (place-of i (omega arith)) (place-of j (omega arith)))
 
   -- what is true of every place of the order, and of a free slot, is true of every slot
   pub order-all : (t : Option (Lock ℕ) → Bool) → t none ≡ true → ((a : ℕ) → a < m → t (placed d o a) ≡ true) → all t (slotsOf d) ≡ true
   unfolding slotsOf
-  order-all t free h = all-of-tab t 256 0 (slotAt d) (λ i _ u. go i (place-of i (omega arith)))
+  order-all t free h = all-of-tab t locksMost 0 (slotAt d) (λ i _ u. go i (place-of i (omega arith)))
     where
       go : (i : ℕ) → (slotAt d i ≡ none) ⊎ Place i → t (slotAt d i) ≡ true
       go i (inl e) = ap t e ∙ free
       go i (inr a) = ap (λ x. t (slotAt d x)) (sym (a .is)) ∙ h (a .at) (a .below)
 
-  pub place-some : (t : Option (Lock ℕ) → Bool) → t none ≡ false → (i : ℕ) → i < 256 → t (slotAt d i) ≡ true
+  pub place-some : (t : Option (Lock ℕ) → Bool) → t none ≡ false → (i : ℕ) → i < locksMost → t (slotAt d i) ≡ true
       → (a : ℕ) × (a < m) × (t (placed d o a) ≡ true)
   place-some t free i h e = go (place-of i h)
     where
@@ -281,9 +282,9 @@ together-turn none y = sym (free-second y)
 together-turn (some k) none = refl
 together-turn (some k) (some l) = rw (names-turn (k .name) (l .name), eqb-turn (k .holder) (l .holder), conflict-turn (k .mode) (l .mode))
 
-pub clash-apart : (d o : List ℕ) (a : ℕ) → length d ≡ 4672 → clashes d o a ≡ true → pairs slotTogether (slotsOf d) ≡ false
+pub clash-apart : (d o : List ℕ) (a : ℕ) → length d ≡ deskSize → clashes d o a ≡ true → pairs slotTogether (slotsOf d) ≡ false
 unfolding clashes slotsOf
-clash-apart d o a size h = fails (pairs slotTogether (tab 256 0 (slotAt d))) no-way
+clash-apart d o a size h = fails (pairs slotTogether (tab locksMost 0 (slotAt d))) no-way
   where
     i : ℕ
     i = getD o (a - 1) 0
@@ -297,19 +298,19 @@ clash-apart d o a size h = fails (pairs slotTogether (tab 256 0 (slotAt d))) no-
     bad : slotTogether (slotAt d i) (slotAt d j) ≡ false
     bad = not-true (slotTogether (slotAt d i) (slotAt d j)) (w .1)
 
-    first : i < 256
+    first : i < locksMost
     first = slot-some (λ x. slotTogether x (slotAt d j)) false d i size true≢false bad
 
-    second : j < 256
+    second : j < locksMost
     second = slot-some (slotTogether (slotAt d i)) false d j size (λ e. true≢false (sym (free-second (slotAt d i)) ∙ e)) bad
 
-    no-way : pairs slotTogether (tab 256 0 (slotAt d)) ≡ true → ⊥
+    no-way : pairs slotTogether (tab locksMost 0 (slotAt d)) ≡ true → ⊥
     no-way t =
         elim (decLt i j) [
-          | yes c ↦ true≢false (sym (pairs-in-tab slotTogether 256 0 (slotAt d) t i j (omega arith) c (omega (arith, second))) ∙ bad)
+          | yes c ↦ true≢false (sym (pairs-in-tab slotTogether locksMost 0 (slotAt d) t i j (omega arith) c (omega (arith, second))) ∙ bad)
           | no c ↦
               let n = eqb-false i j (not-true (eqb i j) (w .0)) in
               let l : j < i = omega (arith, n) in
-              let w = pairs-in-tab slotTogether 256 0 (slotAt d) t j i (omega arith) l (omega (arith, first)) in
+              let w = pairs-in-tab slotTogether locksMost 0 (slotAt d) t j i (omega arith) l (omega (arith, first)) in
               true≢false (sym (together-turn (slotAt d i) (slotAt d j) ∙ w) ∙ bad)
         ]

@@ -11,6 +11,7 @@ use native.Mathlib.Omega.{arith}
 use borrow.Author.Tests.{leb-true, not-true, not-false}
 use lib.Dec.{leb, lit≤}
 use lib.ListN.{length, drop-of-length-le}
+use Rattle.limits.specs.Limits.{pagesMost, pageSize, headSize, bodySize, pagesSize, entrySize, leafMost, childSize, innerMost, innerFewest}
 use Rattle.lists.specs.Lists.{tab, all, any, In}
 use Rattle.lists.proofs.Tests.{both}
 use Rattle.lists.proofs.Tables.{all-next, all-done, any-next, any-done}
@@ -26,32 +27,32 @@ use Rattle.whole_pages.specs.Walks.{spanOf, spans, pageOk, treeOk}
 use Rattle.whole_pages.proofs.Inners.{head-length}
 use Rattle.whole.specs.Checks.{entryHeld, hasKey, findAt, ownersAt, Fine}
 
-there : (s : List ℕ) (q : ℕ) → length s ≡ 32768 → numberAt 2 (pageAt s q) 0 ≡ 512 → q < 64
+there : (s : List ℕ) (q : ℕ) → length s ≡ pagesSize → numberAt 2 (pageAt s q) 0 ≡ pageSize → q < pagesMost
 unfolding pageAt part
 there s q h e =
-    elim (decLt q 64) [
+    elim (decLt q pagesMost) [
       | yes l ↦ l
       | no l ↦
-          let z : pageAt s q ≡ [] = ap (λ x. part 0 512 x) (drop-of-length-le s {i = 512 * q} (omega arith)) in
-          let w : _≡_ {A = ℕ} 0 512 = sym (ap (λ x. numberAt 2 x 0) z ∙ number-none 2 0) ∙ e in
+          let z : pageAt s q ≡ [] = ap (λ x. part 0 pageSize x) (drop-of-length-le s {i = pageSize * q} (omega arith)) in
+          let w : _≡_ {A = ℕ} 0 pageSize = sym (ap (λ x. numberAt 2 x 0) z ∙ number-none 2 0) ∙ e in
           absurd (omega arith)
     ]
 
-leaf-parts : (lo hi : ℕ) (p : List ℕ) → leafOk lo hi p ≡ true → (headOk 2 0 p ≡ true) × (countOf p ≤ 24)
+leaf-parts : (lo hi : ℕ) (p : List ℕ) → leafOk lo hi p ≡ true → (headOk 2 0 p ≡ true) × (countOf p ≤ leafMost)
 unfolding leafOk
 leaf-parts lo hi p h =
-    let a = both ((headOk 2 0 p && leb (countOf p) 24) && entriesOk lo hi (tab (countOf p) 0 (entryFieldsAt p))) (zeroAt (496 - 20 * countOf p) (16 + 20 * countOf p) p) h in
-    let b = both (headOk 2 0 p) (leb (countOf p) 24) (both (headOk 2 0 p && leb (countOf p) 24) (entriesOk lo hi (tab (countOf p) 0 (entryFieldsAt p))) (a .0) .0) in
-    (b .0, leb-true (countOf p) 24 (b .1))
+    let a = both ((headOk 2 0 p && leb (countOf p) leafMost) && entriesOk lo hi (tab (countOf p) 0 (entryFieldsAt p))) (zeroAt (bodySize - entrySize * countOf p) (headSize + entrySize * countOf p) p) h in
+    let b = both (headOk 2 0 p) (leb (countOf p) leafMost) (both (headOk 2 0 p && leb (countOf p) leafMost) (entriesOk lo hi (tab (countOf p) 0 (entryFieldsAt p))) (a .0) .0) in
+    (b .0, leb-true (countOf p) leafMost (b .1))
 
-inner-parts : (level least lo hi : ℕ) (p : List ℕ) → innerOk level least lo hi p ≡ true → (headOk 3 level p ≡ true) × (countOf p ≤ 30)
+inner-parts : (level least lo hi : ℕ) (p : List ℕ) → innerOk level least lo hi p ≡ true → (headOk 3 level p ≡ true) × (countOf p ≤ innerMost)
 unfolding innerOk
 inner-parts level least lo hi p h =
-    let front = headOk 3 level p && (leb least (countOf p) && leb (countOf p) 30) in
-    let a = both ((front && firstOk (childFieldsAt p 0)) && childrenOk lo hi (tab (countOf p - 1) 1 (childFieldsAt p))) (zeroAt (496 - 16 * countOf p) (16 + 16 * countOf p) p) h in
+    let front = headOk 3 level p && (leb least (countOf p) && leb (countOf p) innerMost) in
+    let a = both ((front && firstOk (childFieldsAt p 0)) && childrenOk lo hi (tab (countOf p - 1) 1 (childFieldsAt p))) (zeroAt (bodySize - childSize * countOf p) (headSize + childSize * countOf p) p) h in
     let b = both front (firstOk (childFieldsAt p 0)) (both (front && firstOk (childFieldsAt p 0)) (childrenOk lo hi (tab (countOf p - 1) 1 (childFieldsAt p))) (a .0) .0) in
-    let c = both (headOk 3 level p) (leb least (countOf p) && leb (countOf p) 30) (b .0) in
-    (c .0, leb-true (countOf p) 30 (both (leb least (countOf p)) (leb (countOf p) 30) (c .1) .1))
+    let c = both (headOk 3 level p) (leb least (countOf p) && leb (countOf p) innerMost) (b .0) in
+    (c .0, leb-true (countOf p) innerMost (both (leb least (countOf p)) (leb (countOf p) innerMost) (c .1) .1))
 
 span-there : (P : Span → Bool) (hi : ℕ) (lo : ℕ) (cs : List Child) → all P (spans lo hi cs) ≡ true → (c : Child) → In c cs → (l : ℕ) × (h : ℕ) × (P (spanOf (c .page) l h) ≡ true)
 unfolding spans all
@@ -63,23 +64,23 @@ span-there P hi lo (c ∷ d ∷ cs) h x (inr m) =
 
 -- ---- the tree
 module _ (s : List ℕ) (q : ℕ) where
-  pub fine-page : (n : ℕ) → Fine n s q → q < 64
+  pub fine-page : (n : ℕ) → Fine n s q → q < pagesMost
   unfolding treeOk pageOk
   fine-page zero f = there s q (f .size) (head-length 2 0 (pageAt s q) (leaf-parts (f .low) (f .high) (pageAt s q) (f .ok) .0))
   fine-page (suc n) f =
-      let a = both (innerOk (suc n) (f .least) (f .low) (f .high) (pageAt s q)) (all (treeOk n 15 s) (spans (f .low) (f .high) (childrenOf (pageAt s q)))) (f .ok) in
+      let a = both (innerOk (suc n) (f .least) (f .low) (f .high) (pageAt s q)) (all (treeOk n innerFewest s) (spans (f .low) (f .high) (childrenOf (pageAt s q)))) (f .ok) in
       there s q (f .size) (head-length 3 (suc n) (pageAt s q) (inner-parts (suc n) (f .least) (f .low) (f .high) (pageAt s q) (a .0) .0))
 
-  pub fine-leaf : (n : ℕ) → Fine n s q → n ≡ 0 → countOf (pageAt s q) ≤ 24
+  pub fine-leaf : (n : ℕ) → Fine n s q → n ≡ 0 → countOf (pageAt s q) ≤ leafMost
   unfolding treeOk pageOk
   fine-leaf zero f e = leaf-parts (f .low) (f .high) (pageAt s q) (f .ok) .1
   fine-leaf (suc n) f e = absurd (omega arith)
 
-  pub fine-few : (n k : ℕ) → Fine n s q → (n ≡ 0 → ⊥) → k ≡ countOf (pageAt s q) → k ≤ 30
+  pub fine-few : (n k : ℕ) → Fine n s q → (n ≡ 0 → ⊥) → k ≡ countOf (pageAt s q) → k ≤ innerMost
   unfolding treeOk pageOk
   fine-few zero k f z e = absurd (z refl)
   fine-few (suc n) k f z e =
-      let a = both (innerOk (suc n) (f .least) (f .low) (f .high) (pageAt s q)) (all (treeOk n 15 s) (spans (f .low) (f .high) (childrenOf (pageAt s q)))) (f .ok) in
+      let a = both (innerOk (suc n) (f .least) (f .low) (f .high) (pageAt s q)) (all (treeOk n innerFewest s) (spans (f .low) (f .high) (childrenOf (pageAt s q)))) (f .ok) in
       let b = inner-parts (suc n) (f .least) (f .low) (f .high) (pageAt s q) (a .0) .1 in
       omega arith
 
@@ -87,9 +88,9 @@ module _ (s : List ℕ) (q : ℕ) where
   unfolding treeOk childrenOf
   fine-child zero i k c f z e l g = absurd (z refl)
   fine-child (suc n) i k c f z e l g =
-      let a = both (pageOk (suc n) (f .least) s (spanOf q (f .low) (f .high))) (all (treeOk n 15 s) (spans (f .low) (f .high) (childrenOf (pageAt s q)))) (f .ok) in
-      let b = span-there (treeOk n 15 s) (f .high) (f .low) (childrenOf (pageAt s q)) (a .1) (childAt (pageAt s q) i) (in-tab (countOf (pageAt s q)) 0 (childAt (pageAt s q)) i (omega arith) (omega arith)) in
-      let w : Fine n s c = record { least = 15; low = b .0; high = b .1; one = lit≤ tt; bytes = f .bytes; size = f .size; ok = subst (λ x. treeOk n 15 s (spanOf x (b .0) (b .1)) ≡ true) (sym g) (b .2) } in
+      let a = both (pageOk (suc n) (f .least) s (spanOf q (f .low) (f .high))) (all (treeOk n innerFewest s) (spans (f .low) (f .high) (childrenOf (pageAt s q)))) (f .ok) in
+      let b = span-there (treeOk n innerFewest s) (f .high) (f .low) (childrenOf (pageAt s q)) (a .1) (childAt (pageAt s q) i) (in-tab (countOf (pageAt s q)) 0 (childAt (pageAt s q)) i (omega arith) (omega arith)) in
+      let w : Fine n s c = record { least = innerFewest; low = b .0; high = b .1; one = lit≤ tt; bytes = f .bytes; size = f .size; ok = subst (λ x. treeOk n innerFewest s (spanOf x (b .0) (b .1)) ≡ true) (sym g) (b .2) } in
       let same : n ≡ suc n - 1 = omega arith in
       subst (λ m. Fine m s c) same w
 

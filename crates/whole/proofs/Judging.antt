@@ -10,6 +10,7 @@ use native.Mathlib.Omega.{arith}
 use borrow.Author.Tests.{eqb-true, lt-ltb}
 use lib.Dec.{eqb, ltb}
 use lib.ListN.{length, getD}
+use Rattle.limits.specs.Limits.{pagesSize, deskSize}
 use Rattle.lists.specs.Lists.{all, any, pairs, In}
 use Rattle.lists.proofs.Tests.{both, and-both, either, or-left, or-right}
 use Rattle.lists.proofs.Elements.{all-in, in-all, any-in}
@@ -181,7 +182,7 @@ module _ (p d : List ℕ) where
   unfolding stateOf
   good-rests v e i z = let r = v .settled e i z in record { isThere = r .isThere; equal = r .equal }
 
-  module _ (size : length p ≡ 32768) (long : length d ≡ 4672) (g : Bytes p) (h : Bytes d) where
+  module _ (size : length p ≡ pagesSize) (long : length d ≡ deskSize) (g : Bytes p) (h : Bytes d) where
     sound : wholeOk p d ≡ true → Whole p d
     unfolding wholeOk locksOk
     sound w =

@@ -10,6 +10,7 @@ use native.Mathlib.Omega.{arith}
 use borrow.Author.Tests.{not-true, not-false, eq-eqb, ne-eqb}
 use lib.Dec.{eqb, lit≤}
 use lib.ListN.{length, take, drop}
+use Rattle.limits.specs.Limits.{locksMost, pageSize, pagesSize, leafMost}
 use Rattle.lists.specs.Lists.{tab, all, any, pairs}
 use Rattle.lists.proofs.Tests.{both}
 use Rattle.lists.proofs.Tables.{tab-next, tab-done}
@@ -65,32 +66,32 @@ all-free d none (suc n) i h = all-free d none n (i + 1) h
 all-free d (some l) n i h = absurd (let z : _≡_ {A = ℕ} 0 1 = cc in omega arith)
 
 pub later-free : (d : List ℕ) (i : ℕ) (a : Sl.Slot) (b : Bool) → bookSlot a ≡ slotAt d i → b ≡ not (isThere (bookSlot a)) → b ≡ true
-    → true ≡ all (slotTogether (slotAt d i)) (tab (256 - (i + 1)) (i + 1) (slotAt d))
-later-free d i a b e f t = sym (all-free d (slotAt d i) (256 - (i + 1)) (i + 1) (not-true (isThere (slotAt d i)) (ap (λ x. not (isThere x)) (sym e) ∙ sym f ∙ t)))
+    → true ≡ all (slotTogether (slotAt d i)) (tab (locksMost - (i + 1)) (i + 1) (slotAt d))
+later-free d i a b e f t = sym (all-free d (slotAt d i) (locksMost - (i + 1)) (i + 1) (not-true (isThere (slotAt d i)) (ap (λ x. not (isThere x)) (sym e) ∙ sym f ∙ t)))
 
 -- ---- every two slots
-module _ (d : List ℕ) (i : ℕ) (inv : pairs slotTogether (slotsOf d) ≡ pairs slotTogether (tab (256 - i) i (slotAt d))) where
-  pairs-turn : i < 256 → pairs slotTogether (slotsOf d) ≡ (all (slotTogether (slotAt d i)) (tab (256 - (i + 1)) (i + 1) (slotAt d)) && pairs slotTogether (tab (256 - (i + 1)) (i + 1) (slotAt d)))
+module _ (d : List ℕ) (i : ℕ) (inv : pairs slotTogether (slotsOf d) ≡ pairs slotTogether (tab (locksMost - i) i (slotAt d))) where
+  pairs-turn : i < locksMost → pairs slotTogether (slotsOf d) ≡ (all (slotTogether (slotAt d i)) (tab (locksMost - (i + 1)) (i + 1) (slotAt d)) && pairs slotTogether (tab (locksMost - (i + 1)) (i + 1) (slotAt d)))
   unfolding pairs
-  pairs-turn l = inv ∙ ap (pairs slotTogether) (tab-next 256 i (slotAt d) l)
+  pairs-turn l = inv ∙ ap (pairs slotTogether) (tab-next locksMost i (slotAt d) l)
 
-  pub pairs-bad : (b : Bool) → i < 256 → b ≡ all (slotTogether (slotAt d i)) (tab (256 - (i + 1)) (i + 1) (slotAt d)) → not b ≡ true → false ≡ pairs slotTogether (slotsOf d)
-  pairs-bad b l e t = sym (pairs-turn l ∙ ap (λ x. x && pairs slotTogether (tab (256 - (i + 1)) (i + 1) (slotAt d))) (sym e ∙ not-true b t))
+  pub pairs-bad : (b : Bool) → i < locksMost → b ≡ all (slotTogether (slotAt d i)) (tab (locksMost - (i + 1)) (i + 1) (slotAt d)) → not b ≡ true → false ≡ pairs slotTogether (slotsOf d)
+  pairs-bad b l e t = sym (pairs-turn l ∙ ap (λ x. x && pairs slotTogether (tab (locksMost - (i + 1)) (i + 1) (slotAt d))) (sym e ∙ not-true b t))
 
-  pub pairs-step : (b : Bool) → i < 256 → b ≡ all (slotTogether (slotAt d i)) (tab (256 - (i + 1)) (i + 1) (slotAt d)) → not b ≡ false
-      → pairs slotTogether (slotsOf d) ≡ pairs slotTogether (tab (256 - (i + 1)) (i + 1) (slotAt d))
-  pairs-step b l e t = pairs-turn l ∙ ap (λ x. x && pairs slotTogether (tab (256 - (i + 1)) (i + 1) (slotAt d))) (sym e ∙ not-false b t)
+  pub pairs-step : (b : Bool) → i < locksMost → b ≡ all (slotTogether (slotAt d i)) (tab (locksMost - (i + 1)) (i + 1) (slotAt d)) → not b ≡ false
+      → pairs slotTogether (slotsOf d) ≡ pairs slotTogether (tab (locksMost - (i + 1)) (i + 1) (slotAt d))
+  pairs-step b l e t = pairs-turn l ∙ ap (λ x. x && pairs slotTogether (tab (locksMost - (i + 1)) (i + 1) (slotAt d))) (sym e ∙ not-false b t)
 
-  pub pairs-end : 256 ≤ i → true ≡ pairs slotTogether (slotsOf d)
+  pub pairs-end : locksMost ≤ i → true ≡ pairs slotTogether (slotsOf d)
   unfolding pairs
-  pairs-end l = sym (inv ∙ ap (pairs slotTogether) (tab-done 256 i (slotAt d) l))
+  pairs-end l = sym (inv ∙ ap (pairs slotTogether) (tab-done locksMost i (slotAt d) l))
 
 -- ---- a slot and an owner
 pub slot-holds : (d : List ℕ) (i t k : ℕ) (s : Sl.Slot) (a b : Bool) → bookSlot s ≡ slotAt d i → a ≡ isSlotOf t (nameIn k) (bookSlot s) → b ≡ slotHasX (bookSlot s)
     → (a && b) ≡ slotHolds t k (slotAt d i)
 slot-holds d i t k s a b e f g = ap₂ (λ x y. x && y) f g ∙ ap (slotHolds t k) e
 
-module _ (s d : List ℕ) (q i : ℕ) (e : E.Entry) (f : bookEntry e ≡ entryAt (take (512 * q + 512 - 512 * q) (drop (512 * q) s)) i) where
+module _ (s d : List ℕ) (q i : ℕ) (e : E.Entry) (f : bookEntry e ≡ entryAt (take (pageSize * q + pageSize - pageSize * q) (drop (pageSize * q) s)) i) where
   read-there : bookEntry e ≡ entryAt (pageAt s q) i
   read-there = f ∙ ap (λ p. entryAt p i) (page-lent s q)
 
@@ -104,7 +105,7 @@ module _ (s d : List ℕ) (q i : ℕ) (e : E.Entry) (f : bookEntry e ≡ entryAt
   owned r z g =
       g ∙ sym (ap (entryHeld d) (sym read-there) ∙ ap (λ b. b || any (slotHolds (e .owner) (e .key .0)) (slotsOf d)) (ne-eqb (e .owner) 0 z))
 
-pub key-lent : (s : List ℕ) (q i k r : ℕ) → r ≡ entryAt (take (512 * q + 512 - 512 * q) (drop (512 * q) s)) i .key → eqb r k ≡ hasKey k (entryAt (pageAt s q) i)
+pub key-lent : (s : List ℕ) (q i k r : ℕ) → r ≡ entryAt (take (pageSize * q + pageSize - pageSize * q) (drop (pageSize * q) s)) i .key → eqb r k ≡ hasKey k (entryAt (pageAt s q) i)
 key-lent s q i k r e = ap (λ x. eqb x k) (e ∙ ap (λ p. entryAt p i .key) (page-lent s q))
 
 -- ---- the entries of a leaf
@@ -118,7 +119,7 @@ held-start s d q n e = ap (all (entryHeld d)) (entries-start s q n e)
 pub key-start : (s : List ℕ) (k q n : ℕ) → n ≡ countOf (pageAt s q) → any (hasKey k) (entriesOf (pageAt s q)) ≡ any (hasKey k) (tab (n - 0) 0 (entryAt (pageAt s q)))
 key-start s k q n e = ap (any (hasKey k)) (entries-start s q n e)
 
-pub count-few : (s : List ℕ) (q n : ℕ) → n ≡ countOf (pageAt s q) → countOf (pageAt s q) ≤ 24 → n ≤ 24
+pub count-few : (s : List ℕ) (q n : ℕ) → n ≡ countOf (pageAt s q) → countOf (pageAt s q) ≤ leafMost → n ≤ leafMost
 count-few s q n e h = omega arith
 
 -- ---- a slot and its name
@@ -140,12 +141,12 @@ module _ (n : ℕ) (s d : List ℕ) (q i : ℕ) (x : Sl.Slot) (e : bookSlot x �
 pages-front : (s : List ℕ) → pagesOk s ≡ true → frontOk s ≡ true
 unfolding pagesOk
 pages-front s h =
-    both (frontOk s) (wentOk (usedOf (pageAt s 0)) (treeIn s)) (both (frontOk s && wentOk (usedOf (pageAt s 0)) (treeIn s)) (zeroAt (32768 - 512 * usedOf (pageAt s 0)) (512 * usedOf (pageAt s 0)) s) h .0) .0
+    both (frontOk s) (wentOk (usedOf (pageAt s 0)) (treeIn s)) (both (frontOk s && wentOk (usedOf (pageAt s 0)) (treeIn s)) (zeroAt (pagesSize - pageSize * usedOf (pageAt s 0)) (pageSize * usedOf (pageAt s 0)) s) h .0) .0
 
 pages-tree : (s : List ℕ) → pagesOk s ≡ true → treeOk (heightOf (pageAt s 0) - 1) 2 s (spanOf (rootOf (pageAt s 0)) 0 endMark) ≡ true
 unfolding pagesOk treeIn
 pages-tree s h =
-    let a = both (frontOk s && wentOk (usedOf (pageAt s 0)) (treeIn s)) (zeroAt (32768 - 512 * usedOf (pageAt s 0)) (512 * usedOf (pageAt s 0)) s) h in
+    let a = both (frontOk s && wentOk (usedOf (pageAt s 0)) (treeIn s)) (zeroAt (pagesSize - pageSize * usedOf (pageAt s 0)) (pageSize * usedOf (pageAt s 0)) s) h in
     let w = went-ok (usedOf (pageAt s 0)) (treeIn s) (both (frontOk s) (wentOk (usedOf (pageAt s 0)) (treeIn s)) (a .0) .1) in
     guard-went (treeOk (heightOf (pageAt s 0) - 1) 2 s (spanOf (rootOf (pageAt s 0)) 0 endMark)) (marks (usedOf (pageAt s 0)) (reached (heightOf (pageAt s 0) - 1) s (rootOf (pageAt s 0))) onlyZero) (w .0)
     (sym (walk-is (heightOf (pageAt s 0) - 1) 2 s (usedOf (pageAt s 0)) (spanOf (rootOf (pageAt s 0)) 0 endMark) onlyZero) ∙ w .1) .0
@@ -177,7 +178,7 @@ module _ (s d : List ℕ) (a : Bool) (e : a ≡ pagesOk s) where
     pub tall-pages : (h : ℕ) → h ≡ heightOf (pageAt s 0) → 1 ≤ h
     tall-pages h f = height-some s h f (front-parts s (pages-front s good-pages) .2)
 
-    pub fine-root : (r h : ℕ) → Bytes s → length s ≡ 32768 → r ≡ rootOf (pageAt s 0) → h ≡ heightOf (pageAt s 0) → Fine (h - 1) s r
+    pub fine-root : (r h : ℕ) → Bytes s → length s ≡ pagesSize → r ≡ rootOf (pageAt s 0) → h ≡ heightOf (pageAt s 0) → Fine (h - 1) s r
     fine-root r h b size x y =
         record { least = 2; low = 0; high = endMark; one = lit≤ tt; bytes = b; size = size; ok = subst (λ k. treeOk (k - 1) 2 s (spanOf r 0 endMark) ≡ true) (sym y) (subst (λ v. treeOk (heightOf (pageAt s 0) - 1) 2 s (spanOf v 0 endMark) ≡ true) (sym x) (pages-tree s good-pages)) }
 

@@ -9,6 +9,7 @@ use native.Mathlib.Omega.{arith}
 use borrow.Author.Tests.{eq-eqb, ne-eqb, le-leb, lt-leb, not-true, not-false}
 use lib.Dec.{eqb, ltb, leb}
 use lib.ListN.{getD, take, drop}
+use Rattle.limits.specs.Limits.{locksMost, pageSize}
 use Rattle.lists.specs.Lists.{tab, all, any, place, join}
 use Rattle.lists.proofs.Tables.{tab-next, tab-done, all-next, all-done}
 use Rattle.lists.proofs.Joins.{join-map}
@@ -141,7 +142,7 @@ module _ (d o : List ℕ) (m x k j : ℕ) (inv : stretch (placed d o) m x k ≡ 
   unfolding stretch place
   name-end l = sym (inv ∙ ap (λ ys. j + place (λ y. not (slotOn x y)) ys) (tab-done m j (placed d o) l) ∙ add-zero j)
 
-pub stretch-few : (d o : List ℕ) (m x k j : ℕ) → k ≤ m → m ≤ 256 → j ≡ stretch (placed d o) m x k → j ≤ 256
+pub stretch-few : (d o : List ℕ) (m x k j : ℕ) → k ≤ m → m ≤ locksMost → j ≡ stretch (placed d o) m x k → j ≤ locksMost
 stretch-few d o m x k j h l e = let b = stretch-is (placed d o) m x k h .most in omega arith
 
 -- ---- X
@@ -149,7 +150,7 @@ pub x-placed : (d o : List ℕ) (a x t k : ℕ) (r : Bool) → x ≡ getD o a 0 
 x-placed d o a x t k r e f = f ∙ ap (λ y. slotHolds t k (slotAt d y)) e
 
 -- ---- an entry
-module _ (s d o : List ℕ) (m q i k j : ℕ) (e : E.Entry) (f : bookEntry e ≡ entryAt (take (512 * q + 512 - 512 * q) (drop (512 * q) s)) i)
+module _ (s d o : List ℕ) (m q i k j : ℕ) (e : E.Entry) (f : bookEntry e ≡ entryAt (take (pageSize * q + pageSize - pageSize * q) (drop (pageSize * q) s)) i)
     (g : j ≡ stretch (placed d o) m (e .key .0) k) where
   entry-is : bookEntry e ≡ entryAt (pageAt s q) i
   entry-is = f ∙ ap (λ p. entryAt p i) (page-lent s q)

@@ -6,12 +6,13 @@ use mathlib.Core.Logic.{_⊎_, inl, inr}
 use mathlib.Core.Bool.{Bool, true, false, cond, not, _&&_, _||_, false≢true}
 use mathlib.Core.List.{List, []}
 use mathlib.Core.Option.{Option, none, some}
-use Prim.Native.Nat.{ℕ, _+_, _-_, _≤_, _<_}
+use Prim.Native.Nat.{ℕ, _*_, _+_, _-_, _≤_, _<_}
 use native.Mathlib.Decide.{decLt}
 use native.Mathlib.Omega.{arith}
 use borrow.Author.Tests.{eqb-true, eq-eqb, le-leb, not-false}
 use lib.Dec.{eqb, leb}
 use lib.ListN.{length, getD}
+use Rattle.limits.specs.Limits.{locksMost, slotSize, slotsPlace, deskSize}
 use Rattle.lists.specs.Lists.{tab, all, any, pairs, In}
 use Rattle.lists.proofs.Tests.{both, and-both, alike}
 use Rattle.lists.proofs.Elements.{all-in, in-all, any-in, in-any, tab-in, in-tab}
@@ -82,9 +83,9 @@ module _ (n : ℕ) (s : List ℕ) (q : ℕ) where
           ap (λ x. named n s q (nameIn x)) (sym (name-back (getD vs 0 0)) ∙ eqb-true (nameNumber (nameIn (getD vs 0 0))) endMark e)
 
 -- ---- an order that is one
-module _ (n : ℕ) (s : List ℕ) (q : ℕ) (fine : Fine n s q) (d o p : List ℕ) (m : ℕ) (size : length d ≡ 4672)
+module _ (n : ℕ) (s : List ℕ) (q : ℕ) (fine : Fine n s q) (d o p : List ℕ) (m : ℕ) (size : length d ≡ deskSize)
     (first : begins d o m ≡ true) (up : all (goesUp d o) (tab (m - 1) 1 (λ a. a)) ≡ true)
-    (whole : all (hasPlace d o p m) (tab 256 0 (λ i. i)) ≡ true) where
+    (whole : all (hasPlace d o p m) (tab locksMost 0 (λ i. i)) ≡ true) where
   abbrev es : List Item
   es = flat ℕ Item n (treeOf n s q)
 
@@ -95,28 +96,28 @@ module _ (n : ℕ) (s : List ℕ) (q : ℕ) (fine : Fine n s q) (d o p : List �
   unfolding slotsOf
   place-slot t free a h =
       let l = slot-some t true d (getD o a 0) size (λ z. false≢true (sym free ∙ z)) h in
-      in-tab 256 0 (slotAt d) (getD o a 0) (omega arith) (omega arith)
+      in-tab locksMost 0 (slotAt d) (getD o a 0) (omega arith) (omega arith)
 
   held-is : (e : Item) → heldIn f m e ≡ entryHeld d e
   unfolding entryHeld slotsOf
-  held-is e = ap (λ b. eqb (e .owner) 0 || b) (alike (any t (tab m 0 f)) (any t (tab 256 0 (slotAt d))) there back)
+  held-is e = ap (λ b. eqb (e .owner) 0 || b) (alike (any t (tab m 0 f)) (any t (tab locksMost 0 (slotAt d))) there back)
     where
       t : Option (Lock ℕ) → Bool
       t = slotHolds (e .owner) (e .key)
 
-      there : any t (tab m 0 f) ≡ true → any t (tab 256 0 (slotAt d)) ≡ true
+      there : any t (tab m 0 f) ≡ true → any t (tab locksMost 0 (slotAt d)) ≡ true
       there h =
           let y = any-in t (tab m 0 f) h in
           let z = tab-in m 0 f (y .0) (y .1) in
           let v : t (f (z .0)) ≡ true = ap t (z .3) ∙ y .2 in
           let l = slot-some t true d (getD o (z .0) 0) size false≢true v in
-          in-any t (tab 256 0 (slotAt d)) (f (z .0)) (in-tab 256 0 (slotAt d) (getD o (z .0) 0) (omega arith) (omega arith)) v
+          in-any t (tab locksMost 0 (slotAt d)) (f (z .0)) (in-tab locksMost 0 (slotAt d) (getD o (z .0) 0) (omega arith) (omega arith)) v
 
-      back : any t (tab 256 0 (slotAt d)) ≡ true → any t (tab m 0 f) ≡ true
+      back : any t (tab locksMost 0 (slotAt d)) ≡ true → any t (tab m 0 f) ≡ true
       back h =
-          let y = any-in t (tab 256 0 (slotAt d)) h in
-          let z = tab-in 256 0 (slotAt d) (y .0) (y .1) in
-          let u : z .0 < 0 + 256 = z .2 in
+          let y = any-in t (tab locksMost 0 (slotAt d)) h in
+          let z = tab-in locksMost 0 (slotAt d) (y .0) (y .1) in
+          let u : z .0 < 0 + locksMost = z .2 in
           let w = place-some d o p m up whole t refl (z .0) (omega arith) (ap t (z .3) ∙ y .2) in
           let l : w .0 < m = w .1 in
           in-any t (tab m 0 f) (f (w .0)) (in-tab m 0 f (w .0) (omega arith) (omega arith)) (w .2)
@@ -200,23 +201,23 @@ module _ (n : ℕ) (s : List ℕ) (q : ℕ) (fine : Fine n s q) (d o p : List �
 
 -- ---- as the code finds it
 module _ (n : ℕ) (s d o : List ℕ) (m q : ℕ) where
-  pub sorted-done : (p : List ℕ) (a : ℕ) (b c r : Bool) → Fine n s q → length d ≡ 4672 → leb m a ≡ all (goesUp d o) (tab (m - 1) 1 (λ x. x)) → m ≤ a
-      → b ≡ begins d o m → c ≡ all (hasPlace d o p m) (tab 256 0 (λ x. x)) → not (b && c) ≡ false → r ≡ walked n s d o m q → r ≡ locksOk n s d q
+  pub sorted-done : (p : List ℕ) (a : ℕ) (b c r : Bool) → Fine n s q → length d ≡ deskSize → leb m a ≡ all (goesUp d o) (tab (m - 1) 1 (λ x. x)) → m ≤ a
+      → b ≡ begins d o m → c ≡ all (hasPlace d o p m) (tab locksMost 0 (λ x. x)) → not (b && c) ≡ false → r ≡ walked n s d o m q → r ≡ locksOk n s d q
   sorted-done p a b c r fine size up l e g t h =
       let w = both b c (not-false (b && c) t) in
       h ∙ walked-is n s q fine d o p m size (sym e ∙ w .0) (sym up ∙ le-leb m a l) (sym g ∙ w .1)
 
-  pub clash-done : (a : ℕ) (b : Bool) → length d ≡ 4672 → b ≡ clashes d o a → b ≡ true → false ≡ locksOk n s d q
+  pub clash-done : (a : ℕ) (b : Bool) → length d ≡ deskSize → b ≡ clashes d o a → b ≡ true → false ≡ locksOk n s d q
   unfolding locksOk
   clash-done a b size e t = sym (ap (λ x. (x && all (slotNamed n s q) (slotsOf d)) && ownersAt n s d q) (clash-apart d o a size (sym e ∙ t)))
 
 -- where every slot is free, the order of no locks is one
-module _ (d : List ℕ) (size : length d ≡ 4672) (zero : zeroAt 4096 576 d ≡ true) where
-  zero-placed : (o : List ℕ) (i : ℕ) → i < 256 → hasPlace d o [] 0 i ≡ true
+module _ (d : List ℕ) (size : length d ≡ deskSize) (zero : zeroAt (slotSize * locksMost) slotsPlace d ≡ true) where
+  zero-placed : (o : List ℕ) (i : ℕ) → i < locksMost → hasPlace d o [] 0 i ≡ true
   unfolding hasPlace
   zero-placed o i h = rw (zero-free d size zero i h)
 
   pub free-done : (n : ℕ) (s o : List ℕ) (q : ℕ) (r : Bool) → Fine n s q → r ≡ walked n s d o 0 q → r ≡ locksOk n s d q
   unfolding begins all tab
   free-done n s o q r fine h =
-      h ∙ walked-is n s q fine d o [] 0 size refl refl (all-of-tab (hasPlace d o [] 0) 256 0 (λ i. i) (λ i _ u. zero-placed o i (omega arith)))
+      h ∙ walked-is n s q fine d o [] 0 size refl refl (all-of-tab (hasPlace d o [] 0) locksMost 0 (λ i. i) (λ i _ u. zero-placed o i (omega arith)))

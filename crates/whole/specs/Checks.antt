@@ -7,6 +7,7 @@ use mathlib.Core.List.{List}
 use mathlib.Core.Option.{Option, none, some}
 use lib.Dec.{eqb}
 use lib.ListN.{length}
+use Rattle.limits.specs.Limits.{pagesSize}
 use Rattle.lists.specs.Lists.{all, any, pairs}
 use Rattle.numbers.specs.Numbers.{Bytes}
 use Rattle.rules.specs.Kinds.{Lock, Entry, Name, on, end}
@@ -63,7 +64,7 @@ pub record Fine (n : ℕ) (s : List ℕ) (q : ℕ) : Type 0 where
   pub high : ℕ
   pub one : 1 ≤ least
   pub bytes : Bytes s
-  pub size : length s ≡ 32768
+  pub size : length s ≡ pagesSize
   pub ok : treeOk n least s (spanOf q low high) ≡ true
 
 -- the whole picture

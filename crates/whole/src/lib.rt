@@ -5,6 +5,7 @@ pub mod order;
 ghost use mathlib.Core.Path.{_≡_};
 ghost use Prim.Native.Nat.{_<_};
 ghost use lib.ListN.{length};
+ghost use Rattle.limits.specs.Limits.{pagesSize, deskSize};
 ghost use Rattle.numbers.specs.Numbers.{Bytes};
 ghost use Rattle.desks.specs.Whole.{Judged};
 ghost use Rattle.whole.specs.Checks.{wholeOk};
@@ -18,8 +19,8 @@ pub enum Passage {
 // Whether the picture passes every test: the pages, the desk by itself, the locks.
 fn passes(pages: &[u8], desk: &[u8]) -> bool
     requires { ⌜ Bytes (now pages) ⌝ }
-    requires { ⌜ length (now pages) ≡ 32768 ⌝ }
-    requires { ⌜ length (now desk) ≡ 4672 ⌝ }
+    requires { ⌜ length (now pages) ≡ pagesSize ⌝ }
+    requires { ⌜ length (now desk) ≡ deskSize ⌝ }
     ensures { λ r. ⌜ r ≡ wholeOk (now (pages .entry)) (now (desk .entry)) ⌝ }
 {
     if !whole_pages::are_pages(pages) {
@@ -43,8 +44,8 @@ fn first_byte(s: &[u8]) -> u8
 
 // Whether the picture is whole: yes exactly when it is. For any bytes of the two lengths.
 pub fn is_whole(pages: &[u8], desk: &[u8]) -> bool
-    requires { ⌜ length (now pages) ≡ 32768 ⌝ }
-    requires { ⌜ length (now desk) ≡ 4672 ⌝ }
+    requires { ⌜ length (now pages) ≡ pagesSize ⌝ }
+    requires { ⌜ length (now desk) ≡ deskSize ⌝ }
     ensures { λ r. ⌜ Judged (now (pages .entry)) (now (desk .entry)) r ⌝ }
 {
     let _p = first_byte(pages);

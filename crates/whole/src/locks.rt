@@ -4,12 +4,15 @@ ghost use mathlib.Core.Path.{_≡_};
 ghost use mathlib.Core.Bool.{true};
 ghost use Prim.Native.Nat.{_<_, _≤_, _+_, _*_, _-_};
 ghost use lib.ListN.{length};
+ghost use Rattle.limits.specs.Limits.{locksMost, pagesMost, pagesSize, leafMost, deskSize};
 ghost use Rattle.lists.specs.Lists.{tab, all, any, pairs};
 ghost use Rattle.pages.specs.Layout.{countOf, entryAt, entriesOf};
 ghost use Rattle.index.specs.Pictures.{pageAt};
 ghost use Rattle.tables.specs.Layout.{slotAt, slotsOf, bookSlot};
 ghost use Rattle.whole.specs.Checks.{slotTogether, slotHasX, slotHolds, entryHeld, hasKey, findAt, ownersAt, slotNamed, locksOk, Fine};
 use entries::Key;
+use limits::LOCKS;
+use limits::PAGE_SIZE;
 use tables::Mode;
 use tables::Slot;
 use tables::locks::slot_at;
@@ -32,9 +35,9 @@ fn go_together(a: Slot, b: Slot) -> bool
 
 // Whether slot i goes together with slot j.
 pub fn stand_together(d: &[u8], i: usize, j: usize) -> bool
-    requires { ⌜ length (now d) ≡ 4672 ⌝ }
-    requires { ⌜ i < 256 ⌝ }
-    requires { ⌜ j < 256 ⌝ }
+    requires { ⌜ length (now d) ≡ deskSize ⌝ }
+    requires { ⌜ i < locksMost ⌝ }
+    requires { ⌜ j < locksMost ⌝ }
     ensures { λ r. ⌜ r ≡ slotTogether (slotAt (now (d .entry)) i) (slotAt (now (d .entry)) j) ⌝ }
 {
     go_together(slot_at(d, i), slot_at(d, j))
@@ -42,15 +45,15 @@ pub fn stand_together(d: &[u8], i: usize, j: usize) -> bool
 
 // Whether slot i goes together with every later one. Nothing is looked at where it is free.
 fn stands_with_later(d: &[u8], i: usize) -> bool
-    requires { ⌜ length (now d) ≡ 4672 ⌝ }
-    requires { ⌜ i < 256 ⌝ }
-    ensures { λ r. ⌜ r ≡ all (slotTogether (slotAt (now (d .entry)) i)) (tab (256 - (i + 1)) (i + 1) (slotAt (now (d .entry)))) ⌝ }
+    requires { ⌜ length (now d) ≡ deskSize ⌝ }
+    requires { ⌜ i < locksMost ⌝ }
+    ensures { λ r. ⌜ r ≡ all (slotTogether (slotAt (now (d .entry)) i)) (tab (locksMost - (i + 1)) (i + 1) (slotAt (now (d .entry)))) ⌝ }
 {
     if slot_at(d, i).is_free() {
         return true;
     }
     let mut j = i + 1;
-    while j < 256 {
+    while j < LOCKS {
         if !stand_together(d, i, j) {
             return false;
         }
@@ -61,11 +64,11 @@ fn stands_with_later(d: &[u8], i: usize) -> bool
 
 // Whether all locks go together: "compatible, one per holder and name".
 fn are_together(d: &[u8]) -> bool
-    requires { ⌜ length (now d) ≡ 4672 ⌝ }
+    requires { ⌜ length (now d) ≡ deskSize ⌝ }
     ensures { λ r. ⌜ r ≡ pairs slotTogether (slotsOf (now (d .entry))) ⌝ }
 {
     let mut i: usize = 0;
-    while i < 256 {
+    while i < LOCKS {
         if !stands_with_later(d, i) {
             return false;
         }
@@ -90,8 +93,8 @@ fn has_x(a: Slot) -> bool
 
 // Whether slot i is t's X on a key.
 pub fn is_x_of(d: &[u8], i: usize, t: u16, key: Key) -> bool
-    requires { ⌜ length (now d) ≡ 4672 ⌝ }
-    requires { ⌜ i < 256 ⌝ }
+    requires { ⌜ length (now d) ≡ deskSize ⌝ }
+    requires { ⌜ i < locksMost ⌝ }
     ensures { λ r. ⌜ r ≡ slotHolds t (key .0) (slotAt (now (d .entry)) i) ⌝ }
 {
     let s = slot_at(d, i);
@@ -100,11 +103,11 @@ pub fn is_x_of(d: &[u8], i: usize, t: u16, key: Key) -> bool
 
 // Whether t holds X on a key.
 fn holds_x(d: &[u8], t: u16, key: Key) -> bool
-    requires { ⌜ length (now d) ≡ 4672 ⌝ }
+    requires { ⌜ length (now d) ≡ deskSize ⌝ }
     ensures { λ r. ⌜ r ≡ any (slotHolds t (key .0)) (slotsOf (now (d .entry))) ⌝ }
 {
     let mut i: usize = 0;
-    while i < 256 {
+    while i < LOCKS {
         if is_x_of(d, i, t, key) {
             return true;
         }
@@ -115,14 +118,14 @@ fn holds_x(d: &[u8], t: u16, key: Key) -> bool
 
 // Whether the entry at a place of page q has no owner, or one that holds X on it.
 fn is_held(pages: &[u8], d: &[u8], q: usize, i: usize) -> bool
-    requires { ⌜ length (now pages) ≡ 32768 ⌝ }
-    requires { ⌜ length (now d) ≡ 4672 ⌝ }
-    requires { ⌜ q < 64 ⌝ }
-    requires { ⌜ i < 24 ⌝ }
+    requires { ⌜ length (now pages) ≡ pagesSize ⌝ }
+    requires { ⌜ length (now d) ≡ deskSize ⌝ }
+    requires { ⌜ q < pagesMost ⌝ }
+    requires { ⌜ i < leafMost ⌝ }
     ensures { λ r. ⌜ r ≡ entryHeld (now (d .entry)) (entryAt (pageAt (now (pages .entry)) q) i) ⌝ }
 {
-    let a = 512 * q;
-    let e = pages::leaf::entry_at(&pages[a..a + 512], i);
+    let a = PAGE_SIZE * q;
+    let e = pages::leaf::entry_at(&pages[a..a + PAGE_SIZE], i);
     let key = e.key;
     if e.owner == 0 {
         return true;
@@ -132,10 +135,10 @@ fn is_held(pages: &[u8], d: &[u8], q: usize, i: usize) -> bool
 
 // The same of every entry of leaf q.
 fn are_held(pages: &[u8], d: &[u8], q: usize) -> bool
-    requires { ⌜ length (now pages) ≡ 32768 ⌝ }
-    requires { ⌜ length (now d) ≡ 4672 ⌝ }
-    requires { ⌜ q < 64 ⌝ }
-    requires { ⌜ countOf (pageAt (now pages) q) ≤ 24 ⌝ }
+    requires { ⌜ length (now pages) ≡ pagesSize ⌝ }
+    requires { ⌜ length (now d) ≡ deskSize ⌝ }
+    requires { ⌜ q < pagesMost ⌝ }
+    requires { ⌜ countOf (pageAt (now pages) q) ≤ leafMost ⌝ }
     ensures { λ r. ⌜ r ≡ all (entryHeld (now (d .entry))) (entriesOf (pageAt (now (pages .entry)) q)) ⌝ }
 {
     let n = index::count_at(pages, q);
@@ -152,7 +155,7 @@ fn are_held(pages: &[u8], d: &[u8], q: usize) -> bool
 // The same of every entry of the tree of a level from page q down.
 fn owners_hold(pages: &[u8], d: &[u8], level: usize, q: usize) -> bool
     requires { ⌜ Fine level (now pages) q ⌝ }
-    requires { ⌜ length (now d) ≡ 4672 ⌝ }
+    requires { ⌜ length (now d) ≡ deskSize ⌝ }
     ensures { λ r. ⌜ r ≡ ownersAt level (now (pages .entry)) (now (d .entry)) q ⌝ }
 {
     if level == 0 {
@@ -172,9 +175,9 @@ fn owners_hold(pages: &[u8], d: &[u8], level: usize, q: usize) -> bool
 
 // Whether leaf q has an entry with a key.
 fn has_entry(pages: &[u8], q: usize, key: Key) -> bool
-    requires { ⌜ length (now pages) ≡ 32768 ⌝ }
-    requires { ⌜ q < 64 ⌝ }
-    requires { ⌜ countOf (pageAt (now pages) q) ≤ 24 ⌝ }
+    requires { ⌜ length (now pages) ≡ pagesSize ⌝ }
+    requires { ⌜ q < pagesMost ⌝ }
+    requires { ⌜ countOf (pageAt (now pages) q) ≤ leafMost ⌝ }
     ensures { λ r. ⌜ r ≡ any (hasKey (key .0)) (entriesOf (pageAt (now (pages .entry)) q)) ⌝ }
 {
     let n = index::count_at(pages, q);
@@ -190,13 +193,13 @@ fn has_entry(pages: &[u8], q: usize, key: Key) -> bool
 
 // Whether the entry at a place of leaf q has a key.
 fn is_at(pages: &[u8], q: usize, i: usize, key: Key) -> bool
-    requires { ⌜ length (now pages) ≡ 32768 ⌝ }
-    requires { ⌜ q < 64 ⌝ }
-    requires { ⌜ i < 24 ⌝ }
+    requires { ⌜ length (now pages) ≡ pagesSize ⌝ }
+    requires { ⌜ q < pagesMost ⌝ }
+    requires { ⌜ i < leafMost ⌝ }
     ensures { λ r. ⌜ r ≡ hasKey (key .0) (entryAt (pageAt (now (pages .entry)) q) i) ⌝ }
 {
-    let a = 512 * q;
-    let k = pages::leaf::key_at(&pages[a..a + 512], i);
+    let a = PAGE_SIZE * q;
+    let k = pages::leaf::key_at(&pages[a..a + PAGE_SIZE], i);
     k.0 == key.0
 }
 
@@ -223,8 +226,8 @@ fn has_key(pages: &[u8], level: usize, q: usize, key: Key) -> bool
 // Whether slot i is free, or its lock is on the end or on an entry.
 fn is_named(pages: &[u8], d: &[u8], level: usize, root: usize, i: usize) -> bool
     requires { ⌜ Fine level (now pages) root ⌝ }
-    requires { ⌜ length (now d) ≡ 4672 ⌝ }
-    requires { ⌜ i < 256 ⌝ }
+    requires { ⌜ length (now d) ≡ deskSize ⌝ }
+    requires { ⌜ i < locksMost ⌝ }
     ensures { λ r. ⌜ r ≡ slotNamed level (now (pages .entry)) root (slotAt (now (d .entry)) i) ⌝ }
 {
     let s = slot_at(d, i);
@@ -241,11 +244,11 @@ fn is_named(pages: &[u8], d: &[u8], level: usize, root: usize, i: usize) -> bool
 // The same of every slot: "locks only on entries or the end".
 fn are_named(pages: &[u8], d: &[u8], level: usize, root: usize) -> bool
     requires { ⌜ Fine level (now pages) root ⌝ }
-    requires { ⌜ length (now d) ≡ 4672 ⌝ }
+    requires { ⌜ length (now d) ≡ deskSize ⌝ }
     ensures { λ r. ⌜ r ≡ all (slotNamed level (now (pages .entry)) root) (slotsOf (now (d .entry))) ⌝ }
 {
     let mut i: usize = 0;
-    while i < 256 {
+    while i < LOCKS {
         if !is_named(pages, d, level, root, i) {
             return false;
         }
@@ -257,7 +260,7 @@ fn are_named(pages: &[u8], d: &[u8], level: usize, root: usize) -> bool
 // Whether the locks are in order against one another and against the entries of the tree from its root down.
 pub fn are_locks(pages: &[u8], d: &[u8], level: usize, root: usize) -> bool
     requires { ⌜ Fine level (now pages) root ⌝ }
-    requires { ⌜ length (now d) ≡ 4672 ⌝ }
+    requires { ⌜ length (now d) ≡ deskSize ⌝ }
     ensures { λ r. ⌜ r ≡ locksOk level (now (pages .entry)) (now (d .entry)) root ⌝ }
 {
     if !are_together(d) {

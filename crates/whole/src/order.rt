@@ -2,9 +2,10 @@
 // promised of the order (`sorting`); so it is looked at first. Where it is none, the plain tests tell (`locks`).
 ghost use mathlib.Core.Path.{_≡_};
 ghost use mathlib.Core.Bool.{true};
-ghost use Prim.Native.Nat.{ℕ, _<_, _≤_, _+_, _-_};
+ghost use Prim.Native.Nat.{ℕ, _*_, _<_, _≤_, _+_, _-_};
 ghost use lib.Dec.{leb};
 ghost use lib.ListN.{length};
+ghost use Rattle.limits.specs.Limits.{locksMost, pagesMost, pagesSize, leafMost, slotSize, slotsPlace, deskSize};
 ghost use Rattle.lists.specs.Lists.{tab, all, any};
 ghost use Rattle.numbers.specs.Numbers.{zeroAt};
 ghost use Rattle.trees.specs.Trees.{flat};
@@ -16,15 +17,17 @@ ghost use Rattle.whole.specs.Orders.{placed, comesFirst, goesUp, clashes
 use super::Passage;
 use super::locks;
 use entries::Key;
+use limits::LOCKS;
+use limits::PAGE_SIZE;
 use sorting::number_in;
 use tables::Slot;
 use tables::locks::slot_at;
 
 // The slot at a place of the order.
 fn slot_in(d: &[u8], order: &[u8], a: usize) -> Slot
-    requires { ⌜ length (now d) ≡ 4672 ⌝ }
-    requires { ⌜ length (now order) ≡ 256 ⌝ }
-    requires { ⌜ a < 256 ⌝ }
+    requires { ⌜ length (now d) ≡ deskSize ⌝ }
+    requires { ⌜ length (now order) ≡ locksMost ⌝ }
+    requires { ⌜ a < locksMost ⌝ }
     ensures { λ r. ⌜ bookSlot r ≡ placed (now (d .entry)) (now (order .entry)) a ⌝ }
 {
     slot_at(d, number_in(order, a))
@@ -49,9 +52,9 @@ fn comes_first(a: Slot, b: Slot) -> bool
 
 // The first place, from 1 on, whose slot does not come after the one before it; m or more where the first m places go up.
 fn climb(d: &[u8], order: &[u8], m: usize) -> usize
-    requires { ⌜ length (now d) ≡ 4672 ⌝ }
-    requires { ⌜ length (now order) ≡ 256 ⌝ }
-    requires { ⌜ m ≤ 256 ⌝ }
+    requires { ⌜ length (now d) ≡ deskSize ⌝ }
+    requires { ⌜ length (now order) ≡ locksMost ⌝ }
+    requires { ⌜ m ≤ locksMost ⌝ }
     ensures { λ r. ⌜ (1 ≤ r) × (leb m r ≡ all (goesUp (now (d .entry)) (now (order .entry))) (tab (m - 1) 1 (λ a. a))) ⌝ }
 {
     let mut last = slot_in(d, order, 0);
@@ -69,10 +72,10 @@ fn climb(d: &[u8], order: &[u8], m: usize) -> usize
 
 // Whether a place and the one before it have different slots that do not go together.
 fn is_clash(d: &[u8], order: &[u8], a: usize) -> bool
-    requires { ⌜ length (now d) ≡ 4672 ⌝ }
-    requires { ⌜ length (now order) ≡ 256 ⌝ }
+    requires { ⌜ length (now d) ≡ deskSize ⌝ }
+    requires { ⌜ length (now order) ≡ locksMost ⌝ }
     requires { ⌜ 1 ≤ a ⌝ }
-    requires { ⌜ a < 256 ⌝ }
+    requires { ⌜ a < locksMost ⌝ }
     ensures { λ r. ⌜ r ≡ clashes (now (d .entry)) (now (order .entry)) a ⌝ }
 {
     let i = number_in(order, a - 1);
@@ -82,8 +85,8 @@ fn is_clash(d: &[u8], order: &[u8], a: usize) -> bool
 
 // Whether the first of m places, if there is one, has a lock.
 fn has_first(d: &[u8], order: &[u8], m: usize) -> bool
-    requires { ⌜ length (now d) ≡ 4672 ⌝ }
-    requires { ⌜ length (now order) ≡ 256 ⌝ }
+    requires { ⌜ length (now d) ≡ deskSize ⌝ }
+    requires { ⌜ length (now order) ≡ locksMost ⌝ }
     ensures { λ r. ⌜ r ≡ begins (now (d .entry)) (now (order .entry)) m ⌝ }
 {
     let first = slot_in(d, order, 0);
@@ -92,10 +95,10 @@ fn has_first(d: &[u8], order: &[u8], m: usize) -> bool
 
 // Whether slot i is free, or stands among the first m at the place that is noted for it.
 fn has_place(d: &[u8], order: &[u8], places: &[u8], m: usize, i: usize) -> bool
-    requires { ⌜ length (now d) ≡ 4672 ⌝ }
-    requires { ⌜ length (now order) ≡ 256 ⌝ }
-    requires { ⌜ length (now places) ≡ 256 ⌝ }
-    requires { ⌜ i < 256 ⌝ }
+    requires { ⌜ length (now d) ≡ deskSize ⌝ }
+    requires { ⌜ length (now order) ≡ locksMost ⌝ }
+    requires { ⌜ length (now places) ≡ locksMost ⌝ }
+    requires { ⌜ i < locksMost ⌝ }
     ensures { λ r. ⌜ r ≡ hasPlace (now (d .entry)) (now (order .entry)) (now (places .entry)) m i ⌝ }
 {
     let free = slot_at(d, i).is_free();
@@ -106,13 +109,13 @@ fn has_place(d: &[u8], order: &[u8], places: &[u8], m: usize, i: usize) -> bool
 
 // The same of every slot: none in use is left out of the order.
 fn have_places(d: &[u8], order: &[u8], places: &[u8], m: usize) -> bool
-    requires { ⌜ length (now d) ≡ 4672 ⌝ }
-    requires { ⌜ length (now order) ≡ 256 ⌝ }
-    requires { ⌜ length (now places) ≡ 256 ⌝ }
-    ensures { λ r. ⌜ r ≡ all (hasPlace (now (d .entry)) (now (order .entry)) (now (places .entry)) m) (tab 256 0 (λ i. i)) ⌝ }
+    requires { ⌜ length (now d) ≡ deskSize ⌝ }
+    requires { ⌜ length (now order) ≡ locksMost ⌝ }
+    requires { ⌜ length (now places) ≡ locksMost ⌝ }
+    ensures { λ r. ⌜ r ≡ all (hasPlace (now (d .entry)) (now (order .entry)) (now (places .entry)) m) (tab locksMost 0 (λ i. i)) ⌝ }
 {
     let mut i: usize = 0;
-    while i < 256 {
+    while i < LOCKS {
         if !has_place(d, order, places, m, i) {
             return false;
         }
@@ -134,9 +137,9 @@ fn is_on(a: Slot, name: Key) -> bool
 
 // Whether the lock at a place is on a name.
 fn is_on_at(d: &[u8], order: &[u8], a: usize, name: Key) -> bool
-    requires { ⌜ length (now d) ≡ 4672 ⌝ }
-    requires { ⌜ length (now order) ≡ 256 ⌝ }
-    requires { ⌜ a < 256 ⌝ }
+    requires { ⌜ length (now d) ≡ deskSize ⌝ }
+    requires { ⌜ length (now order) ≡ locksMost ⌝ }
+    requires { ⌜ a < locksMost ⌝ }
     ensures { λ r. ⌜ r ≡ slotOn (name .0) (placed (now (d .entry)) (now (order .entry)) a) ⌝ }
 {
     is_on(slot_in(d, order, a), name)
@@ -144,9 +147,9 @@ fn is_on_at(d: &[u8], order: &[u8], a: usize, name: Key) -> bool
 
 // Passes the locks on a name from place k on: the first place, of m, with another.
 fn pass_name(d: &[u8], order: &[u8], m: usize, k: usize, name: Key) -> usize
-    requires { ⌜ length (now d) ≡ 4672 ⌝ }
-    requires { ⌜ length (now order) ≡ 256 ⌝ }
-    requires { ⌜ m ≤ 256 ⌝ }
+    requires { ⌜ length (now d) ≡ deskSize ⌝ }
+    requires { ⌜ length (now order) ≡ locksMost ⌝ }
+    requires { ⌜ m ≤ locksMost ⌝ }
     requires { ⌜ k ≤ m ⌝ }
     ensures { λ r. ⌜ r ≡ stretch (placed (now (d .entry)) (now (order .entry))) m (name .0) k ⌝ }
 {
@@ -162,9 +165,9 @@ fn pass_name(d: &[u8], order: &[u8], m: usize, k: usize, name: Key) -> usize
 
 // Whether the lock at a place is t's X on a key.
 fn is_x_at(d: &[u8], order: &[u8], a: usize, t: u16, key: Key) -> bool
-    requires { ⌜ length (now d) ≡ 4672 ⌝ }
-    requires { ⌜ length (now order) ≡ 256 ⌝ }
-    requires { ⌜ a < 256 ⌝ }
+    requires { ⌜ length (now d) ≡ deskSize ⌝ }
+    requires { ⌜ length (now order) ≡ locksMost ⌝ }
+    requires { ⌜ a < locksMost ⌝ }
     ensures { λ r. ⌜ r ≡ slotHolds t (key .0) (placed (now (d .entry)) (now (order .entry)) a) ⌝ }
 {
     locks::is_x_of(d, number_in(order, a), t, key)
@@ -172,9 +175,9 @@ fn is_x_at(d: &[u8], order: &[u8], a: usize, t: u16, key: Key) -> bool
 
 // Whether one of the locks from place k to place j is t's X on a key.
 fn holds_x_among(d: &[u8], order: &[u8], k: usize, j: usize, t: u16, key: Key) -> bool
-    requires { ⌜ length (now d) ≡ 4672 ⌝ }
-    requires { ⌜ length (now order) ≡ 256 ⌝ }
-    requires { ⌜ j ≤ 256 ⌝ }
+    requires { ⌜ length (now d) ≡ deskSize ⌝ }
+    requires { ⌜ length (now order) ≡ locksMost ⌝ }
+    requires { ⌜ j ≤ locksMost ⌝ }
     ensures { λ r. ⌜ r ≡ any (slotHolds t (key .0)) (tab (j - k) k (placed (now (d .entry)) (now (order .entry)))) ⌝ }
 {
     let mut a = k;
@@ -197,17 +200,17 @@ fn pass_entry(
     i: usize,
     k: usize,
 ) -> Passage
-    requires { ⌜ length (now pages) ≡ 32768 ⌝ }
-    requires { ⌜ length (now d) ≡ 4672 ⌝ }
-    requires { ⌜ length (now order) ≡ 256 ⌝ }
-    requires { ⌜ m ≤ 256 ⌝ }
-    requires { ⌜ q < 64 ⌝ }
-    requires { ⌜ i < 24 ⌝ }
+    requires { ⌜ length (now pages) ≡ pagesSize ⌝ }
+    requires { ⌜ length (now d) ≡ deskSize ⌝ }
+    requires { ⌜ length (now order) ≡ locksMost ⌝ }
+    requires { ⌜ m ≤ locksMost ⌝ }
+    requires { ⌜ q < pagesMost ⌝ }
+    requires { ⌜ i < leafMost ⌝ }
     requires { ⌜ k ≤ m ⌝ }
     ensures { λ r. ⌜ r ≡ pastEntry (placed (now (d .entry)) (now (order .entry))) m (entryAt (pageAt (now (pages .entry)) q) i) k ⌝ }
 {
-    let a = 512 * q;
-    let e = pages::leaf::entry_at(&pages[a..a + 512], i);
+    let a = PAGE_SIZE * q;
+    let e = pages::leaf::entry_at(&pages[a..a + PAGE_SIZE], i);
     let key = e.key;
     let j = pass_name(d, order, m, k, key);
     if e.owner == 0 {
@@ -221,12 +224,12 @@ fn pass_entry(
 
 // Passes the entries of leaf q, from place k of the order on.
 fn pass_leaf(pages: &[u8], d: &[u8], order: &[u8], m: usize, q: usize, k: usize) -> Passage
-    requires { ⌜ length (now pages) ≡ 32768 ⌝ }
-    requires { ⌜ length (now d) ≡ 4672 ⌝ }
-    requires { ⌜ length (now order) ≡ 256 ⌝ }
-    requires { ⌜ m ≤ 256 ⌝ }
-    requires { ⌜ q < 64 ⌝ }
-    requires { ⌜ countOf (pageAt (now pages) q) ≤ 24 ⌝ }
+    requires { ⌜ length (now pages) ≡ pagesSize ⌝ }
+    requires { ⌜ length (now d) ≡ deskSize ⌝ }
+    requires { ⌜ length (now order) ≡ locksMost ⌝ }
+    requires { ⌜ m ≤ locksMost ⌝ }
+    requires { ⌜ q < pagesMost ⌝ }
+    requires { ⌜ countOf (pageAt (now pages) q) ≤ leafMost ⌝ }
     requires { ⌜ k ≤ m ⌝ }
     ensures { λ r. ⌜ r ≡ past (placed (now (d .entry)) (now (order .entry))) m (entriesOf (pageAt (now (pages .entry)) q)) k ⌝ }
 {
@@ -255,9 +258,9 @@ fn pass_tree(
     k: usize,
 ) -> Passage
     requires { ⌜ Fine level (now pages) q ⌝ }
-    requires { ⌜ length (now d) ≡ 4672 ⌝ }
-    requires { ⌜ length (now order) ≡ 256 ⌝ }
-    requires { ⌜ m ≤ 256 ⌝ }
+    requires { ⌜ length (now d) ≡ deskSize ⌝ }
+    requires { ⌜ length (now order) ≡ locksMost ⌝ }
+    requires { ⌜ m ≤ locksMost ⌝ }
     requires { ⌜ k ≤ m ⌝ }
     ensures { λ r. ⌜ r ≡ past (placed (now (d .entry)) (now (order .entry))) m (flat ℕ Item level (treeOf level (now (pages .entry)) q)) k ⌝ }
 {
@@ -282,9 +285,9 @@ fn pass_tree(
 // Whether the walk over the tree passes every lock but those on the end.
 fn pass_all(pages: &[u8], d: &[u8], order: &[u8], m: usize, level: usize, root: usize) -> bool
     requires { ⌜ Fine level (now pages) root ⌝ }
-    requires { ⌜ length (now d) ≡ 4672 ⌝ }
-    requires { ⌜ length (now order) ≡ 256 ⌝ }
-    requires { ⌜ m ≤ 256 ⌝ }
+    requires { ⌜ length (now d) ≡ deskSize ⌝ }
+    requires { ⌜ length (now order) ≡ locksMost ⌝ }
+    requires { ⌜ m ≤ locksMost ⌝ }
     ensures { λ r. ⌜ r ≡ walked level (now (pages .entry)) (now (d .entry)) (now (order .entry)) m root ⌝ }
 {
     let passage = pass_tree(pages, d, order, m, level, root, 0);
@@ -297,10 +300,10 @@ fn pass_all(pages: &[u8], d: &[u8], order: &[u8], m: usize, level: usize, root: 
 // The same as `stand_in_order`, where the order does not go up at a place: its locks clash, or it is no order.
 fn stand_apart(pages: &[u8], d: &[u8], order: &[u8], a: usize, level: usize, root: usize) -> bool
     requires { ⌜ Fine level (now pages) root ⌝ }
-    requires { ⌜ length (now d) ≡ 4672 ⌝ }
-    requires { ⌜ length (now order) ≡ 256 ⌝ }
+    requires { ⌜ length (now d) ≡ deskSize ⌝ }
+    requires { ⌜ length (now order) ≡ locksMost ⌝ }
     requires { ⌜ 1 ≤ a ⌝ }
-    requires { ⌜ a < 256 ⌝ }
+    requires { ⌜ a < locksMost ⌝ }
     ensures { λ r. ⌜ r ≡ locksOk level (now (pages .entry)) (now (d .entry)) root ⌝ }
 {
     if is_clash(d, order, a) {
@@ -312,11 +315,11 @@ fn stand_apart(pages: &[u8], d: &[u8], order: &[u8], a: usize, level: usize, roo
 // The same where some slot is in use.
 fn stand_sorted(pages: &[u8], d: &[u8], level: usize, root: usize) -> bool
     requires { ⌜ Fine level (now pages) root ⌝ }
-    requires { ⌜ length (now d) ≡ 4672 ⌝ }
+    requires { ⌜ length (now d) ≡ deskSize ⌝ }
     ensures { λ r. ⌜ r ≡ locksOk level (now (pages .entry)) (now (d .entry)) root ⌝ }
 {
-    let mut order = [0u8; 256];
-    let mut places = [0u8; 256];
+    let mut order = [0u8; LOCKS];
+    let mut places = [0u8; LOCKS];
     let m = sorting::put_in_order(d, &mut order, &mut places);
     let a = climb(d, &order, m);
     if a < m {
@@ -331,18 +334,18 @@ fn stand_sorted(pages: &[u8], d: &[u8], level: usize, root: usize) -> bool
 // The same where none is: only owners are left to look for.
 fn stand_free(pages: &[u8], d: &[u8], level: usize, root: usize) -> bool
     requires { ⌜ Fine level (now pages) root ⌝ }
-    requires { ⌜ length (now d) ≡ 4672 ⌝ }
-    requires { ⌜ zeroAt 4096 576 (now d) ≡ true ⌝ }
+    requires { ⌜ length (now d) ≡ deskSize ⌝ }
+    requires { ⌜ zeroAt (slotSize * locksMost) slotsPlace (now d) ≡ true ⌝ }
     ensures { λ r. ⌜ r ≡ locksOk level (now (pages .entry)) (now (d .entry)) root ⌝ }
 {
-    let order = [0u8; 256];
+    let order = [0u8; LOCKS];
     pass_all(pages, d, &order, 0, level, root)
 }
 
 // Whether the locks are in order against one another and against the entries of the tree from its root down.
 pub fn stand_in_order(pages: &[u8], d: &[u8], level: usize, root: usize) -> bool
     requires { ⌜ Fine level (now pages) root ⌝ }
-    requires { ⌜ length (now d) ≡ 4672 ⌝ }
+    requires { ⌜ length (now d) ≡ deskSize ⌝ }
     ensures { λ r. ⌜ r ≡ locksOk level (now (pages .entry)) (now (d .entry)) root ⌝ }
 {
     if tables::locks::are_zero(d) {

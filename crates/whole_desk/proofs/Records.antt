@@ -11,6 +11,7 @@ use native.Mathlib.Omega.{arith}
 use borrow.Author.Tests.{eqb-true, eq-eqb, ne-eqb, eqb-false, leb-true, le-leb, not-true}
 use lib.Dec.{eqb, leb, lit≤}
 use lib.ListN.{getD, List·getD-eq-default}
+use Rattle.limits.specs.Limits.{transactionsMost}
 use Rattle.lists.specs.Lists.{tab, first, times}
 use Rattle.lists.proofs.Tests.{both, and-both, either, or-left, or-right}
 use Rattle.lists.proofs.Tables.{getD-tab}
@@ -27,18 +28,18 @@ use Rattle.whole_desk.specs.Checks.{formOk, plainOk, listed, recordOk}
 use Rattle.whole_desk.proofs.Queued.{first-none, first-own}
 
 -- ---- marks
-pub mark-at : (d : List ℕ) (t : ℕ) → 1 ≤ t → t ≤ 16 → getD (marksOf d) t idle ≡ markIn (numberAt 2 d (recordPlace t))
+pub mark-at : (d : List ℕ) (t : ℕ) → 1 ≤ t → t ≤ transactionsMost → getD (marksOf d) t idle ≡ markIn (numberAt 2 d (recordPlace t))
 unfolding marksOf
 mark-at d zero h l = absurd (omega arith)
 mark-at d (suc t) h l =
     let e : 1 + t ≡ suc t = omega arith in
-    getD-tab 16 1 (λ k. markIn (numberAt 2 d (recordPlace k))) t idle (omega arith) ∙ ap (λ k. markIn (numberAt 2 d (recordPlace k))) e
+    getD-tab transactionsMost 1 (λ k. markIn (numberAt 2 d (recordPlace k))) t idle (omega arith) ∙ ap (λ k. markIn (numberAt 2 d (recordPlace k))) e
 
-pub mark-only : (d : List ℕ) (t : ℕ) → D.isRunning (getD (marksOf d) t idle) ≡ true → (1 ≤ t) × (t ≤ 16)
+pub mark-only : (d : List ℕ) (t : ℕ) → D.isRunning (getD (marksOf d) t idle) ≡ true → (1 ≤ t) × (t ≤ transactionsMost)
 unfolding marksOf
 mark-only d zero h = absurd (false≢true h)
 mark-only d (suc t) h =
-    elim (decLt t 16) [
+    elim (decLt t transactionsMost) [
       | yes l ↦ (omega arith, omega arith)
       | no l ↦ absurd (false≢true (sym (ap D.isRunning (List·getD-eq-default (marksOf d) idle {n = suc t} (omega (arith, length-marks d)))) ∙ h))
     ]
@@ -124,7 +125,7 @@ fields-split (insert x y) k r lo hi f e = (cc, cc)
 fields-split (delete x) k r lo hi f e = (cc, cc)
 
 -- ---- the record
-module _ (d : List ℕ) (t : ℕ) (low : 1 ≤ t) (high : t ≤ 16) where
+module _ (d : List ℕ) (t : ℕ) (low : 1 ≤ t) (high : t ≤ transactionsMost) where
   abbrev at : ℕ
   at = recordPlace t
 

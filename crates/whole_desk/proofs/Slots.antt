@@ -10,6 +10,7 @@ use native.Mathlib.Omega.{arith}
 use borrow.Author.Tests.{eqb-true, eq-eqb, leb-true, le-leb, eqb-false, ne-eqb}
 use lib.Dec.{eqb, leb}
 use lib.ListN.{getD}
+use Rattle.limits.specs.Limits.{transactionsMost, locksMost}
 use Rattle.lists.specs.Lists.{tab, all, In}
 use Rattle.lists.proofs.Tests.{both, and-both, or-left, or-right}
 use Rattle.lists.proofs.Tables.{all-tab}
@@ -42,26 +43,26 @@ module _ (d : List ℕ) (k h m f : ℕ) where
   pub fields-row : fieldsOk d k h m f ≡ true → isRow k h m f ≡ true
   fields-row = go (eqb h 0)
     where
-      go : (b : Bool) → cond b ((eqb k 0 && eqb m 0) && eqb f 0) (leb h 16 && ((isRunning d h && (eqb m 1 || eqb m 2)) && eqb f 0)) ≡ true
+      go : (b : Bool) → cond b ((eqb k 0 && eqb m 0) && eqb f 0) (leb h transactionsMost && ((isRunning d h && (eqb m 1 || eqb m 2)) && eqb f 0)) ≡ true
           → cond b (eqb k 0 && (eqb m 0 && eqb f 0)) (isMode m && eqb f 0) ≡ true
       go true e =
           let a = both (eqb k 0 && eqb m 0) (eqb f 0) e in
           let b = both (eqb k 0) (eqb m 0) (a .0) in
           and-both (eqb k 0) (eqb m 0 && eqb f 0) (b .0) (and-both (eqb m 0) (eqb f 0) (b .1) (a .1))
       go false e =
-          let a = both (leb h 16) ((isRunning d h && (eqb m 1 || eqb m 2)) && eqb f 0) e in
+          let a = both (leb h transactionsMost) ((isRunning d h && (eqb m 1 || eqb m 2)) && eqb f 0) e in
           let b = both (isRunning d h && (eqb m 1 || eqb m 2)) (eqb f 0) (a .1) in
           and-both (isMode m) (eqb f 0) (both (isRunning d h) (eqb m 1 || eqb m 2) (b .0) .1) (b .1)
 
-  pub fields-runs : fieldsOk d k h m f ≡ true → (h ≡ 0 → ⊥) → (h ≤ 16) × (isRunning d h ≡ true)
+  pub fields-runs : fieldsOk d k h m f ≡ true → (h ≡ 0 → ⊥) → (h ≤ transactionsMost) × (isRunning d h ≡ true)
   fields-runs e z = go (eqb h 0) refl e
     where
-      go : (b : Bool) → eqb h 0 ≡ b → cond b ((eqb k 0 && eqb m 0) && eqb f 0) (leb h 16 && ((isRunning d h && (eqb m 1 || eqb m 2)) && eqb f 0)) ≡ true → (h ≤ 16) × (isRunning d h ≡ true)
+      go : (b : Bool) → eqb h 0 ≡ b → cond b ((eqb k 0 && eqb m 0) && eqb f 0) (leb h transactionsMost && ((isRunning d h && (eqb m 1 || eqb m 2)) && eqb f 0)) ≡ true → (h ≤ transactionsMost) × (isRunning d h ≡ true)
       go true q e = absurd (z (eqb-true h 0 q))
       go false q e =
-          let a = both (leb h 16) ((isRunning d h && (eqb m 1 || eqb m 2)) && eqb f 0) e in
+          let a = both (leb h transactionsMost) ((isRunning d h && (eqb m 1 || eqb m 2)) && eqb f 0) e in
           let b = both (isRunning d h && (eqb m 1 || eqb m 2)) (eqb f 0) (a .1) in
-          (leb-true h 16 (a .0), both (isRunning d h) (eqb m 1 || eqb m 2) (b .0) .0)
+          (leb-true h transactionsMost (a .0), both (isRunning d h) (eqb m 1 || eqb m 2) (b .0) .0)
 
   mode-is : m ≡ modeNumber (modeIn m) → (eqb m 1 || eqb m 2) ≡ true
   mode-is e = go (eqb m 2) refl e
@@ -70,18 +71,18 @@ module _ (d : List ℕ) (k h m f : ℕ) where
       go true q e = or-right (eqb m 1) (eqb m 2) q
       go false q e = or-left (eqb m 1) (eqb m 2) (eq-eqb m 1 e)
 
-  pub row-fields : four ≡ slotFields (slotIn four) → ((h ≡ 0 → ⊥) → (h ≤ 16) × (isRunning d h ≡ true)) → fieldsOk d k h m f ≡ true
+  pub row-fields : four ≡ slotFields (slotIn four) → ((h ≡ 0 → ⊥) → (h ≤ transactionsMost) × (isRunning d h ≡ true)) → fieldsOk d k h m f ≡ true
   unfolding slotFields slotIn
   row-fields e r = go (eqb h 0) refl e
     where
       go : (b : Bool) → eqb h 0 ≡ b → four ≡ slotFields (cond b none (some (record { name = nameIn k; holder = h; mode = modeIn m })))
-          → cond b ((eqb k 0 && eqb m 0) && eqb f 0) (leb h 16 && ((isRunning d h && (eqb m 1 || eqb m 2)) && eqb f 0)) ≡ true
+          → cond b ((eqb k 0 && eqb m 0) && eqb f 0) (leb h transactionsMost && ((isRunning d h && (eqb m 1 || eqb m 2)) && eqb f 0)) ≡ true
       go true q e =
           and-both (eqb k 0 && eqb m 0) (eqb f 0)
           (and-both (eqb k 0) (eqb m 0) (eq-eqb k 0 (ap (λ vs. getD vs 0 0) e)) (eq-eqb m 0 (ap (λ vs. getD vs 2 0) e))) (eq-eqb f 0 (ap (λ vs. getD vs 3 0) e))
       go false q e =
           let x = r (eqb-false h 0 q) in
-          and-both (leb h 16) ((isRunning d h && (eqb m 1 || eqb m 2)) && eqb f 0) (le-leb h 16 (x .0))
+          and-both (leb h transactionsMost) ((isRunning d h && (eqb m 1 || eqb m 2)) && eqb f 0) (le-leb h transactionsMost (x .0))
           (and-both (isRunning d h && (eqb m 1 || eqb m 2)) (eqb f 0) (and-both (isRunning d h) (eqb m 1 || eqb m 2) (x .1) (mode-is (ap (λ vs. getD vs 2 0) e))) (eq-eqb f 0 (ap (λ vs. getD vs 3 0) e)))
 
   held-fields : (l : Lock ℕ) → slotIn four ≡ some l → (h ≡ 0 → ⊥) × (l .holder ≡ h)
@@ -104,17 +105,17 @@ module _ (d : List ℕ) where
       sym (slot-back (numberAt 8 d (lockPlace i)) (numberAt 2 d (lockPlace i + 8)) (numberAt 2 d (lockPlace i + 8 + 2)) (numberAt 4 d (lockPlace i + 8 + 2 + 2))
       (fields-row d (numberAt 8 d (lockPlace i)) (numberAt 2 d (lockPlace i + 8)) (numberAt 2 d (lockPlace i + 8 + 2)) (numberAt 4 d (lockPlace i + 8 + 2 + 2)) e))
 
-  pub slot-runs : (i : ℕ) (l : Lock ℕ) → slotOk d i ≡ true → slotAt d i ≡ some l → (1 ≤ l .holder) × (l .holder ≤ 16) × (isRunning d (l .holder) ≡ true)
+  pub slot-runs : (i : ℕ) (l : Lock ℕ) → slotOk d i ≡ true → slotAt d i ≡ some l → (1 ≤ l .holder) × (l .holder ≤ transactionsMost) × (isRunning d (l .holder) ≡ true)
   unfolding slotOk slotAt fieldsAt
   slot-runs i l e q =
       let a = held-fields d (numberAt 8 d (lockPlace i)) (numberAt 2 d (lockPlace i + 8)) (numberAt 2 d (lockPlace i + 8 + 2)) (numberAt 4 d (lockPlace i + 8 + 2 + 2)) l q in
       let b = fields-runs d (numberAt 8 d (lockPlace i)) (numberAt 2 d (lockPlace i + 8)) (numberAt 2 d (lockPlace i + 8 + 2)) (numberAt 4 d (lockPlace i + 8 + 2 + 2)) e (a .0) in
       let z : numberAt 2 d (lockPlace i + 8) ≡ 0 → ⊥ = a .0 in
       let c : l .holder ≡ numberAt 2 d (lockPlace i + 8) = a .1 in
-      let w : numberAt 2 d (lockPlace i + 8) ≤ 16 = b .0 in
+      let w : numberAt 2 d (lockPlace i + 8) ≤ transactionsMost = b .0 in
       (omega arith, omega arith, subst (λ x. isRunning d x ≡ true) (sym c) (b .1))
 
-  pub slot-there-at : (i : ℕ) → at i ≡ slotFields (slotAt d i) → ((l : Lock ℕ) → slotAt d i ≡ some l → (l .holder ≤ 16) × (isRunning d (l .holder) ≡ true)) → slotOk d i ≡ true
+  pub slot-there-at : (i : ℕ) → at i ≡ slotFields (slotAt d i) → ((l : Lock ℕ) → slotAt d i ≡ some l → (l .holder ≤ transactionsMost) × (isRunning d (l .holder) ≡ true)) → slotOk d i ≡ true
   unfolding slotOk slotAt fieldsAt slotIn
   slot-there-at i e r =
       row-fields d (numberAt 8 d (lockPlace i)) (numberAt 2 d (lockPlace i + 8)) (numberAt 2 d (lockPlace i + 8 + 2)) (numberAt 4 d (lockPlace i + 8 + 2 + 2)) e
@@ -122,8 +123,8 @@ module _ (d : List ℕ) where
       (ap (λ b. cond b none (some (record { name = nameIn (numberAt 8 d (lockPlace i)); holder = numberAt 2 d (lockPlace i + 8); mode = modeIn (numberAt 2 d (lockPlace i + 8 + 2)) }))) (ne-eqb (numberAt 2 d (lockPlace i + 8)) 0 z)))
 
   -- all of them
-  pub slots-run : all (slotOk d) (tab 256 0 (λ i. i)) ≡ true → (l : Lock ℕ) → In l (inUse (slotsOf d)) → (1 ≤ l .holder) × (l .holder ≤ 16) × (isRunning d (l .holder) ≡ true)
+  pub slots-run : all (slotOk d) (tab locksMost 0 (λ i. i)) ≡ true → (l : Lock ℕ) → In l (inUse (slotsOf d)) → (1 ≤ l .holder) × (l .holder ≤ transactionsMost) × (isRunning d (l .holder) ≡ true)
   unfolding slotsOf
   slots-run h l m =
-      let x = tab-in 256 0 (slotAt d) (some l) (in-use (slotsOf d) l m) in
-      slot-runs (x .0) l (all-tab (slotOk d) 256 0 (λ i. i) (x .0) h (x .1) (x .2)) (x .3)
+      let x = tab-in locksMost 0 (slotAt d) (some l) (in-use (slotsOf d) l m) in
+      slot-runs (x .0) l (all-tab (slotOk d) locksMost 0 (λ i. i) (x .0) h (x .1) (x .2)) (x .3)

@@ -5,6 +5,7 @@ use mathlib.Core.Bool.{Bool, false, cond, not, _&&_, _||_}
 use mathlib.Core.List.{List}
 use lib.Dec.{eqb, leb}
 use lib.ListN.{getD}
+use Rattle.limits.specs.Limits.{transactionsMost, locksMost, deskHeadSize, queueSize, deskSize}
 use Rattle.lists.specs.Lists.{tab, all}
 use Rattle.numbers.specs.Numbers.{numberAt, fieldsAt, zeroAt}
 use Rattle.sets.specs.declared.Set.{Set}
@@ -19,12 +20,12 @@ use Rattle.whole_pages.specs.Walks.{onlyZero, marks}
 -- the head: length, kind, count, the 26 zeros, and nothing in the places of the queue that are not used
 unfoldable pub headOk : List ℕ → Bool
 headOk d =
-    (((eqb (numberAt 2 d 0) 4672 && eqb (numberAt 2 d 2) 8) && leb (queued d) 16) && zeroAt 26 6 d)
-    && zeroAt (32 - 2 * queued d) (32 + 2 * queued d) d
+    (((eqb (numberAt 2 d 0) deskSize && eqb (numberAt 2 d 2) 8) && leb (queued d) transactionsMost) && zeroAt (deskHeadSize - 6) 6 d)
+    && zeroAt (queueSize - 2 * queued d) (deskHeadSize + 2 * queued d) d
 
 -- the askers, each seen once; nobody, number 0, is set down beforehand, and there is no transaction from 17 on
 unfoldable pub askersIn : List ℕ → Trail
-askersIn d = marks 17 (tab (queued d) 0 (inPlace d)) onlyZero
+askersIn d = marks (transactionsMost + 1) (tab (queued d) 0 (inPlace d)) onlyZero
 
 -- a waiting request by its fields, kind, record, lo and hi: none, a read, an insert or a delete, each with what it does not use zero
 abbrev pub formOk : ℕ → ℕ → ℕ → ℕ → Bool
@@ -47,15 +48,15 @@ recordOk d m t =
 -- a slot: free and zero, or held by one that runs, with a mode
 abbrev pub fieldsOk : List ℕ → ℕ → ℕ → ℕ → ℕ → Bool
 fieldsOk d k h m f =
-    cond (eqb h 0) ((eqb k 0 && eqb m 0) && eqb f 0) (leb h 16 && ((isRunning d h && (eqb m 1 || eqb m 2)) && eqb f 0))
+    cond (eqb h 0) ((eqb k 0 && eqb m 0) && eqb f 0) (leb h transactionsMost && ((isRunning d h && (eqb m 1 || eqb m 2)) && eqb f 0))
 
 unfoldable pub slotOk : List ℕ → ℕ → Bool
 slotOk d i =
     let vs = fieldsAt lockWidths d (lockPlace i) in fieldsOk d (getD vs 0 0) (getD vs 1 0) (getD vs 2 0) (getD vs 3 0)
 
 abbrev pub recordsOk : List ℕ → Trail → Bool
-recordsOk d (Went m) = all (recordOk d m) (tab 16 1 (λ t. t))
+recordsOk d (Went m) = all (recordOk d m) (tab transactionsMost 1 (λ t. t))
 recordsOk d Bad = false
 
 unfoldable pub deskOk : List ℕ → Bool
-deskOk d = (headOk d && recordsOk d (askersIn d)) && all (slotOk d) (tab 256 0 (λ i. i))
+deskOk d = (headOk d && recordsOk d (askersIn d)) && all (slotOk d) (tab locksMost 0 (λ i. i))

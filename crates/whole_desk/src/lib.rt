@@ -17,6 +17,11 @@ use tables::queue;
 use tables::transactions;
 use whole_pages::Trail;
 
+// How many numbers there are with nobody's, 0; and the first number that no transaction has.
+const NUMBERS: usize = limits::TRANSACTIONS + 1;
+
+const END: u16 = limits::LAST_TRANSACTION + 1;
+
 // Whether the head is right: length, kind, a count that fits, zeros behind it and behind the queue.
 fn has_head(d: &[u8]) -> bool
     requires { ⌜ length (now d) ≡ deskSize ⌝ }
@@ -45,7 +50,7 @@ fn askers(d: &[u8]) -> Trail
     let mut i: usize = 0;
     while i < n {
         let t = queue::in_place(d, i) as usize;
-        let marked = whole_pages::mark(m, t, 17);
+        let marked = whole_pages::mark(m, t, NUMBERS);
         let Trail::Went(more) = marked else {
             return Trail::Bad;
         };
@@ -100,7 +105,7 @@ fn are_records(d: &[u8], seen: Set) -> bool
     ensures { λ r. ⌜ r ≡ all (recordOk (now (d .entry)) seen) (tab transactionsMost 1 (λ t. t)) ⌝ }
 {
     let mut t: u16 = 1;
-    while t < 17 {
+    while t < END {
         if !is_record(d, seen, t) {
             return false;
         }

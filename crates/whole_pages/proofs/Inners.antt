@@ -9,6 +9,7 @@ use native.Mathlib.Omega.{arith}
 use borrow.Author.Tests.{leb-true, le-leb, eqb-true, eq-eqb}
 use lib.Dec.{leb, eqb, lit<, lit≤}
 use lib.ListN.{length, getD}
+use Rattle.limits.specs.Limits.{pageSize, headSize, bodySize, childSize, innerMost}
 use Rattle.lists.specs.Lists.{tab, all}
 use Rattle.lists.proofs.Tests.{both, and-both}
 use Rattle.lists.proofs.Tables.{map-tab, all-tab, all-of-tab}
@@ -42,7 +43,7 @@ above-children lo hi (vs ∷ vss) s h =
 pub record InnerFacts (level least lo hi : ℕ) (p : List ℕ) : Type 0 where
   pub laid : p ≡ innerPage level (childrenOf p)
   pub enough : least ≤ countOf p
-  pub few : countOf p ≤ 30
+  pub few : countOf p ≤ innerMost
   pub first : childAt p 0 .low .0 ≡ 0
   pub above : aboves lo hi (tab (countOf p - 1) 1 (childAt p)) ≡ true
 
@@ -53,47 +54,47 @@ children-map p = map-tab childIn (countOf p - 1) 1 (childFieldsAt p)
 head-level : (kind level : ℕ) (p : List ℕ) → headOk kind level p ≡ true → levelOf p ≡ level
 unfolding headOk
 head-level kind level p h =
-    eqb-true (levelOf p) level (both (eqb (numberAt 2 p 0) 512 && eqb (kindOf p) kind) (eqb (levelOf p) level)
-    (both ((eqb (numberAt 2 p 0) 512 && eqb (kindOf p) kind) && eqb (levelOf p) level) (eqb (numberAt 8 p 8) 0) h .0) .1)
+    eqb-true (levelOf p) level (both (eqb (numberAt 2 p 0) pageSize && eqb (kindOf p) kind) (eqb (levelOf p) level)
+    (both ((eqb (numberAt 2 p 0) pageSize && eqb (kindOf p) kind) && eqb (levelOf p) level) (eqb (numberAt 8 p 8) 0) h .0) .1)
 
-pub head-length : (kind level : ℕ) (p : List ℕ) → headOk kind level p ≡ true → numberAt 2 p 0 ≡ 512
+pub head-length : (kind level : ℕ) (p : List ℕ) → headOk kind level p ≡ true → numberAt 2 p 0 ≡ pageSize
 unfolding headOk
 head-length kind level p h =
-    eqb-true (numberAt 2 p 0) 512 (both (eqb (numberAt 2 p 0) 512) (eqb (kindOf p) kind)
-    (both (eqb (numberAt 2 p 0) 512 && eqb (kindOf p) kind) (eqb (levelOf p) level)
-    (both ((eqb (numberAt 2 p 0) 512 && eqb (kindOf p) kind) && eqb (levelOf p) level) (eqb (numberAt 8 p 8) 0) h .0) .0) .0)
+    eqb-true (numberAt 2 p 0) pageSize (both (eqb (numberAt 2 p 0) pageSize) (eqb (kindOf p) kind)
+    (both (eqb (numberAt 2 p 0) pageSize && eqb (kindOf p) kind) (eqb (levelOf p) level)
+    (both ((eqb (numberAt 2 p 0) pageSize && eqb (kindOf p) kind) && eqb (levelOf p) level) (eqb (numberAt 8 p 8) 0) h .0) .0) .0)
 
 module _ (p : List ℕ) (g : Bytes p) where
-  plain-at : (i : ℕ) → fillersOk (childFieldsAt p i) ≡ true → childFields (childIn (fieldsAt childWidths p (16 + 16 * i))) ≡ fieldsAt childWidths p (16 + 16 * i)
+  plain-at : (i : ℕ) → fillersOk (childFieldsAt p i) ≡ true → childFields (childIn (fieldsAt childWidths p (headSize + childSize * i))) ≡ fieldsAt childWidths p (headSize + childSize * i)
   unfolding childFieldsAt fieldsAt
   plain-at i h =
-      child-back (numberAt 8 p (16 + 16 * i)) (numberAt 2 p (16 + 16 * i + 8)) (numberAt 2 p (16 + 16 * i + 8 + 2)) (numberAt 4 p (16 + 16 * i + 8 + 2 + 2)) h
+      child-back (numberAt 8 p (headSize + childSize * i)) (numberAt 2 p (headSize + childSize * i + 8)) (numberAt 2 p (headSize + childSize * i + 8 + 2)) (numberAt 4 p (headSize + childSize * i + 8 + 2 + 2)) h
 
-  at-plain : (i : ℕ) → childFields (childIn (fieldsAt childWidths p (16 + 16 * i))) ≡ fieldsAt childWidths p (16 + 16 * i) → fillersOk (childFieldsAt p i) ≡ true
+  at-plain : (i : ℕ) → childFields (childIn (fieldsAt childWidths p (headSize + childSize * i))) ≡ fieldsAt childWidths p (headSize + childSize * i) → fillersOk (childFieldsAt p i) ≡ true
   unfolding childFieldsAt fieldsAt
   at-plain i e =
-      back-child (numberAt 8 p (16 + 16 * i)) (numberAt 2 p (16 + 16 * i + 8)) (numberAt 2 p (16 + 16 * i + 8 + 2)) (numberAt 4 p (16 + 16 * i + 8 + 2 + 2)) e
+      back-child (numberAt 8 p (headSize + childSize * i)) (numberAt 2 p (headSize + childSize * i + 8)) (numberAt 2 p (headSize + childSize * i + 8 + 2)) (numberAt 4 p (headSize + childSize * i + 8 + 2 + 2)) e
 
-  fits-at : (i : ℕ) → Fits childWidths (childFields (childIn (fieldsAt childWidths p (16 + 16 * i))))
+  fits-at : (i : ℕ) → Fits childWidths (childFields (childIn (fieldsAt childWidths p (headSize + childSize * i))))
   unfolding fieldsAt
   fits-at i =
-      child-fits (numberAt 8 p (16 + 16 * i)) (numberAt 2 p (16 + 16 * i + 8)) (numberAt 2 p (16 + 16 * i + 8 + 2)) (numberAt 4 p (16 + 16 * i + 8 + 2 + 2))
-      (number-below 8 p (16 + 16 * i) g) (number-below 2 p (16 + 16 * i + 8) g)
+      child-fits (numberAt 8 p (headSize + childSize * i)) (numberAt 2 p (headSize + childSize * i + 8)) (numberAt 2 p (headSize + childSize * i + 8 + 2)) (numberAt 4 p (headSize + childSize * i + 8 + 2 + 2))
+      (number-below 8 p (headSize + childSize * i) g) (number-below 2 p (headSize + childSize * i + 8) g)
 
   module _ (level least lo hi : ℕ) where
     abbrev front : Bool
-    front = headOk 3 level p && (leb least (countOf p) && leb (countOf p) 30)
+    front = headOk 3 level p && (leb least (countOf p) && leb (countOf p) innerMost)
 
-    pub inner-facts : length p ≡ 512 → 1 ≤ least → innerOk level least lo hi p ≡ true → InnerFacts level least lo hi p
+    pub inner-facts : length p ≡ pageSize → 1 ≤ least → innerOk level least lo hi p ≡ true → InnerFacts level least lo hi p
     unfolding innerOk innerPage childRow childrenOf childAt childIn childFieldsAt firstOk widthOf
     inner-facts size one h =
-        let a = both ((front && firstOk (childFieldsAt p 0)) && childrenOk lo hi (tab (countOf p - 1) 1 (childFieldsAt p))) (zeroAt (496 - 16 * countOf p) (16 + 16 * countOf p) p) h in
+        let a = both ((front && firstOk (childFieldsAt p 0)) && childrenOk lo hi (tab (countOf p - 1) 1 (childFieldsAt p))) (zeroAt (bodySize - childSize * countOf p) (headSize + childSize * countOf p) p) h in
         let b = both (front && firstOk (childFieldsAt p 0)) (childrenOk lo hi (tab (countOf p - 1) 1 (childFieldsAt p))) (a .0) in
         let c = both front (firstOk (childFieldsAt p 0)) (b .0) in
-        let d = both (headOk 3 level p) (leb least (countOf p) && leb (countOf p) 30) (c .0) in
-        let f = both (leb least (countOf p)) (leb (countOf p) 30) (d .1) in
+        let d = both (headOk 3 level p) (leb least (countOf p) && leb (countOf p) innerMost) (c .0) in
+        let f = both (leb least (countOf p)) (leb (countOf p) innerMost) (d .1) in
         let enough = leb-true least (countOf p) (f .0) in
-        let few = leb-true (countOf p) 30 (f .1) in
+        let few = leb-true (countOf p) innerMost (f .1) in
         let z = both (eqb (getD (childFieldsAt p 0) 0 0) 0) (fillersOk (childFieldsAt p 0)) (c .1) in
         let o = children-above lo hi (tab (countOf p - 1) 1 (childFieldsAt p)) (b .1) in
         let l : level < 65536 = subst (λ x. x < 65536) (head-level 3 level p (d .0)) (number-below 2 p 6 g) in
@@ -103,7 +104,7 @@ module _ (p : List ℕ) (g : Bytes p) where
           | no e ↦ all-tab fillersOk (countOf p - 1) 1 (childFieldsAt p) i (o .1) (omega arith) (omega arith)
         ]) in
         record {
-          laid = laid 3 level 16 30 childWidths (lit< tt) l refl (lit≤ tt) (lit< tt) childIn childFields p g few size (d .0) (a .1) (λ i m. plain-at i (each i m));
+          laid = laid 3 level childSize innerMost childWidths (lit< tt) l refl (lit≤ tt) (lit< tt) childIn childFields p g few size (d .0) (a .1) (λ i m. plain-at i (each i m));
           enough = enough;
           few = few;
           first = eqb-true (getD (childFieldsAt p 0) 0 0) 0 (z .0);
@@ -114,16 +115,16 @@ module _ (p : List ℕ) (g : Bytes p) where
       pub facts-inner : innerOk level least lo hi p ≡ true
       unfolding innerOk innerPage childRow childrenOf childAt childIn childFieldsAt firstOk widthOf
       facts-inner =
-          let plain = told-each 3 level 16 30 childWidths (lit< tt) l refl (lit≤ tt) (lit< tt) childIn childFields p g (f .few) fits-at (f .laid) in
+          let plain = told-each 3 level childSize innerMost childWidths (lit< tt) l refl (lit≤ tt) (lit< tt) childIn childFields p g (f .few) fits-at (f .laid) in
           let each : (i : ℕ) → i < countOf p → fillersOk (childFieldsAt p i) ≡ true = (λ i m. at-plain i (plain i m)) in
           let some : 1 ≤ countOf p = (let e = f .enough in omega arith) in
-          and-both ((front && firstOk (childFieldsAt p 0)) && childrenOk lo hi (tab (countOf p - 1) 1 (childFieldsAt p))) (zeroAt (496 - 16 * countOf p) (16 + 16 * countOf p) p)
+          and-both ((front && firstOk (childFieldsAt p 0)) && childrenOk lo hi (tab (countOf p - 1) 1 (childFieldsAt p))) (zeroAt (bodySize - childSize * countOf p) (headSize + childSize * countOf p) p)
           (and-both (front && firstOk (childFieldsAt p 0)) (childrenOk lo hi (tab (countOf p - 1) 1 (childFieldsAt p)))
           (and-both front (firstOk (childFieldsAt p 0))
-          (and-both (headOk 3 level p) (leb least (countOf p) && leb (countOf p) 30)
-          (told-head 3 level 16 30 childWidths (lit< tt) l refl (lit≤ tt) (lit< tt) childIn childFields p g (f .few) fits-at (f .laid))
-          (and-both (leb least (countOf p)) (leb (countOf p) 30) (le-leb least (countOf p) (f .enough)) (le-leb (countOf p) 30 (f .few))))
+          (and-both (headOk 3 level p) (leb least (countOf p) && leb (countOf p) innerMost)
+          (told-head 3 level childSize innerMost childWidths (lit< tt) l refl (lit≤ tt) (lit< tt) childIn childFields p g (f .few) fits-at (f .laid))
+          (and-both (leb least (countOf p)) (leb (countOf p) innerMost) (le-leb least (countOf p) (f .enough)) (le-leb (countOf p) innerMost (f .few))))
           (and-both (eqb (getD (childFieldsAt p 0) 0 0) 0) (fillersOk (childFieldsAt p 0)) (eq-eqb (getD (childFieldsAt p 0) 0 0) 0 (f .first)) (each 0 (omega arith))))
           (above-children lo hi (tab (countOf p - 1) 1 (childFieldsAt p)) (subst (λ cs. aboves lo hi cs ≡ true) (sym (children-map p)) (f .above))
           (all-of-tab fillersOk (countOf p - 1) 1 (childFieldsAt p) (λ i m n. each i (omega arith)))))
-          (told-rest 3 level 16 30 childWidths (lit< tt) l refl (lit≤ tt) (lit< tt) childIn childFields p g (f .few) fits-at (f .laid))
+          (told-rest 3 level childSize innerMost childWidths (lit< tt) l refl (lit≤ tt) (lit< tt) childIn childFields p g (f .few) fits-at (f .laid))

@@ -9,6 +9,7 @@ use native.Mathlib.Omega.{arith}
 use borrow.Author.Tests.{leb-true, le-leb, ltb-true, lt-ltb, lt-leb, leb-false, not-true}
 use lib.Dec.{leb, ltb, lit<, lit≤}
 use lib.ListN.{length, getD}
+use Rattle.limits.specs.Limits.{pageSize, headSize, bodySize, entrySize, leafMost}
 use Rattle.lists.specs.Lists.{tab, all, pairs, In}
 use Rattle.lists.proofs.Tests.{both, and-both, all-weaker}
 use Rattle.lists.proofs.Tables.{map-tab, all-tab, all-of-tab}
@@ -79,7 +80,7 @@ ordered-entries lo hi (vs ∷ vss) s h =
 -- ---- the leaf
 pub record LeafFacts (lo hi : ℕ) (p : List ℕ) : Type 0 where
   pub laid : p ≡ leafPage (entriesOf p)
-  pub few : countOf p ≤ 24
+  pub few : countOf p ≤ leafMost
   pub order : Ordered lo hi (entriesOf p)
   pub rests : (e : Item) → In e (entriesOf p) → e .owner ≡ 0 → Rests e
 
@@ -88,47 +89,47 @@ unfolding entriesOf entryAt entryFieldsAt
 entries-map p = map-tab entryIn (countOf p) 0 (entryFieldsAt p)
 
 module _ (p : List ℕ) (g : Bytes p) where
-  plain-at : (i : ℕ) → entryOk (entryFieldsAt p i) ≡ true → entryFields (entryIn (fieldsAt entryWidths p (16 + 20 * i))) ≡ fieldsAt entryWidths p (16 + 20 * i)
+  plain-at : (i : ℕ) → entryOk (entryFieldsAt p i) ≡ true → entryFields (entryIn (fieldsAt entryWidths p (headSize + entrySize * i))) ≡ fieldsAt entryWidths p (headSize + entrySize * i)
   unfolding entryFieldsAt fieldsAt
   plain-at i h =
-      plain-back (numberAt 8 p (16 + 20 * i)) (numberAt 4 p (16 + 20 * i + 8)) (numberAt 4 p (16 + 20 * i + 8 + 4)) (numberAt 2 p (16 + 20 * i + 8 + 4 + 4))
-      (numberAt 2 p (16 + 20 * i + 8 + 4 + 4 + 2)) (entry-both (entryFieldsAt p i) h .0)
+      plain-back (numberAt 8 p (headSize + entrySize * i)) (numberAt 4 p (headSize + entrySize * i + 8)) (numberAt 4 p (headSize + entrySize * i + 8 + 4)) (numberAt 2 p (headSize + entrySize * i + 8 + 4 + 4))
+      (numberAt 2 p (headSize + entrySize * i + 8 + 4 + 4 + 2)) (entry-both (entryFieldsAt p i) h .0)
 
   rests-at : (i : ℕ) → entryOk (entryFieldsAt p i) ≡ true → entryIn (entryFieldsAt p i) .owner ≡ 0 → Rests (entryIn (entryFieldsAt p i))
   unfolding entryFieldsAt fieldsAt entryIn
   rests-at i h =
       let b = entry-both (entryFieldsAt p i) h in
-      fields-rests (numberAt 8 p (16 + 20 * i)) (numberAt 4 p (16 + 20 * i + 8)) (numberAt 4 p (16 + 20 * i + 8 + 4)) (numberAt 2 p (16 + 20 * i + 8 + 4 + 4))
-      (numberAt 2 p (16 + 20 * i + 8 + 4 + 4 + 2)) (b .0) (b .1)
+      fields-rests (numberAt 8 p (headSize + entrySize * i)) (numberAt 4 p (headSize + entrySize * i + 8)) (numberAt 4 p (headSize + entrySize * i + 8 + 4)) (numberAt 2 p (headSize + entrySize * i + 8 + 4 + 4))
+      (numberAt 2 p (headSize + entrySize * i + 8 + 4 + 4 + 2)) (b .0) (b .1)
 
-  at-entry : (i : ℕ) → entryFields (entryIn (fieldsAt entryWidths p (16 + 20 * i))) ≡ fieldsAt entryWidths p (16 + 20 * i)
+  at-entry : (i : ℕ) → entryFields (entryIn (fieldsAt entryWidths p (headSize + entrySize * i))) ≡ fieldsAt entryWidths p (headSize + entrySize * i)
       → (entryIn (entryFieldsAt p i) .owner ≡ 0 → Rests (entryIn (entryFieldsAt p i))) → entryOk (entryFieldsAt p i) ≡ true
   unfolding entryFieldsAt fieldsAt entryIn
   at-entry i e r =
-      let b = back-plain (numberAt 8 p (16 + 20 * i)) (numberAt 4 p (16 + 20 * i + 8)) (numberAt 4 p (16 + 20 * i + 8 + 4)) (numberAt 2 p (16 + 20 * i + 8 + 4 + 4))
-      (numberAt 2 p (16 + 20 * i + 8 + 4 + 4 + 2)) e in
+      let b = back-plain (numberAt 8 p (headSize + entrySize * i)) (numberAt 4 p (headSize + entrySize * i + 8)) (numberAt 4 p (headSize + entrySize * i + 8 + 4)) (numberAt 2 p (headSize + entrySize * i + 8 + 4 + 4))
+      (numberAt 2 p (headSize + entrySize * i + 8 + 4 + 4 + 2)) e in
       both-entry (entryFieldsAt p i) b
-      (rests-fields (numberAt 8 p (16 + 20 * i)) (numberAt 4 p (16 + 20 * i + 8)) (numberAt 4 p (16 + 20 * i + 8 + 4)) (numberAt 2 p (16 + 20 * i + 8 + 4 + 4))
-      (numberAt 2 p (16 + 20 * i + 8 + 4 + 4 + 2)) b r)
+      (rests-fields (numberAt 8 p (headSize + entrySize * i)) (numberAt 4 p (headSize + entrySize * i + 8)) (numberAt 4 p (headSize + entrySize * i + 8 + 4)) (numberAt 2 p (headSize + entrySize * i + 8 + 4 + 4))
+      (numberAt 2 p (headSize + entrySize * i + 8 + 4 + 4 + 2)) b r)
 
-  fits-at : (i : ℕ) → Fits entryWidths (entryFields (entryIn (fieldsAt entryWidths p (16 + 20 * i))))
+  fits-at : (i : ℕ) → Fits entryWidths (entryFields (entryIn (fieldsAt entryWidths p (headSize + entrySize * i))))
   unfolding fieldsAt
   fits-at i =
-      entry-fits (numberAt 8 p (16 + 20 * i)) (numberAt 4 p (16 + 20 * i + 8)) (numberAt 4 p (16 + 20 * i + 8 + 4)) (numberAt 2 p (16 + 20 * i + 8 + 4 + 4))
-      (numberAt 2 p (16 + 20 * i + 8 + 4 + 4 + 2)) (number-below 8 p (16 + 20 * i) g) (number-below 4 p (16 + 20 * i + 8) g) (number-below 4 p (16 + 20 * i + 8 + 4) g) (number-below 2 p (16 + 20 * i + 8 + 4 + 4) g)
+      entry-fits (numberAt 8 p (headSize + entrySize * i)) (numberAt 4 p (headSize + entrySize * i + 8)) (numberAt 4 p (headSize + entrySize * i + 8 + 4)) (numberAt 2 p (headSize + entrySize * i + 8 + 4 + 4))
+      (numberAt 2 p (headSize + entrySize * i + 8 + 4 + 4 + 2)) (number-below 8 p (headSize + entrySize * i) g) (number-below 4 p (headSize + entrySize * i + 8) g) (number-below 4 p (headSize + entrySize * i + 8 + 4) g) (number-below 2 p (headSize + entrySize * i + 8 + 4 + 4) g)
 
-  pub leaf-facts : (lo hi : ℕ) → length p ≡ 512 → leafOk lo hi p ≡ true → LeafFacts lo hi p
+  pub leaf-facts : (lo hi : ℕ) → length p ≡ pageSize → leafOk lo hi p ≡ true → LeafFacts lo hi p
   unfolding leafOk leafPage entryRow entriesOf entryAt widthOf entryFieldsAt
   leaf-facts lo hi size h =
-      let a = both ((headOk 2 0 p && leb (countOf p) 24) && entriesOk lo hi (tab (countOf p) 0 (entryFieldsAt p))) (zeroAt (496 - 20 * countOf p) (16 + 20 * countOf p) p) h in
-      let b = both (headOk 2 0 p && leb (countOf p) 24) (entriesOk lo hi (tab (countOf p) 0 (entryFieldsAt p))) (a .0) in
-      let c = both (headOk 2 0 p) (leb (countOf p) 24) (b .0) in
-      let few = leb-true (countOf p) 24 (c .1) in
+      let a = both ((headOk 2 0 p && leb (countOf p) leafMost) && entriesOk lo hi (tab (countOf p) 0 (entryFieldsAt p))) (zeroAt (bodySize - entrySize * countOf p) (headSize + entrySize * countOf p) p) h in
+      let b = both (headOk 2 0 p && leb (countOf p) leafMost) (entriesOk lo hi (tab (countOf p) 0 (entryFieldsAt p))) (a .0) in
+      let c = both (headOk 2 0 p) (leb (countOf p) leafMost) (b .0) in
+      let few = leb-true (countOf p) leafMost (c .1) in
       let o = entries-ordered lo hi (tab (countOf p) 0 (entryFieldsAt p)) (b .1) in
       let each : (i : ℕ) → i < countOf p → entryOk (entryFieldsAt p i) ≡ true =
       (λ i l. all-tab entryOk (countOf p) 0 (entryFieldsAt p) i (o .1) (omega arith) (omega arith)) in
       record {
-        laid = laid 2 0 20 24 entryWidths (lit< tt) (lit< tt) refl (lit≤ tt) (lit< tt) entryIn entryFields p g few size (c .0) (a .1) (λ i l. plain-at i (each i l));
+        laid = laid 2 0 entrySize leafMost entryWidths (lit< tt) (lit< tt) refl (lit≤ tt) (lit< tt) entryIn entryFields p g few size (c .0) (a .1) (λ i l. plain-at i (each i l));
         few = few;
         order = subst (Ordered lo hi) (entries-map p) (o .0);
         rests = λ e m z.
@@ -140,13 +141,13 @@ module _ (p : List ℕ) (g : Bytes p) where
   pub facts-leaf : (lo hi : ℕ) → LeafFacts lo hi p → leafOk lo hi p ≡ true
   unfolding leafOk leafPage entryRow entriesOf entryAt widthOf entryFieldsAt
   facts-leaf lo hi f =
-      let plain = told-each 2 0 20 24 entryWidths (lit< tt) (lit< tt) refl (lit≤ tt) (lit< tt) entryIn entryFields p g (f .few) fits-at (f .laid) in
+      let plain = told-each 2 0 entrySize leafMost entryWidths (lit< tt) (lit< tt) refl (lit≤ tt) (lit< tt) entryIn entryFields p g (f .few) fits-at (f .laid) in
       let each : (i : ℕ) → i < countOf p → entryOk (entryFieldsAt p i) ≡ true =
       (λ i l. at-entry i (plain i l) (f .rests (entryAt p i) (in-tab (countOf p) 0 (entryAt p) i (omega arith) (omega arith)))) in
-      and-both ((headOk 2 0 p && leb (countOf p) 24) && entriesOk lo hi (tab (countOf p) 0 (entryFieldsAt p))) (zeroAt (496 - 20 * countOf p) (16 + 20 * countOf p) p)
-      (and-both (headOk 2 0 p && leb (countOf p) 24) (entriesOk lo hi (tab (countOf p) 0 (entryFieldsAt p)))
-      (and-both (headOk 2 0 p) (leb (countOf p) 24)
-      (told-head 2 0 20 24 entryWidths (lit< tt) (lit< tt) refl (lit≤ tt) (lit< tt) entryIn entryFields p g (f .few) fits-at (f .laid)) (le-leb (countOf p) 24 (f .few)))
+      and-both ((headOk 2 0 p && leb (countOf p) leafMost) && entriesOk lo hi (tab (countOf p) 0 (entryFieldsAt p))) (zeroAt (bodySize - entrySize * countOf p) (headSize + entrySize * countOf p) p)
+      (and-both (headOk 2 0 p && leb (countOf p) leafMost) (entriesOk lo hi (tab (countOf p) 0 (entryFieldsAt p)))
+      (and-both (headOk 2 0 p) (leb (countOf p) leafMost)
+      (told-head 2 0 entrySize leafMost entryWidths (lit< tt) (lit< tt) refl (lit≤ tt) (lit< tt) entryIn entryFields p g (f .few) fits-at (f .laid)) (le-leb (countOf p) leafMost (f .few)))
       (ordered-entries lo hi (tab (countOf p) 0 (entryFieldsAt p)) (subst (Ordered lo hi) (sym (entries-map p)) (f .order))
       (all-of-tab entryOk (countOf p) 0 (entryFieldsAt p) (λ i a b. each i (omega arith)))))
-      (told-rest 2 0 20 24 entryWidths (lit< tt) (lit< tt) refl (lit≤ tt) (lit< tt) entryIn entryFields p g (f .few) fits-at (f .laid))
+      (told-rest 2 0 entrySize leafMost entryWidths (lit< tt) (lit< tt) refl (lit≤ tt) (lit< tt) entryIn entryFields p g (f .few) fits-at (f .laid))

@@ -9,6 +9,7 @@ use native.Mathlib.Nat.{add-zero}
 use native.Mathlib.Omega.{arith}
 use borrow.Author.Tests.{ltb-true, lt-ltb, eq-eqb, ne-eqb}
 use lib.Dec.{eqb, ltb}
+use Rattle.limits.specs.Limits.{innerFewest}
 use Rattle.lists.specs.Lists.{all, join, times}
 use Rattle.sets.specs.declared.Set.{Set}
 use Rattle.sets.specs.Sets.{has, withOne}
@@ -78,12 +79,12 @@ walk-is zero least s used t m = after-guard (markAt used m (t .page)) (pageOk ze
 walk-is (suc n) least s used t m =
     let ts = spans (t .low .0) (t .high .0) (childrenOf (pageAt s (t .page))) in
     let r : Span → List ℕ = (λ u. reached n s (u .page)) in
-    after-ext (markAt used m (t .page)) (λ k. guard (pageOk (suc n) least s t) (walkOver (walkAt n 15 s used) ts k))
-    (λ k. guard (pageOk (suc n) least s t && all (treeOk n 15 s) ts) (marks used (join r ts) k))
-    (λ k. ap (guard (pageOk (suc n) least s t)) (over-is used (walkAt n 15 s used) (treeOk n 15 s) r (walk-is n 15 s used) ts k)
-    ∙ guard-both (pageOk (suc n) least s t) (all (treeOk n 15 s) ts) (marks used (join r ts) k))
-    ∙ after-guard (markAt used m (t .page)) (pageOk (suc n) least s t && all (treeOk n 15 s) ts) (marks used (join r ts))
-    ∙ ap (λ qs. guard (pageOk (suc n) least s t && all (treeOk n 15 s) ts) (after (markAt used m (t .page)) (marks used qs)))
+    after-ext (markAt used m (t .page)) (λ k. guard (pageOk (suc n) least s t) (walkOver (walkAt n innerFewest s used) ts k))
+    (λ k. guard (pageOk (suc n) least s t && all (treeOk n innerFewest s) ts) (marks used (join r ts) k))
+    (λ k. ap (guard (pageOk (suc n) least s t)) (over-is used (walkAt n innerFewest s used) (treeOk n innerFewest s) r (walk-is n innerFewest s used) ts k)
+    ∙ guard-both (pageOk (suc n) least s t) (all (treeOk n innerFewest s) ts) (marks used (join r ts) k))
+    ∙ after-guard (markAt used m (t .page)) (pageOk (suc n) least s t && all (treeOk n innerFewest s) ts) (marks used (join r ts))
+    ∙ ap (λ qs. guard (pageOk (suc n) least s t && all (treeOk n innerFewest s) ts) (after (markAt used m (t .page)) (marks used qs)))
     (spans-join (reached n s) (t .low .0) (t .high .0) (childrenOf (pageAt s (t .page))))
 
 -- ---- the pages set down

@@ -9,6 +9,7 @@ use borrow.Author.Tests.{ltb-true, leb-true, not-true, not-false}
 use lib.Dec.{leb, ltb}
 use mir.Val.{Fits}
 use mir.Syntax.{w64}
+use Rattle.limits.specs.Limits.{headSize, bodySize, entrySize, leafMost, childSize, innerMost}
 use Rattle.lists.specs.Lists.{tab}
 use Rattle.lists.proofs.Tests.{and-left, and-right}
 use Rattle.lists.proofs.Tables.{tab-next, tab-done}
@@ -21,8 +22,8 @@ and-false true = refl
 and-false false = refl
 
 -- ---- leaves
-pub leaf-few : (h : Bool) (n : ℕ) → not (h && leb n 24) ≡ false → n ≤ 24
-leaf-few h n e = leb-true n 24 (and-right h (leb n 24) (not-false (h && leb n 24) e))
+pub leaf-few : (h : Bool) (n : ℕ) → not (h && leb n leafMost) ≡ false → n ≤ leafMost
+leaf-few h n e = leb-true n leafMost (and-right h (leb n leafMost) (not-false (h && leb n leafMost) e))
 
 pub next-fits : (low hi k : ℕ) (a b : Bool) → a ≡ inRange low hi k → not (a && b) ≡ false → Fits w64 hi → Fits w64 (k + 1)
 next-fits low hi k a b e t f =
@@ -31,18 +32,18 @@ next-fits low hi k a b e t f =
     record { fits = omega (arith, f .fits) }
 
 module _ (p : List ℕ) (lo hi n : ℕ) where
-  pub leaf-headless : (h : Bool) → n ≡ countOf p → h ≡ headOk 2 0 p → not (h && leb n 24) ≡ true → false ≡ leafOk lo hi p
+  pub leaf-headless : (h : Bool) → n ≡ countOf p → h ≡ headOk 2 0 p → not (h && leb n leafMost) ≡ true → false ≡ leafOk lo hi p
   unfolding leafOk
   leaf-headless h c e t =
-      let q : (headOk 2 0 p && leb (countOf p) 24) ≡ false = ap₂ (λ x y. x && leb y 24) (sym e) (sym c) ∙ not-true (h && leb n 24) t in
-      sym (ap (λ x. (x && entriesOk lo hi (tab (countOf p) 0 (entryFieldsAt p))) && zeroAt (496 - 20 * countOf p) (16 + 20 * countOf p) p) q)
+      let q : (headOk 2 0 p && leb (countOf p) leafMost) ≡ false = ap₂ (λ x y. x && leb y leafMost) (sym e) (sym c) ∙ not-true (h && leb n leafMost) t in
+      sym (ap (λ x. (x && entriesOk lo hi (tab (countOf p) 0 (entryFieldsAt p))) && zeroAt (bodySize - entrySize * countOf p) (headSize + entrySize * countOf p) p) q)
 
   leaf-left : (low i : ℕ) → i < n → entriesOk low hi (tab (n - i) i (entryFieldsAt p))
-      ≡ ((inRange low hi (numberAt 8 p (16 + 20 * i)) && entryOk (entryFieldsAt p i)) && entriesOk (numberAt 8 p (16 + 20 * i) + 1) hi (tab (n - (i + 1)) (i + 1) (entryFieldsAt p)))
+      ≡ ((inRange low hi (numberAt 8 p (headSize + entrySize * i)) && entryOk (entryFieldsAt p i)) && entriesOk (numberAt 8 p (headSize + entrySize * i) + 1) hi (tab (n - (i + 1)) (i + 1) (entryFieldsAt p)))
   unfolding entriesOk entryFieldsAt fieldsAt
   leaf-left low i h = ap (entriesOk low hi) (tab-next n i (entryFieldsAt p) h)
 
-  module _ (low i k : ℕ) (a b : Bool) (l : i < n) (e : k ≡ numberAt 8 p (16 + 20 * i)) (f : a ≡ inRange low hi k) (g : b ≡ entryOk (entryFieldsAt p i))
+  module _ (low i k : ℕ) (a b : Bool) (l : i < n) (e : k ≡ numberAt 8 p (headSize + entrySize * i)) (f : a ≡ inRange low hi k) (g : b ≡ entryOk (entryFieldsAt p i))
       (w : entriesOk lo hi (tab n 0 (entryFieldsAt p)) ≡ entriesOk low hi (tab (n - i) i (entryFieldsAt p))) where
     turn : entriesOk lo hi (tab n 0 (entryFieldsAt p)) ≡ ((a && b) && entriesOk (k + 1) hi (tab (n - (i + 1)) (i + 1) (entryFieldsAt p)))
     turn = rw (f, g, e) (w ∙ leaf-left low i l)
@@ -54,50 +55,50 @@ module _ (p : List ℕ) (lo hi n : ℕ) where
         ap (λ x. entriesOk lo hi (tab x 0 (entryFieldsAt p))) (sym c)
         ∙ turn
         ∙ ap (λ x. x && entriesOk (k + 1) hi (tab (n - (i + 1)) (i + 1) (entryFieldsAt p))) (not-true (a && b) t) in
-        sym (ap (λ x. ((headOk 2 0 p && leb (countOf p) 24) && x) && zeroAt (496 - 20 * countOf p) (16 + 20 * countOf p) p) q
-        ∙ ap (λ x. x && zeroAt (496 - 20 * countOf p) (16 + 20 * countOf p) p) (and-false (headOk 2 0 p && leb (countOf p) 24)))
+        sym (ap (λ x. ((headOk 2 0 p && leb (countOf p) leafMost) && x) && zeroAt (bodySize - entrySize * countOf p) (headSize + entrySize * countOf p) p) q
+        ∙ ap (λ x. x && zeroAt (bodySize - entrySize * countOf p) (headSize + entrySize * countOf p) p) (and-false (headOk 2 0 p && leb (countOf p) leafMost)))
 
     pub leaf-next : not (a && b) ≡ false → entriesOk lo hi (tab n 0 (entryFieldsAt p)) ≡ entriesOk (k + 1) hi (tab (n - (i + 1)) (i + 1) (entryFieldsAt p))
     leaf-next t = turn ∙ ap (λ x. x && entriesOk (k + 1) hi (tab (n - (i + 1)) (i + 1) (entryFieldsAt p))) (not-false (a && b) t)
 
-  pub leaf-done : (h z : Bool) (low i : ℕ) → n ≡ countOf p → h ≡ headOk 2 0 p → not (h && leb n 24) ≡ false → n ≤ i
-      → entriesOk lo hi (tab n 0 (entryFieldsAt p)) ≡ entriesOk low hi (tab (n - i) i (entryFieldsAt p)) → z ≡ zeroAt (496 - 20 * n) (16 + 20 * n) p
+  pub leaf-done : (h z : Bool) (low i : ℕ) → n ≡ countOf p → h ≡ headOk 2 0 p → not (h && leb n leafMost) ≡ false → n ≤ i
+      → entriesOk lo hi (tab n 0 (entryFieldsAt p)) ≡ entriesOk low hi (tab (n - i) i (entryFieldsAt p)) → z ≡ zeroAt (bodySize - entrySize * n) (headSize + entrySize * n) p
       → z ≡ leafOk lo hi p
   unfolding leafOk entriesOk
   leaf-done h z low i c e t l w f =
-      let q : (headOk 2 0 p && leb (countOf p) 24) ≡ true = ap₂ (λ x y. x && leb y 24) (sym e) (sym c) ∙ not-false (h && leb n 24) t in
+      let q : (headOk 2 0 p && leb (countOf p) leafMost) ≡ true = ap₂ (λ x y. x && leb y leafMost) (sym e) (sym c) ∙ not-false (h && leb n leafMost) t in
       let r : entriesOk lo hi (tab (countOf p) 0 (entryFieldsAt p)) ≡ true =
       ap (λ x. entriesOk lo hi (tab x 0 (entryFieldsAt p))) (sym c) ∙ w ∙ ap (entriesOk low hi) (tab-done n i (entryFieldsAt p) l) in
       f
-      ∙ ap (λ x. zeroAt (496 - 20 * x) (16 + 20 * x) p) c
-      ∙ sym (ap₂ (λ x y. (x && y) && zeroAt (496 - 20 * countOf p) (16 + 20 * countOf p) p) q r)
+      ∙ ap (λ x. zeroAt (bodySize - entrySize * x) (headSize + entrySize * x) p) c
+      ∙ sym (ap₂ (λ x y. (x && y) && zeroAt (bodySize - entrySize * countOf p) (headSize + entrySize * countOf p) p) q r)
 
 -- ---- inner pages
-module _ (h g : Bool) (least n : ℕ) (t : not ((h && (leb least n && leb n 30)) && g) ≡ false) where
-  both : (leb least n && leb n 30) ≡ true
-  both = and-right h (leb least n && leb n 30) (and-left (h && (leb least n && leb n 30)) g (not-false ((h && (leb least n && leb n 30)) && g) t))
+module _ (h g : Bool) (least n : ℕ) (t : not ((h && (leb least n && leb n innerMost)) && g) ≡ false) where
+  both : (leb least n && leb n innerMost) ≡ true
+  both = and-right h (leb least n && leb n innerMost) (and-left (h && (leb least n && leb n innerMost)) g (not-false ((h && (leb least n && leb n innerMost)) && g) t))
 
-  pub inner-few : n ≤ 30
-  inner-few = leb-true n 30 (and-right (leb least n) (leb n 30) both)
+  pub inner-few : n ≤ innerMost
+  inner-few = leb-true n innerMost (and-right (leb least n) (leb n innerMost) both)
 
   pub inner-some : 1 ≤ least → 1 ≤ n
-  inner-some s = let l : least ≤ n = leb-true least n (and-left (leb least n) (leb n 30) both) in omega arith
+  inner-some s = let l : least ≤ n = leb-true least n (and-left (leb least n) (leb n innerMost) both) in omega arith
 
 module _ (p : List ℕ) (level least lo hi n : ℕ) where
   pub inner-headless : (h g : Bool) → n ≡ countOf p → h ≡ headOk 3 level p → g ≡ firstOk (childFieldsAt p 0)
-      → not ((h && (leb least n && leb n 30)) && g) ≡ true → false ≡ innerOk level least lo hi p
+      → not ((h && (leb least n && leb n innerMost)) && g) ≡ true → false ≡ innerOk level least lo hi p
   unfolding innerOk
   inner-headless h g c e f t =
-      let q : ((headOk 3 level p && (leb least (countOf p) && leb (countOf p) 30)) && firstOk (childFieldsAt p 0)) ≡ false =
-      rw (← e, ← c, ← f) (not-true ((h && (leb least n && leb n 30)) && g) t) in
-      sym (ap (λ x. (x && childrenOk lo hi (tab (countOf p - 1) 1 (childFieldsAt p))) && zeroAt (496 - 16 * countOf p) (16 + 16 * countOf p) p) q)
+      let q : ((headOk 3 level p && (leb least (countOf p) && leb (countOf p) innerMost)) && firstOk (childFieldsAt p 0)) ≡ false =
+      rw (← e, ← c, ← f) (not-true ((h && (leb least n && leb n innerMost)) && g) t) in
+      sym (ap (λ x. (x && childrenOk lo hi (tab (countOf p - 1) 1 (childFieldsAt p))) && zeroAt (bodySize - childSize * countOf p) (headSize + childSize * countOf p) p) q)
 
   inner-left : (low i : ℕ) → i < n → childrenOk low hi (tab (n - i) i (childFieldsAt p))
-      ≡ ((between low hi (numberAt 8 p (16 + 16 * i)) && fillersOk (childFieldsAt p i)) && childrenOk (numberAt 8 p (16 + 16 * i)) hi (tab (n - (i + 1)) (i + 1) (childFieldsAt p)))
+      ≡ ((between low hi (numberAt 8 p (headSize + childSize * i)) && fillersOk (childFieldsAt p i)) && childrenOk (numberAt 8 p (headSize + childSize * i)) hi (tab (n - (i + 1)) (i + 1) (childFieldsAt p)))
   unfolding childrenOk childFieldsAt fieldsAt
   inner-left low i h = ap (childrenOk low hi) (tab-next n i (childFieldsAt p) h)
 
-  module _ (low i k : ℕ) (a b : Bool) (l : i < n) (e : k ≡ numberAt 8 p (16 + 16 * i)) (f : a ≡ between low hi k) (g : b ≡ fillersOk (childFieldsAt p i))
+  module _ (low i k : ℕ) (a b : Bool) (l : i < n) (e : k ≡ numberAt 8 p (headSize + childSize * i)) (f : a ≡ between low hi k) (g : b ≡ fillersOk (childFieldsAt p i))
       (w : childrenOk lo hi (tab (n - 1) 1 (childFieldsAt p)) ≡ childrenOk low hi (tab (n - i) i (childFieldsAt p))) where
     passed : childrenOk lo hi (tab (n - 1) 1 (childFieldsAt p)) ≡ ((a && b) && childrenOk k hi (tab (n - (i + 1)) (i + 1) (childFieldsAt p)))
     passed = rw (f, g, e) (w ∙ inner-left low i l)
@@ -109,25 +110,25 @@ module _ (p : List ℕ) (level least lo hi n : ℕ) where
         ap (λ x. childrenOk lo hi (tab (x - 1) 1 (childFieldsAt p))) (sym c)
         ∙ passed
         ∙ ap (λ x. x && childrenOk k hi (tab (n - (i + 1)) (i + 1) (childFieldsAt p))) (not-true (a && b) t) in
-        sym (ap (λ x. (front && x) && zeroAt (496 - 16 * countOf p) (16 + 16 * countOf p) p) q
-        ∙ ap (λ x. x && zeroAt (496 - 16 * countOf p) (16 + 16 * countOf p) p) (and-false front))
+        sym (ap (λ x. (front && x) && zeroAt (bodySize - childSize * countOf p) (headSize + childSize * countOf p) p) q
+        ∙ ap (λ x. x && zeroAt (bodySize - childSize * countOf p) (headSize + childSize * countOf p) p) (and-false front))
       where
         front : Bool
-        front = (headOk 3 level p && (leb least (countOf p) && leb (countOf p) 30)) && firstOk (childFieldsAt p 0)
+        front = (headOk 3 level p && (leb least (countOf p) && leb (countOf p) innerMost)) && firstOk (childFieldsAt p 0)
 
     pub inner-next : not (a && b) ≡ false → childrenOk lo hi (tab (n - 1) 1 (childFieldsAt p)) ≡ childrenOk k hi (tab (n - (i + 1)) (i + 1) (childFieldsAt p))
     inner-next t = passed ∙ ap (λ x. x && childrenOk k hi (tab (n - (i + 1)) (i + 1) (childFieldsAt p))) (not-false (a && b) t)
 
   pub inner-done : (h g z : Bool) (low i : ℕ) → n ≡ countOf p → h ≡ headOk 3 level p → g ≡ firstOk (childFieldsAt p 0)
-      → not ((h && (leb least n && leb n 30)) && g) ≡ false → n ≤ i
-      → childrenOk lo hi (tab (n - 1) 1 (childFieldsAt p)) ≡ childrenOk low hi (tab (n - i) i (childFieldsAt p)) → z ≡ zeroAt (496 - 16 * n) (16 + 16 * n) p
+      → not ((h && (leb least n && leb n innerMost)) && g) ≡ false → n ≤ i
+      → childrenOk lo hi (tab (n - 1) 1 (childFieldsAt p)) ≡ childrenOk low hi (tab (n - i) i (childFieldsAt p)) → z ≡ zeroAt (bodySize - childSize * n) (headSize + childSize * n) p
       → z ≡ innerOk level least lo hi p
   unfolding innerOk childrenOk
   inner-done h g z low i c e f t l w y =
-      let q : ((headOk 3 level p && (leb least (countOf p) && leb (countOf p) 30)) && firstOk (childFieldsAt p 0)) ≡ true =
-      rw (← e, ← c, ← f) (not-false ((h && (leb least n && leb n 30)) && g) t) in
+      let q : ((headOk 3 level p && (leb least (countOf p) && leb (countOf p) innerMost)) && firstOk (childFieldsAt p 0)) ≡ true =
+      rw (← e, ← c, ← f) (not-false ((h && (leb least n && leb n innerMost)) && g) t) in
       let r : childrenOk lo hi (tab (countOf p - 1) 1 (childFieldsAt p)) ≡ true =
       ap (λ x. childrenOk lo hi (tab (x - 1) 1 (childFieldsAt p))) (sym c) ∙ w ∙ ap (childrenOk low hi) (tab-done n i (childFieldsAt p) l) in
       y
-      ∙ ap (λ x. zeroAt (496 - 16 * x) (16 + 16 * x) p) c
-      ∙ sym (ap₂ (λ x v. (x && v) && zeroAt (496 - 16 * countOf p) (16 + 16 * countOf p) p) q r)
+      ∙ ap (λ x. zeroAt (bodySize - childSize * x) (headSize + childSize * x) p) c
+      ∙ sym (ap₂ (λ x v. (x && v) && zeroAt (bodySize - childSize * countOf p) (headSize + childSize * countOf p) p) q r)

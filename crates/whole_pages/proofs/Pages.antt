@@ -9,6 +9,7 @@ use native.Mathlib.Omega.{arith}
 use borrow.Author.Tests.{eq-eqb, le-leb, lt-ltb}
 use lib.Dec.{eqb, leb, ltb, lit≤}
 use lib.ListN.{length}
+use Rattle.limits.specs.Limits.{pagesMost, pageSize, headSize, pagesSize}
 use Rattle.lists.specs.Lists.{In}
 use Rattle.lists.specs.Lists as L
 use Rattle.lists.proofs.Tests.{both, and-both}
@@ -126,11 +127,11 @@ module _ (used n : ℕ) (s : List ℕ) (root : ℕ) where
 module _ (s : List ℕ) (g : Bytes s) where
   first-bytes : Bytes (pageAt s 0)
   unfolding pageAt
-  first-bytes = bytes-part (512 * 0) 512 s g
+  first-bytes = bytes-part (pageSize * 0) pageSize s g
 
-  first-size : length s ≡ 32768 → length (pageAt s 0) ≡ 512
+  first-size : length s ≡ pagesSize → length (pageAt s 0) ≡ pageSize
   unfolding pageAt
-  first-size size = length-part (512 * 0) 512 s (omega arith)
+  first-size size = length-part (pageSize * 0) pageSize s (omega arith)
 
   abbrev root : ℕ
   root = rootOf (pageAt s 0)
@@ -148,10 +149,10 @@ module _ (s : List ℕ) (g : Bytes s) where
   unfolding treeIn
   tree-is = walk-is level 2 s used top onlyZero
 
-  pub pages-sound : length s ≡ 32768 → pagesOk s ≡ true → PagesFacts s
+  pub pages-sound : length s ≡ pagesSize → pagesOk s ≡ true → PagesFacts s
   unfolding pagesOk indexOf entriesIn
   pages-sound size h =
-      let a = both (frontOk s && wentOk used (treeIn s)) (zeroAt (32768 - 512 * used) (512 * used) s) h in
+      let a = both (frontOk s && wentOk used (treeIn s)) (zeroAt (pagesSize - pageSize * used) (pageSize * used) s) h in
       let b = both (frontOk s) (wentOk used (treeIn s)) (a .0) in
       let f = front-parts s (b .0) in
       let w = went-ok used (treeIn s) (b .1) in
@@ -179,15 +180,15 @@ module _ (s : List ℕ) (g : Bytes s) where
   pages-complete k =
       let size = k .whole .size in
       let x = k .whole .index in
-      let few : used ≤ 64 = x .room in
-      let low : level < 65536 = (let m = number-below 2 (pageAt s 0) 20 first-bytes in omega arith) in
+      let few : used ≤ pagesMost = x .room in
+      let low : level < 65536 = (let m = number-below 2 (pageAt s 0) (headSize + 4) first-bytes in omega arith) in
       let t = facts-tree s g size level 2 top low (lit≤ tt) (record { laid = k .whole .laid; counts = x .counts; keys = x .keys; rests = k .rests }) in
       let w = each-once used level s root (λ q. ap (λ y. y + above used q) (sym (times-reached level s root q)) ∙ x .pages .once q) in
       let d : treeIn s ≡ Went (w .0) = tree-is ∙ ap₂ (λ b v. guard b v) t (w .1) in
       let f = laid-first (pageAt s 0) first-bytes (k .whole .head) in
-      and-both (frontOk s && wentOk used (treeIn s)) (zeroAt (32768 - 512 * used) (512 * used) s)
+      and-both (frontOk s && wentOk used (treeIn s)) (zeroAt (pagesSize - pageSize * used) (pageSize * used) s)
       (and-both (frontOk s) (wentOk used (treeIn s))
-      (and-both (firstPageOk (pageAt s 0)) (leb used 64 && ltb 0 (heightOf (pageAt s 0))) (f .0)
-      (and-both (leb used 64) (ltb 0 (heightOf (pageAt s 0))) (le-leb used 64 few) (lt-ltb 0 (heightOf (pageAt s 0)) (k .whole .tall))))
+      (and-both (firstPageOk (pageAt s 0)) (leb used pagesMost && ltb 0 (heightOf (pageAt s 0))) (f .0)
+      (and-both (leb used pagesMost) (ltb 0 (heightOf (pageAt s 0))) (le-leb used pagesMost few) (lt-ltb 0 (heightOf (pageAt s 0)) (k .whole .tall))))
       (ap (wentOk used) d ∙ w .2))
       (zero-spare s size used few (k .whole .spare))

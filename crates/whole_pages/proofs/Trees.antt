@@ -12,6 +12,7 @@ use native.Mathlib.Omega.{arith}
 use borrow.Author.Tests.{eqb-true, eq-eqb, leb-true, le-leb, ltb-true, lt-ltb}
 use lib.Dec.{eqb, leb, ltb, lit≤}
 use lib.ListN.{length, length-map, drop-of-length-le}
+use Rattle.limits.specs.Limits.{pagesMost, pageSize, pagesSize, leafMost, innerMost, innerFewest}
 use Rattle.lists.specs.Lists.{tab, all, join, In}
 use Rattle.lists.specs.Lists as L
 use Rattle.lists.proofs.Tests.{both, and-both, eqb-turn}
@@ -61,7 +62,7 @@ pub record TreeFacts (n least : ℕ) (s : List ℕ) (t : Span) : Type 0 where
 -- of the children of a page, with the page's range
 pub record KidsFacts (n : ℕ) (s : List ℕ) (lo hi : ℕ) (cs : List P.Child) : Type 0 where
   pub laid : (c : P.Child) → In c cs → Laid n s (c .page)
-  pub counts : all (λ c. counted ℕ Item documentSizes 15 n (c .tree)) (map (kid n s) cs) ≡ true
+  pub counts : all (λ c. counted ℕ Item documentSizes innerFewest n (c .tree)) (map (kid n s) cs) ≡ true
   pub keys : ranges compare (ranged compare keyOf 0 n) lo (some hi) (map (kid n s) cs) ≡ true
   pub rests : (e : Item) → In e (join (λ c. flat ℕ Item n (c .tree)) (map (kid n s) cs)) → e .owner ≡ 0 → Rests e
 
@@ -74,27 +75,27 @@ module _ (n : ℕ) (s : List ℕ) (hi : ℕ) where
   abbrev R : ℕ → Option ℕ → Tree ℕ Item n → Bool
   R lo h t = ranged compare keyOf 0 n lo h t
 
-  module _ (h : (t : Span) → treeOk n 15 s t ≡ true → TreeFacts n 15 s t) where
-    pub kids-facts : (lo : ℕ) (cs : List P.Child) → all (treeOk n 15 s) (spans lo hi cs) ≡ true → abovesOf lo hi cs ≡ true → KidsFacts n s lo hi cs
+  module _ (h : (t : Span) → treeOk n innerFewest s t ≡ true → TreeFacts n innerFewest s t) where
+    pub kids-facts : (lo : ℕ) (cs : List P.Child) → all (treeOk n innerFewest s) (spans lo hi cs) ≡ true → abovesOf lo hi cs ≡ true → KidsFacts n s lo hi cs
     unfolding spans all ranges aboves join
     kids-facts lo [] a b = record { laid = λ c m. absurd m; counts = refl; keys = refl; rests = λ e m. absurd m }
     kids-facts lo (c ∷ []) a b =
-        let f = h (spanOf (c .page) lo hi) (both (treeOk n 15 s (spanOf (c .page) lo hi)) true a .0) in
+        let f = h (spanOf (c .page) lo hi) (both (treeOk n innerFewest s (spanOf (c .page) lo hi)) true a .0) in
         record {
           laid = λ x m. ⊎-elim (λ e. subst (λ y. Laid n s (y .page)) e (f .laid)) (λ z. absurd z) m;
-          counts = and-both (counted ℕ Item documentSizes 15 n (treeOf n s (c .page))) true (f .counts) refl;
+          counts = and-both (counted ℕ Item documentSizes innerFewest n (treeOf n s (c .page))) true (f .counts) refl;
           keys = f .keys;
           rests = λ e m. ⊎-elim (λ l. f .rests e l) (λ z. absurd z) (append-in (flat ℕ Item n (treeOf n s (c .page))) [] e m);
         }
     kids-facts lo (c ∷ d ∷ cs) a b =
-        let x = both (treeOk n 15 s (spanOf (c .page) lo (d .low .0))) (all (treeOk n 15 s) (spans (d .low .0) hi (d ∷ cs))) a in
+        let x = both (treeOk n innerFewest s (spanOf (c .page) lo (d .low .0))) (all (treeOk n innerFewest s) (spans (d .low .0) hi (d ∷ cs))) a in
         let f = h (spanOf (c .page) lo (d .low .0)) (x .0) in
         let y = both (between lo hi (d .low .0)) (aboves (d .low .0) hi cs) b in
         let z = both (ltb lo (d .low .0)) (ltb (d .low .0) hi) (y .0) in
         let g = kids-facts (d .low .0) (d ∷ cs) (x .1) (y .1) in
         record {
           laid = λ x m. ⊎-elim (λ e. subst (λ y. Laid n s (y .page)) e (f .laid)) (λ z. g .laid x z) m;
-          counts = and-both (counted ℕ Item documentSizes 15 n (treeOf n s (c .page))) (all (λ c. counted ℕ Item documentSizes 15 n (c .tree)) (map (kid n s) (d ∷ cs))) (f .counts) (g .counts);
+          counts = and-both (counted ℕ Item documentSizes innerFewest n (treeOf n s (c .page))) (all (λ c. counted ℕ Item documentSizes innerFewest n (c .tree)) (map (kid n s) (d ∷ cs))) (f .counts) (g .counts);
           keys = and-both (R lo (some (d .low .0)) (treeOf n s (c .page)) && (under compare lo (d .low .0) && inside compare (d .low .0) (some hi)))
               (ranges compare (ranged compare keyOf 0 n) (d .low .0) (some hi) (map (kid n s) (d ∷ cs)))
               (and-both (R lo (some (d .low .0)) (treeOf n s (c .page))) (under compare lo (d .low .0) && inside compare (d .low .0) (some hi)) (f .keys)
@@ -103,16 +104,16 @@ module _ (n : ℕ) (s : List ℕ) (hi : ℕ) where
           rests = λ e m. ⊎-elim (λ l. f .rests e l) (λ r. g .rests e r) (append-in (flat ℕ Item n (treeOf n s (c .page))) (join (λ c. flat ℕ Item n (c .tree)) (map (kid n s) (d ∷ cs))) e m);
         }
 
-  module _ (h : (t : Span) → TreeFacts n 15 s t → treeOk n 15 s t ≡ true) where
-    pub facts-kids : (lo : ℕ) (cs : List P.Child) → KidsFacts n s lo hi cs → (all (treeOk n 15 s) (spans lo hi cs) ≡ true) × (abovesOf lo hi cs ≡ true)
+  module _ (h : (t : Span) → TreeFacts n innerFewest s t → treeOk n innerFewest s t ≡ true) where
+    pub facts-kids : (lo : ℕ) (cs : List P.Child) → KidsFacts n s lo hi cs → (all (treeOk n innerFewest s) (spans lo hi cs) ≡ true) × (abovesOf lo hi cs ≡ true)
     unfolding spans all ranges aboves join
     facts-kids lo [] f = (refl, refl)
     facts-kids lo (c ∷ []) f = (
-      and-both (treeOk n 15 s (spanOf (c .page) lo hi)) true
+      and-both (treeOk n innerFewest s (spanOf (c .page) lo hi)) true
           (h (spanOf (c .page) lo hi)
           (record {
             laid = f .laid c (inl refl);
-            counts = both (counted ℕ Item documentSizes 15 n (treeOf n s (c .page))) true (f .counts) .0;
+            counts = both (counted ℕ Item documentSizes innerFewest n (treeOf n s (c .page))) true (f .counts) .0;
             keys = f .keys;
             rests = λ e m. f .rests e (in-left (flat ℕ Item n (treeOf n s (c .page))) [] e m);
           })) refl,
@@ -123,7 +124,7 @@ module _ (n : ℕ) (s : List ℕ) (hi : ℕ) where
         (ranges compare (ranged compare keyOf 0 n) (d .low .0) (some hi) (map (kid n s) (d ∷ cs))) (f .keys) in
         let i = both (R lo (some (d .low .0)) (treeOf n s (c .page))) (under compare lo (d .low .0) && inside compare (d .low .0) (some hi)) (k .0) in
         let u = both (under compare lo (d .low .0)) (under compare (d .low .0) hi) (i .1) in
-        let w = both (counted ℕ Item documentSizes 15 n (treeOf n s (c .page))) (all (λ c. counted ℕ Item documentSizes 15 n (c .tree)) (map (kid n s) (d ∷ cs))) (f .counts) in
+        let w = both (counted ℕ Item documentSizes innerFewest n (treeOf n s (c .page))) (all (λ c. counted ℕ Item documentSizes innerFewest n (c .tree)) (map (kid n s) (d ∷ cs))) (f .counts) in
         let g = facts-kids (d .low .0) (d ∷ cs)
         (record {
           laid = λ x m. f .laid x (inr m);
@@ -131,7 +132,7 @@ module _ (n : ℕ) (s : List ℕ) (hi : ℕ) where
           keys = k .1;
           rests = λ e m. f .rests e (in-right (flat ℕ Item n (treeOf n s (c .page))) (join (λ c. flat ℕ Item n (c .tree)) (map (kid n s) (d ∷ cs))) e m);
         }) in (
-          and-both (treeOk n 15 s (spanOf (c .page) lo (d .low .0))) (all (treeOk n 15 s) (spans (d .low .0) hi (d ∷ cs)))
+          and-both (treeOk n innerFewest s (spanOf (c .page) lo (d .low .0))) (all (treeOk n innerFewest s) (spans (d .low .0) hi (d ∷ cs)))
               (h (spanOf (c .page) lo (d .low .0))
               (record {
                 laid = f .laid c (inl refl);
@@ -145,31 +146,31 @@ module _ (n : ℕ) (s : List ℕ) (hi : ℕ) where
         )
 
 -- ---- a page that has a length is one of the 64
-within : (s : List ℕ) (q : ℕ) → length s ≡ 32768 → numberAt 2 (pageAt s q) 0 ≡ 512 → length (pageAt s q) ≡ 512
+within : (s : List ℕ) (q : ℕ) → length s ≡ pagesSize → numberAt 2 (pageAt s q) 0 ≡ pageSize → length (pageAt s q) ≡ pageSize
 unfolding pageAt part
 within s q h e =
-    elim (decLt q 64) [
-      | yes l ↦ length-part (512 * q) 512 s (omega arith)
+    elim (decLt q pagesMost) [
+      | yes l ↦ length-part (pageSize * q) pageSize s (omega arith)
       | no l ↦
-          let z : pageAt s q ≡ [] = ap (λ x. part 0 512 x) (drop-of-length-le s {i = 512 * q} (omega arith)) in
-          let w : _≡_ {A = ℕ} 0 512 = sym (ap (λ x. numberAt 2 x 0) z ∙ number-none 2 0) ∙ e in
+          let z : pageAt s q ≡ [] = ap (λ x. part 0 pageSize x) (drop-of-length-le s {i = pageSize * q} (omega arith)) in
+          let w : _≡_ {A = ℕ} 0 pageSize = sym (ap (λ x. numberAt 2 x 0) z ∙ number-none 2 0) ∙ e in
           absurd (omega arith)
     ]
 
-leaf-length : (lo hi : ℕ) (p : List ℕ) → leafOk lo hi p ≡ true → numberAt 2 p 0 ≡ 512
+leaf-length : (lo hi : ℕ) (p : List ℕ) → leafOk lo hi p ≡ true → numberAt 2 p 0 ≡ pageSize
 unfolding leafOk
 leaf-length lo hi p h =
-    head-length 2 0 p (both (headOk 2 0 p) (leb (countOf p) 24)
-    (both (headOk 2 0 p && leb (countOf p) 24) (entriesOk lo hi (tab (countOf p) 0 (entryFieldsAt p))) (both ((headOk 2 0 p && leb (countOf p) 24) && entriesOk lo hi (tab (countOf p) 0 (entryFieldsAt p))) _ h .0) .0) .0)
+    head-length 2 0 p (both (headOk 2 0 p) (leb (countOf p) leafMost)
+    (both (headOk 2 0 p && leb (countOf p) leafMost) (entriesOk lo hi (tab (countOf p) 0 (entryFieldsAt p))) (both ((headOk 2 0 p && leb (countOf p) leafMost) && entriesOk lo hi (tab (countOf p) 0 (entryFieldsAt p))) _ h .0) .0) .0)
 
-inner-length : (level least lo hi : ℕ) (p : List ℕ) → innerOk level least lo hi p ≡ true → numberAt 2 p 0 ≡ 512
+inner-length : (level least lo hi : ℕ) (p : List ℕ) → innerOk level least lo hi p ≡ true → numberAt 2 p 0 ≡ pageSize
 unfolding innerOk
 inner-length level least lo hi p h =
-    let front = headOk 3 level p && (leb least (countOf p) && leb (countOf p) 30) in
+    let front = headOk 3 level p && (leb least (countOf p) && leb (countOf p) innerMost) in
     let a = both ((front && firstOk (childFieldsAt p 0)) && childrenOk lo hi (tab (countOf p - 1) 1 (childFieldsAt p))) _ h in
     let b = both (front && firstOk (childFieldsAt p 0)) (childrenOk lo hi (tab (countOf p - 1) 1 (childFieldsAt p))) (a .0) in
     let c = both front (firstOk (childFieldsAt p 0)) (b .0) in
-    head-length 3 level p (both (headOk 3 level p) (leb least (countOf p) && leb (countOf p) 30) (c .0) .0)
+    head-length 3 level p (both (headOk 3 level p) (leb least (countOf p) && leb (countOf p) innerMost) (c .0) .0)
 
 -- ---- the children of a page, the first apart
 children-cons : (p : List ℕ) → 1 ≤ countOf p → childrenOf p ≡ childAt p 0 ∷ tab (countOf p - 1) 1 (childAt p)
@@ -177,10 +178,10 @@ unfolding childrenOf
 children-cons p h = ap (λ n. tab n 0 (childAt p)) (sym (sub-zero (countOf p))) ∙ tab-next (countOf p) 0 (childAt p) (omega arith)
 
 -- ---- the tree
-module _ (s : List ℕ) (g : Bytes s) (size : length s ≡ 32768) where
+module _ (s : List ℕ) (g : Bytes s) (size : length s ≡ pagesSize) where
   page-bytes : (q : ℕ) → Bytes (pageAt s q)
   unfolding pageAt
-  page-bytes q = bytes-part (512 * q) 512 s g
+  page-bytes q = bytes-part (pageSize * q) pageSize s g
 
   pub tree-facts : (n least : ℕ) (t : Span) → 1 ≤ least → treeOk n least s t ≡ true → TreeFacts n least s t
   unfolding treeOk pageOk counted ranged flat treeOf
@@ -190,23 +191,23 @@ module _ (s : List ℕ) (g : Bytes s) (size : length s ≡ 32768) where
       let l = length-entries p in
       record {
         laid = f .laid;
-        counts = le-leb (length (entriesOf p)) 24 (let m = f .few in omega arith);
+        counts = le-leb (length (entriesOf p)) leafMost (let m = f .few in omega arith);
         keys = sorted-test compare keyOf (t .low .0) (some (t .high .0)) (entriesOf p) (f .order);
         rests = f .rests;
       }
   tree-facts (suc n) least t one h =
       let p = pageAt s (t .page) in
-      let a = both (innerOk (suc n) least (t .low .0) (t .high .0) p) (all (treeOk n 15 s) (spans (t .low .0) (t .high .0) (childrenOf p))) h in
+      let a = both (innerOk (suc n) least (t .low .0) (t .high .0) p) (all (treeOk n innerFewest s) (spans (t .low .0) (t .high .0) (childrenOf p))) h in
       let f = inner-facts p (page-bytes (t .page)) (suc n) least (t .low .0) (t .high .0) (within s (t .page) size (inner-length (suc n) least (t .low .0) (t .high .0) p (a .0))) one (a .0) in
       let some′ : 1 ≤ countOf p = (let m = f .enough in omega arith) in
       let e = children-cons p some′ in
-      let k = kids-facts n s (t .high .0) (λ u v. tree-facts n 15 u (lit≤ tt) v) (t .low .0) (childrenOf p) (a .1) (subst (λ cs. abovesOf (t .low .0) (t .high .0) cs ≡ true) (sym e) (f .above)) in
+      let k = kids-facts n s (t .high .0) (λ u v. tree-facts n innerFewest u (lit≤ tt) v) (t .low .0) (childrenOf p) (a .1) (subst (λ cs. abovesOf (t .low .0) (t .high .0) cs ≡ true) (sym e) (f .above)) in
       let l : length (map (kid n s) (childrenOf p)) ≡ countOf p = length-map (childrenOf p) (kid n s) ∙ length-children p in
       record {
         laid = (f .laid, k .laid);
-        counts = and-both (leb least (length (map (kid n s) (childrenOf p))) && leb (length (map (kid n s) (childrenOf p))) 30) (all (λ c. counted ℕ Item documentSizes 15 n (c .tree)) (map (kid n s) (childrenOf p)))
-            (and-both (leb least (length (map (kid n s) (childrenOf p)))) (leb (length (map (kid n s) (childrenOf p))) 30)
-            (le-leb least (length (map (kid n s) (childrenOf p))) (let m = f .enough in omega arith)) (le-leb (length (map (kid n s) (childrenOf p))) 30 (let m = f .few in omega arith)))
+        counts = and-both (leb least (length (map (kid n s) (childrenOf p))) && leb (length (map (kid n s) (childrenOf p))) innerMost) (all (λ c. counted ℕ Item documentSizes innerFewest n (c .tree)) (map (kid n s) (childrenOf p)))
+            (and-both (leb least (length (map (kid n s) (childrenOf p)))) (leb (length (map (kid n s) (childrenOf p))) innerMost)
+            (le-leb least (length (map (kid n s) (childrenOf p))) (let m = f .enough in omega arith)) (le-leb (length (map (kid n s) (childrenOf p))) innerMost (let m = f .few in omega arith)))
             (k .counts);
         keys = and-both (firstLow compare 0 (map (kid n s) (childrenOf p))) (ranges compare (ranged compare keyOf 0 n) (t .low .0) (some (t .high .0)) (map (kid n s) (childrenOf p)))
             (subst (λ cs. firstLow compare 0 (map (kid n s) cs) ≡ true) (sym e) (eq-eqb (childAt p 0 .low .0) 0 (f .first)))
@@ -222,22 +223,22 @@ module _ (s : List ℕ) (g : Bytes s) (size : length s ≡ 32768) where
       facts-leaf p (page-bytes (t .page)) (t .low .0) (t .high .0)
       (record {
         laid = f .laid;
-        few = (let m = leb-true (length (entriesOf p)) 24 (f .counts) in omega arith);
+        few = (let m = leb-true (length (entriesOf p)) leafMost (f .counts) in omega arith);
         order = test-sorted compare keyOf (t .low .0) (some (t .high .0)) (entriesOf p) (f .keys);
         rests = f .rests;
       })
   facts-tree (suc n) least t small one f =
       let p = pageAt s (t .page) in
       let l : length (map (kid n s) (childrenOf p)) ≡ countOf p = length-map (childrenOf p) (kid n s) ∙ length-children p in
-      let a = both (leb least (length (map (kid n s) (childrenOf p))) && leb (length (map (kid n s) (childrenOf p))) 30) (all (λ c. counted ℕ Item documentSizes 15 n (c .tree)) (map (kid n s) (childrenOf p))) (f .counts) in
-      let b = both (leb least (length (map (kid n s) (childrenOf p)))) (leb (length (map (kid n s) (childrenOf p))) 30) (a .0) in
+      let a = both (leb least (length (map (kid n s) (childrenOf p))) && leb (length (map (kid n s) (childrenOf p))) innerMost) (all (λ c. counted ℕ Item documentSizes innerFewest n (c .tree)) (map (kid n s) (childrenOf p))) (f .counts) in
+      let b = both (leb least (length (map (kid n s) (childrenOf p)))) (leb (length (map (kid n s) (childrenOf p))) innerMost) (a .0) in
       let many : least ≤ length (map (kid n s) (childrenOf p)) = leb-true least (length (map (kid n s) (childrenOf p))) (b .0) in
-      let few : length (map (kid n s) (childrenOf p)) ≤ 30 = leb-true (length (map (kid n s) (childrenOf p))) 30 (b .1) in
+      let few : length (map (kid n s) (childrenOf p)) ≤ innerMost = leb-true (length (map (kid n s) (childrenOf p))) innerMost (b .1) in
       let c = both (firstLow compare 0 (map (kid n s) (childrenOf p))) (ranges compare (ranged compare keyOf 0 n) (t .low .0) (some (t .high .0)) (map (kid n s) (childrenOf p))) (f .keys) in
       let e = children-cons p (omega arith) in
-      let k = facts-kids n s (t .high .0) (λ u v. facts-tree n 15 u (omega arith) (lit≤ tt) v) (t .low .0) (childrenOf p)
+      let k = facts-kids n s (t .high .0) (λ u v. facts-tree n innerFewest u (omega arith) (lit≤ tt) v) (t .low .0) (childrenOf p)
       (record { laid = f .laid .1; counts = a .1; keys = c .1; rests = f .rests }) in
-      and-both (innerOk (suc n) least (t .low .0) (t .high .0) p) (all (treeOk n 15 s) (spans (t .low .0) (t .high .0) (childrenOf p)))
+      and-both (innerOk (suc n) least (t .low .0) (t .high .0) p) (all (treeOk n innerFewest s) (spans (t .low .0) (t .high .0) (childrenOf p)))
       (facts-inner p (page-bytes (t .page)) (suc n) least (t .low .0) (t .high .0) small one
       (record {
         laid = f .laid .0;

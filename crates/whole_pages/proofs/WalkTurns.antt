@@ -9,6 +9,7 @@ use native.Mathlib.Decide.{decLt}
 use native.Mathlib.Omega.{arith}
 use borrow.Author.Tests.{ltb-true, leb-true, lt-ltb, le-ltb, not-true, not-false}
 use lib.Dec.{leb, ltb}
+use Rattle.limits.specs.Limits.{pagesMost, headSize, bodySize, childSize, innerMost, innerFewest}
 use Rattle.lists.specs.Lists.{tab}
 use Rattle.lists.proofs.Tests.{and-left, and-right}
 use Rattle.lists.proofs.Tables.{tab-next, tab-done}
@@ -73,12 +74,12 @@ inner-page level least s t z =
     ap (λ x. innerOk x least (t .low .0) (t .high .0) (pageAt s (t .page))) (one-more level z) ∙ ap (λ x. pageOk x least s t) (sym (one-more level z))
 
 walked : (level least : ℕ) (s : List ℕ) (used : ℕ) (t : Span) (m : Set) → (level ≡ 0 → ⊥)
-    → walkAt level least s used t m ≡ after (markAt used m (t .page)) (λ k. guard (pageOk level least s t) (walkOver (walkAt (level - 1) 15 s used) (spans (t .low .0) (t .high .0) (childrenOf (pageAt s (t .page)))) k))
+    → walkAt level least s used t m ≡ after (markAt used m (t .page)) (λ k. guard (pageOk level least s t) (walkOver (walkAt (level - 1) innerFewest s used) (spans (t .low .0) (t .high .0) (childrenOf (pageAt s (t .page)))) k))
 unfolding walkAt
 walked level least s used t m z =
     let e = one-more level z in
     ap (λ x. walkAt x least s used t m) e
-    ∙ ap (λ x. after (markAt used m (t .page)) (λ k. guard (pageOk x least s t) (walkOver (walkAt (level - 1) 15 s used) (spans (t .low .0) (t .high .0) (childrenOf (pageAt s (t .page)))) k))) (sym e)
+    ∙ ap (λ x. after (markAt used m (t .page)) (λ k. guard (pageOk x least s t) (walkOver (walkAt (level - 1) innerFewest s used) (spans (t .low .0) (t .high .0) (childrenOf (pageAt s (t .page)))) k))) (sym e)
 
 -- ---- the walk
 module _ (level least : ℕ) (s : List ℕ) (used : ℕ) (t : Span) (m : Set) (w : Trail) (e : w ≡ markAt used m (t .page)) where
@@ -91,17 +92,17 @@ module _ (level least : ℕ) (s : List ℕ) (used : ℕ) (t : Span) (m : Set) (w
 
       go : (n : ℕ) → Bad ≡ walkAt n least s used t m
       go zero = sym (ap (λ x. after x (λ k. guard (pageOk zero least s t) (Went k))) q)
-      go (suc n) = sym (ap (λ x. after x (λ k. guard (pageOk (suc n) least s t) (walkOver (walkAt n 15 s used) (spans (t .low .0) (t .high .0) (childrenOf (pageAt s (t .page)))) k))) q)
+      go (suc n) = sym (ap (λ x. after x (λ k. guard (pageOk (suc n) least s t) (walkOver (walkAt n innerFewest s used) (spans (t .low .0) (t .high .0) (childrenOf (pageAt s (t .page)))) k))) q)
 
   module _ (k : Set) (g : w ≡ Went k) where
     marked : markAt used m (t .page) ≡ Went k
     marked = sym e ∙ g
 
-    pub marked-page : used ≤ 64 → t .page < 64
+    pub marked-page : used ≤ pagesMost → t .page < pagesMost
     unfolding markAt
     marked-page h = go (ltb (t .page) used) refl (not (has m (t .page))) marked
       where
-        go : (a : Bool) → ltb (t .page) used ≡ a → (b : Bool) → cond (a && b) (Went (withOne m (t .page))) Bad ≡ Went k → t .page < 64
+        go : (a : Bool) → ltb (t .page) used ≡ a → (b : Bool) → cond (a && b) (Went (withOne m (t .page))) Bad ≡ Went k → t .page < pagesMost
         go true c b f = let l = ltb-true (t .page) used c in omega arith
         go false c b f = absurd (let z : _≡_ {A = ℕ} 0 1 = cc in omega arith)
 
@@ -113,8 +114,8 @@ module _ (level least : ℕ) (s : List ℕ) (used : ℕ) (t : Span) (m : Set) (w
           go : (n : ℕ) → pageOk n least s t ≡ false → Bad ≡ walkAt n least s used t m
           go zero c = sym (ap (λ x. after x (λ k. guard (pageOk zero least s t) (Went k))) marked ∙ ap (λ x. guard x (Went k)) c)
           go (suc n) c =
-              sym (ap (λ x. after x (λ j. guard (pageOk (suc n) least s t) (walkOver (walkAt n 15 s used) (spans (t .low .0) (t .high .0) (childrenOf (pageAt s (t .page)))) j))) marked
-              ∙ ap (λ x. guard x (walkOver (walkAt n 15 s used) (spans (t .low .0) (t .high .0) (childrenOf (pageAt s (t .page)))) k)) c)
+              sym (ap (λ x. after x (λ j. guard (pageOk (suc n) least s t) (walkOver (walkAt n innerFewest s used) (spans (t .low .0) (t .high .0) (childrenOf (pageAt s (t .page)))) j))) marked
+              ∙ ap (λ x. guard x (walkOver (walkAt n innerFewest s used) (spans (t .low .0) (t .high .0) (childrenOf (pageAt s (t .page)))) k)) c)
 
       pub walk-leaf : not b ≡ false → level ≡ 0 → Went k ≡ walkAt level least s used t m
       unfolding walkAt
@@ -122,31 +123,31 @@ module _ (level least : ℕ) (s : List ℕ) (used : ℕ) (t : Span) (m : Set) (w
           let c : pageOk 0 least s t ≡ true = ap (λ x. pageOk x least s t) (sym z) ∙ sym f ∙ not-false b h in
           sym (ap (λ x. walkAt x least s used t m) z ∙ ap (λ x. after x (λ k. guard (pageOk zero least s t) (Went k))) marked ∙ ap (λ x. guard x (Went k)) c)
 
-      pub walk-few : not b ≡ false → (level ≡ 0 → ⊥) → (n : ℕ) → n ≡ countOf (pageAt s (t .page)) → n ≤ 30
+      pub walk-few : not b ≡ false → (level ≡ 0 → ⊥) → (n : ℕ) → n ≡ countOf (pageAt s (t .page)) → n ≤ innerMost
       unfolding innerOk
       walk-few h z n c =
           let p = pageAt s (t .page) in
           let i : innerOk level least (t .low .0) (t .high .0) (pageAt s (t .page)) ≡ true = inner-page level least s t z ∙ sym f ∙ not-false b h in
-          let front = headOk 3 level p && (leb least (countOf p) && leb (countOf p) 30) in
+          let front = headOk 3 level p && (leb least (countOf p) && leb (countOf p) innerMost) in
           few (headOk 3 level (pageAt s (t .page))) (leb least (countOf (pageAt s (t .page)))) n (firstOk (childFieldsAt (pageAt s (t .page)) 0)) (childrenOk (t .low .0) (t .high .0) (tab (countOf (pageAt s (t .page)) - 1) 1 (childFieldsAt (pageAt s (t .page)))))
-          (zeroAt (496 - 16 * countOf (pageAt s (t .page))) (16 + 16 * countOf (pageAt s (t .page))) (pageAt s (t .page)))
-          (subst (λ x. ((((headOk 3 level (pageAt s (t .page)) && (leb least (countOf (pageAt s (t .page))) && leb x 30)) && firstOk (childFieldsAt (pageAt s (t .page)) 0)) && childrenOk (t .low .0) (t .high .0) (tab (countOf (pageAt s (t .page)) - 1) 1 (childFieldsAt (pageAt s (t .page))))) && zeroAt (496 - 16 * countOf (pageAt s (t .page))) (16 + 16 * countOf (pageAt s (t .page))) (pageAt s (t .page))) ≡ true) (sym c) i)
+          (zeroAt (bodySize - childSize * countOf (pageAt s (t .page))) (headSize + childSize * countOf (pageAt s (t .page))) (pageAt s (t .page)))
+          (subst (λ x. ((((headOk 3 level (pageAt s (t .page)) && (leb least (countOf (pageAt s (t .page))) && leb x innerMost)) && firstOk (childFieldsAt (pageAt s (t .page)) 0)) && childrenOk (t .low .0) (t .high .0) (tab (countOf (pageAt s (t .page)) - 1) 1 (childFieldsAt (pageAt s (t .page))))) && zeroAt (bodySize - childSize * countOf (pageAt s (t .page))) (headSize + childSize * countOf (pageAt s (t .page))) (pageAt s (t .page))) ≡ true) (sym c) i)
         where
-          few : (x y : Bool) (n : ℕ) (u v r : Bool) → ((((x && (y && leb n 30)) && u) && v) && r) ≡ true → n ≤ 30
+          few : (x y : Bool) (n : ℕ) (u v r : Bool) → ((((x && (y && leb n innerMost)) && u) && v) && r) ≡ true → n ≤ innerMost
           few x y n u v r a =
-              leb-true n 30 (and-right y (leb n 30) (and-right x (y && leb n 30) (and-left (x && (y && leb n 30)) u (and-left ((x && (y && leb n 30)) && u) v (and-left (((x && (y && leb n 30)) && u) && v) r a)))))
+              leb-true n innerMost (and-right y (leb n innerMost) (and-right x (y && leb n innerMost) (and-left (x && (y && leb n innerMost)) u (and-left ((x && (y && leb n innerMost)) && u) v (and-left (((x && (y && leb n innerMost)) && u) && v) r a)))))
 
       pub walk-over : not b ≡ false → (level ≡ 0 → ⊥) → (n : ℕ) → n ≡ countOf (pageAt s (t .page)) → (v : Trail)
-          → v ≡ walkOver (walkAt (level - 1) 15 s used) (spans (t .low .0) (t .high .0) (tab n 0 (childAt (pageAt s (t .page))))) k
+          → v ≡ walkOver (walkAt (level - 1) innerFewest s used) (spans (t .low .0) (t .high .0) (tab n 0 (childAt (pageAt s (t .page))))) k
           → v ≡ walkAt level least s used t m
       unfolding childrenOf
       walk-over h z n c v o =
           let d : pageOk level least s t ≡ true = sym f ∙ not-false b h in
           o
           ∙ sym (walked level least s used t m z
-          ∙ ap (λ x. after x (λ j. guard (pageOk level least s t) (walkOver (walkAt (level - 1) 15 s used) (spans (t .low .0) (t .high .0) (childrenOf (pageAt s (t .page)))) j))) marked
-          ∙ ap (λ x. guard x (walkOver (walkAt (level - 1) 15 s used) (spans (t .low .0) (t .high .0) (childrenOf (pageAt s (t .page)))) k)) d
-          ∙ ap (λ x. walkOver (walkAt (level - 1) 15 s used) (spans (t .low .0) (t .high .0) (tab x 0 (childAt (pageAt s (t .page))))) k) (sym c))
+          ∙ ap (λ x. after x (λ j. guard (pageOk level least s t) (walkOver (walkAt (level - 1) innerFewest s used) (spans (t .low .0) (t .high .0) (childrenOf (pageAt s (t .page)))) j))) marked
+          ∙ ap (λ x. guard x (walkOver (walkAt (level - 1) innerFewest s used) (spans (t .low .0) (t .high .0) (childrenOf (pageAt s (t .page)))) k)) d
+          ∙ ap (λ x. walkOver (walkAt (level - 1) innerFewest s used) (spans (t .low .0) (t .high .0) (tab x 0 (childAt (pageAt s (t .page))))) k) (sym c))
 
 -- ---- over the children
 module _ (f : Span → Set → Trail) (p : List ℕ) (first hi n : ℕ) (k : Set) where

@@ -5,6 +5,7 @@ use mathlib.Core.Bool.{Bool, true, not, _&&_, _||_}
 use mathlib.Core.List.{List, [], _∷_}
 use lib.Dec.{eqb, leb, ltb}
 use lib.ListN.{getD}
+use Rattle.limits.specs.Limits.{pageSize, headSize, bodySize, entrySize, leafMost, childSize, innerMost}
 use Rattle.lists.specs.Lists.{tab}
 use Rattle.numbers.specs.Numbers.{numberAt, fieldsAt, zeroAt}
 use Rattle.pages.specs.Layout.{kindOf, countOf, levelOf, entryWidths, childWidths}
@@ -13,11 +14,11 @@ use Rattle.pages.specs.declared.Child.{Child}
 -- the head: length, kind, level and the eight zeros; the count is tested with what it counts
 unfoldable pub headOk : ℕ → ℕ → List ℕ → Bool
 headOk kind level p =
-    ((eqb (numberAt 2 p 0) 512 && eqb (kindOf p) kind) && eqb (levelOf p) level) && eqb (numberAt 8 p 8) 0
+    ((eqb (numberAt 2 p 0) pageSize && eqb (kindOf p) kind) && eqb (levelOf p) level) && eqb (numberAt 8 p 8) 0
 
 -- page 0: behind its root, used and height there is nothing
 unfoldable pub firstPageOk : List ℕ → Bool
-firstPageOk p = (headOk 1 0 p && eqb (countOf p) 0) && zeroAt 490 22 p
+firstPageOk p = (headOk 1 0 p && eqb (countOf p) 0) && zeroAt (bodySize - 6) (headSize + 6) p
 
 -- an entry by its fields: what is absent is 0, and one that is settled is present with now and before equal
 unfoldable pub entryOk : List ℕ → Bool
@@ -29,7 +30,7 @@ abbrev pub inRange : ℕ → ℕ → ℕ → Bool
 inRange lo hi k = leb lo k && ltb k hi
 
 unfoldable pub entryFieldsAt : List ℕ → ℕ → List ℕ
-entryFieldsAt p i = fieldsAt entryWidths p (16 + 20 * i)
+entryFieldsAt p i = fieldsAt entryWidths p (headSize + entrySize * i)
 
 -- entries with keys from lo on and below hi, strictly ascending
 unfoldable pub entriesOk : ℕ → ℕ → List (List ℕ) → Bool
@@ -38,8 +39,8 @@ entriesOk lo hi (vs ∷ vss) = (inRange lo hi (getD vs 0 0) && entryOk vs) && en
 
 unfoldable pub leafOk : ℕ → ℕ → List ℕ → Bool
 leafOk lo hi p =
-    ((headOk 2 0 p && leb (countOf p) 24) && entriesOk lo hi (tab (countOf p) 0 (entryFieldsAt p)))
-    && zeroAt (496 - 20 * countOf p) (16 + 20 * countOf p) p
+    ((headOk 2 0 p && leb (countOf p) leafMost) && entriesOk lo hi (tab (countOf p) 0 (entryFieldsAt p)))
+    && zeroAt (bodySize - entrySize * countOf p) (headSize + entrySize * countOf p) p
 
 -- a child by its fields: the six zeros
 unfoldable pub fillersOk : List ℕ → Bool
@@ -49,7 +50,7 @@ abbrev pub between : ℕ → ℕ → ℕ → Bool
 between lo hi k = ltb lo k && ltb k hi
 
 unfoldable pub childFieldsAt : List ℕ → ℕ → List ℕ
-childFieldsAt p i = fieldsAt childWidths p (16 + 16 * i)
+childFieldsAt p i = fieldsAt childWidths p (headSize + childSize * i)
 
 -- children after the first, with separators above lo and below hi, strictly ascending
 unfoldable pub childrenOk : ℕ → ℕ → List (List ℕ) → Bool
@@ -61,9 +62,9 @@ firstOk vs = eqb (getD vs 0 0) 0 && fillersOk vs
 
 unfoldable pub innerOk : ℕ → ℕ → ℕ → ℕ → List ℕ → Bool
 innerOk level least lo hi p =
-    (((headOk 3 level p && (leb least (countOf p) && leb (countOf p) 30)) && firstOk (childFieldsAt p 0))
+    (((headOk 3 level p && (leb least (countOf p) && leb (countOf p) innerMost)) && firstOk (childFieldsAt p 0))
     && childrenOk lo hi (tab (countOf p - 1) 1 (childFieldsAt p)))
-    && zeroAt (496 - 16 * countOf p) (16 + 16 * countOf p) p
+    && zeroAt (bodySize - childSize * countOf p) (headSize + childSize * countOf p) p
 
 -- the same of the separators alone
 unfoldable pub aboves : ℕ → ℕ → List Child → Bool

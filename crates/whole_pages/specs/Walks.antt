@@ -4,6 +4,7 @@ use Prim.Native.Nat.{ℕ, zero, suc, _+_, _*_, _-_}
 use mathlib.Core.Bool.{Bool, false, cond, not, _&&_}
 use mathlib.Core.List.{List, [], _∷_}
 use lib.Dec.{leb, ltb}
+use Rattle.limits.specs.Limits.{pagesMost, pageSize, pagesSize, innerFewest}
 use Rattle.lists.specs.Lists.{tab, all}
 use Rattle.numbers.specs.Numbers.{zeroAt}
 use Rattle.sets.specs.declared.Set.{Set}
@@ -60,13 +61,13 @@ unfoldable pub walkAt : ℕ → ℕ → List ℕ → ℕ → Span → Set → Tr
 walkAt zero least s used t m = after (markAt used m (t .page)) (λ k. guard (pageOk zero least s t) (Went k))
 walkAt (suc n) least s used t m =
     after (markAt used m (t .page))
-    (λ k. guard (pageOk (suc n) least s t) (walkOver (walkAt n 15 s used) (spans (t .low .0) (t .high .0) (childrenOf (pageAt s (t .page)))) k))
+    (λ k. guard (pageOk (suc n) least s t) (walkOver (walkAt n innerFewest s used) (spans (t .low .0) (t .high .0) (childrenOf (pageAt s (t .page)))) k))
 
 -- every page of the tree is in order
 unfoldable pub treeOk : ℕ → ℕ → List ℕ → Span → Bool
 treeOk zero least s t = pageOk zero least s t
 treeOk (suc n) least s t =
-    pageOk (suc n) least s t && all (treeOk n 15 s) (spans (t .low .0) (t .high .0) (childrenOf (pageAt s (t .page))))
+    pageOk (suc n) least s t && all (treeOk n innerFewest s) (spans (t .low .0) (t .high .0) (childrenOf (pageAt s (t .page))))
 
 -- every page below `used` is seen
 unfoldable pub seenOk : ℕ → Set → Bool
@@ -78,7 +79,7 @@ wentOk used Bad = false
 
 -- the whole page buffer
 unfoldable pub frontOk : List ℕ → Bool
-frontOk s = firstPageOk (pageAt s 0) && (leb (usedOf (pageAt s 0)) 64 && ltb 0 (heightOf (pageAt s 0)))
+frontOk s = firstPageOk (pageAt s 0) && (leb (usedOf (pageAt s 0)) pagesMost && ltb 0 (heightOf (pageAt s 0)))
 
 unfoldable pub treeIn : List ℕ → Trail
 treeIn s =
@@ -86,4 +87,4 @@ treeIn s =
 
 unfoldable pub pagesOk : List ℕ → Bool
 pagesOk s =
-    (frontOk s && wentOk (usedOf (pageAt s 0)) (treeIn s)) && zeroAt (32768 - 512 * usedOf (pageAt s 0)) (512 * usedOf (pageAt s 0)) s
+    (frontOk s && wentOk (usedOf (pageAt s 0)) (treeIn s)) && zeroAt (pagesSize - pageSize * usedOf (pageAt s 0)) (pageSize * usedOf (pageAt s 0)) s

@@ -4,10 +4,13 @@ pub mod page;
 ghost use mathlib.Core.Path.{_≡_};
 ghost use Prim.Native.Nat.{_<_, _≤_, _+_, _*_};
 ghost use lib.ListN.{length};
+ghost use Rattle.limits.specs.Limits.{pagesMost, pagesSize, innerMost};
 ghost use Rattle.pages.specs.Layout.{usedOf, heightOf};
 ghost use Rattle.index.specs.Pictures.{pageAt};
 ghost use Rattle.whole_pages.specs.Walks.{highAt, markAt, pageOk, walkAt, seenOk, frontOk, treeIn, pagesOk};
 use entries::Key;
+use limits::PAGE_SIZE;
+use limits::PAGES_SIZE;
 use pages::head;
 use sets::Set;
 
@@ -26,7 +29,7 @@ pub enum Trail {
 
 // Sets page q down as seen, if it is used and was not seen before: "each reached once".
 pub fn mark(seen: Set, q: usize, used: usize) -> Trail
-    requires { ⌜ used ≤ 64 ⌝ }
+    requires { ⌜ used ≤ pagesMost ⌝ }
     ensures { λ r. ⌜ r ≡ markAt used seen q ⌝ }
 {
     if q >= used {
@@ -40,25 +43,25 @@ pub fn mark(seen: Set, q: usize, used: usize) -> Trail
 
 // Whether the page is in order, by its level: "leaves all at level 0, an inner page one above its children".
 fn is_page(pages: &[u8], level: usize, least: usize, t: Span) -> bool
-    requires { ⌜ length (now pages) ≡ 32768 ⌝ }
-    requires { ⌜ t .page < 64 ⌝ }
+    requires { ⌜ length (now pages) ≡ pagesSize ⌝ }
+    requires { ⌜ t .page < pagesMost ⌝ }
     requires { ⌜ 1 ≤ least ⌝ }
     ensures { λ r. ⌜ r ≡ pageOk level least (now (pages .entry)) t ⌝ }
 {
-    let a = 512 * t.page;
+    let a = PAGE_SIZE * t.page;
     let low = t.low;
     let high = t.high;
     if level == 0 {
-        return page::is_leaf(&pages[a..a + 512], low, high);
+        return page::is_leaf(&pages[a..a + PAGE_SIZE], low, high);
     }
-    page::is_inner(&pages[a..a + 512], level, least, low, high)
+    page::is_inner(&pages[a..a + PAGE_SIZE], level, least, low, high)
 }
 
 // Where the range of child i of page q ends: at the next separator, or where the page's own does.
 fn high_at(pages: &[u8], q: usize, n: usize, i: usize, high: Key) -> Key
-    requires { ⌜ length (now pages) ≡ 32768 ⌝ }
-    requires { ⌜ q < 64 ⌝ }
-    requires { ⌜ n ≤ 30 ⌝ }
+    requires { ⌜ length (now pages) ≡ pagesSize ⌝ }
+    requires { ⌜ q < pagesMost ⌝ }
+    requires { ⌜ n ≤ innerMost ⌝ }
     requires { ⌜ i < n ⌝ }
     ensures { λ r. ⌜ r .0 ≡ highAt (pageAt (now (pages .entry)) q) n i (high .0) ⌝ }
 {
@@ -71,8 +74,8 @@ fn high_at(pages: &[u8], q: usize, n: usize, i: usize, high: Key) -> Key
 // Walks the tree of a level from its page down, the level falling by one at each step, so that it ends whatever the bytes say. Gives the
 // pages seen then, or Bad where some page is not in order or is seen twice.
 fn walk(pages: &[u8], used: usize, level: usize, least: usize, t: Span, seen: Set) -> Trail
-    requires { ⌜ length (now pages) ≡ 32768 ⌝ }
-    requires { ⌜ used ≤ 64 ⌝ }
+    requires { ⌜ length (now pages) ≡ pagesSize ⌝ }
+    requires { ⌜ used ≤ pagesMost ⌝ }
     requires { ⌜ 1 ≤ least ⌝ }
     ensures { λ r. ⌜ r ≡ walkAt level least (now (pages .entry)) used t seen ⌝ }
 {
@@ -99,7 +102,7 @@ fn walk(pages: &[u8], used: usize, level: usize, least: usize, t: Span, seen: Se
             low: low,
             high: next,
         };
-        let below = walk(pages, used, level - 1, 15, child, m);
+        let below = walk(pages, used, level - 1, limits::INNER_FEWEST, child, m);
         let Trail::Went(more) = below else {
             return Trail::Bad;
         };
@@ -112,7 +115,7 @@ fn walk(pages: &[u8], used: usize, level: usize, least: usize, t: Span, seen: Se
 
 // Whether every page below `used` is seen.
 fn are_seen(seen: Set, used: usize) -> bool
-    requires { ⌜ used ≤ 64 ⌝ }
+    requires { ⌜ used ≤ pagesMost ⌝ }
     ensures { λ r. ⌜ r ≡ seenOk used seen ⌝ }
 {
     let mut q: usize = 0;
@@ -127,17 +130,17 @@ fn are_seen(seen: Set, used: usize) -> bool
 
 // Whether page 0 is in order, with no more pages used than there are, and a height.
 fn has_front(pages: &[u8]) -> bool
-    requires { ⌜ length (now pages) ≡ 32768 ⌝ }
+    requires { ⌜ length (now pages) ≡ pagesSize ⌝ }
     ensures { λ r. ⌜ r ≡ frontOk (now (pages .entry)) ⌝ }
 {
-    let p = &pages[0..512];
-    page::is_first_page(p) & ((head::used_of(p) <= 64) & (0 < head::height_of(p)))
+    let p = &pages[0..PAGE_SIZE];
+    page::is_first_page(p) & ((head::used_of(p) <= limits::PAGES) & (0 < head::height_of(p)))
 }
 
 // The walk from the root: "height the root's level plus 1, root with 2 to 30 children or a leaf".
 fn walk_root(pages: &[u8]) -> Trail
-    requires { ⌜ length (now pages) ≡ 32768 ⌝ }
-    requires { ⌜ usedOf (pageAt (now pages) 0) ≤ 64 ⌝ }
+    requires { ⌜ length (now pages) ≡ pagesSize ⌝ }
+    requires { ⌜ usedOf (pageAt (now pages) 0) ≤ pagesMost ⌝ }
     requires { ⌜ 0 < heightOf (pageAt (now pages) 0) ⌝ }
     ensures { λ r. ⌜ r ≡ treeIn (now (pages .entry)) ⌝ }
 {
@@ -154,7 +157,7 @@ fn walk_root(pages: &[u8]) -> Trail
 
 // Whether the page buffer is whole, with every entry in order: page 0, the tree with each used page once, and nothing in the others.
 pub fn are_pages(pages: &[u8]) -> bool
-    requires { ⌜ length (now pages) ≡ 32768 ⌝ }
+    requires { ⌜ length (now pages) ≡ pagesSize ⌝ }
     ensures { λ r. ⌜ r ≡ pagesOk (now (pages .entry)) ⌝ }
 {
     if !has_front(pages) {
@@ -165,5 +168,5 @@ pub fn are_pages(pages: &[u8]) -> bool
         return false;
     };
     let used = index::used_of(pages);
-    are_seen(seen, used) & numbers::is_zero(pages, 512 * used, 32768 - 512 * used)
+    are_seen(seen, used) & numbers::is_zero(pages, PAGE_SIZE * used, PAGES_SIZE - PAGE_SIZE * used)
 }

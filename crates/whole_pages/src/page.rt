@@ -3,35 +3,45 @@
 ghost use mathlib.Core.Path.{_≡_};
 ghost use Prim.Native.Nat.{_<_, _≤_, _+_, _*_};
 ghost use lib.ListN.{length};
+ghost use Rattle.limits.specs.Limits.{pageSize, leafMost, innerMost};
 ghost use Rattle.whole_pages.specs.Checks.{headOk, firstPageOk, inRange, entryOk, entryFieldsAt, leafOk, between, fillersOk, firstOk, childFieldsAt, innerOk};
 use entries::Key;
+use limits::CHILD_SIZE;
+use limits::ENTRY_SIZE;
+use limits::HEAD_SIZE;
+use limits::PAGE_SIZE;
 use pages::head;
 
 // Whether the head has the length of a page, this kind and this level, and its eight zeros.
 fn has_head(p: &[u8], kind: usize, level: usize) -> bool
-    requires { ⌜ length (now p) ≡ 512 ⌝ }
+    requires { ⌜ length (now p) ≡ pageSize ⌝ }
     ensures { λ r. ⌜ r ≡ headOk kind level (now (p .entry)) ⌝ }
 {
     let length = numbers::number_at(p, 0);
     let zeros = numbers::read_u64(p, 8);
-    (length == 512) & (head::kind_of(p) == kind) & (head::level_of(p) == level) & (zeros == 0)
+    (length == PAGE_SIZE) & (head::kind_of(p) == kind) & (head::level_of(p) == level) & (zeros == 0)
 }
+
+// Where page 0 has no more numbers, and how many bytes there are from there on.
+const BEHIND: usize = HEAD_SIZE + 6;
+
+const REST: usize = limits::BODY_SIZE - 6;
 
 // Whether it is a first page: the head, and nothing behind root, used and height.
 pub fn is_first_page(p: &[u8]) -> bool
-    requires { ⌜ length (now p) ≡ 512 ⌝ }
+    requires { ⌜ length (now p) ≡ pageSize ⌝ }
     ensures { λ r. ⌜ r ≡ firstPageOk (now (p .entry)) ⌝ }
 {
-    has_head(p, 1, 0) & (head::count_of(p) == 0) & numbers::is_zero(p, 22, 490)
+    has_head(p, 1, 0) & (head::count_of(p) == 0) & numbers::is_zero(p, BEHIND, REST)
 }
 
 // Whether the entry at a place is one: what is absent is 0, and "Owner 0 means settled: present, with now and before equal".
 fn is_entry(p: &[u8], i: usize) -> bool
-    requires { ⌜ length (now p) ≡ 512 ⌝ }
-    requires { ⌜ i < 24 ⌝ }
+    requires { ⌜ length (now p) ≡ pageSize ⌝ }
+    requires { ⌜ i < leafMost ⌝ }
     ensures { λ r. ⌜ r ≡ entryOk (entryFieldsAt (now (p .entry)) i) ⌝ }
 {
-    let now_at = 16 + 20 * i + 8;
+    let now_at = HEAD_SIZE + ENTRY_SIZE * i + 8;
     let before_at = now_at + 4;
     let owner_at = before_at + 4;
     let now = numbers::read_u32(p, now_at);
@@ -53,33 +63,37 @@ fn is_in(low: Key, high: Key, key: Key) -> bool
 
 // Whether it is a leaf with keys from low on and below high.
 pub fn is_leaf(p: &[u8], low: Key, high: Key) -> bool
-    requires { ⌜ length (now p) ≡ 512 ⌝ }
+    requires { ⌜ length (now p) ≡ pageSize ⌝ }
     ensures { λ r. ⌜ r ≡ leafOk (low .0) (high .0) (now (p .entry)) ⌝ }
 {
     let n = head::count_of(p);
-    if !(has_head(p, 2, 0) & (n <= 24)) {
+    if !(has_head(p, 2, 0) & (n <= limits::LEAF_MOST)) {
         return false;
     }
     let mut least = low;
     let mut i: usize = 0;
     while i < n {
-        let key = Key(numbers::read_u64(p, 16 + 20 * i));
+        let key = Key(numbers::read_u64(p, HEAD_SIZE + ENTRY_SIZE * i));
         if !(is_in(least, high, key) & is_entry(p, i)) {
             return false;
         }
         least = Key(key.0 + 1);
         i += 1;
     }
-    numbers::is_zero(p, 16 + 20 * n, 496 - 20 * n)
+    numbers::is_zero(
+        p,
+        HEAD_SIZE + ENTRY_SIZE * n,
+        limits::BODY_SIZE - ENTRY_SIZE * n,
+    )
 }
 
 // Whether a child's six zeros are.
 fn is_child(p: &[u8], i: usize) -> bool
-    requires { ⌜ length (now p) ≡ 512 ⌝ }
-    requires { ⌜ i < 30 ⌝ }
+    requires { ⌜ length (now p) ≡ pageSize ⌝ }
+    requires { ⌜ i < innerMost ⌝ }
     ensures { λ r. ⌜ r ≡ fillersOk (childFieldsAt (now (p .entry)) i) ⌝ }
 {
-    let filler_at = 16 + 16 * i + 8 + 2;
+    let filler_at = HEAD_SIZE + CHILD_SIZE * i + 8 + 2;
     let filler = numbers::read_u16(p, filler_at);
     let rest = numbers::read_u32(p, filler_at + 2);
     (filler == 0) & (rest == 0)
@@ -94,32 +108,36 @@ fn is_between(low: Key, high: Key, key: Key) -> bool
 
 // Whether the first child is one: "the first separator is 0".
 fn is_first_child(p: &[u8]) -> bool
-    requires { ⌜ length (now p) ≡ 512 ⌝ }
+    requires { ⌜ length (now p) ≡ pageSize ⌝ }
     ensures { λ r. ⌜ r ≡ firstOk (childFieldsAt (now (p .entry)) 0) ⌝ }
 {
-    let low = Key(numbers::read_u64(p, 16));
+    let low = Key(numbers::read_u64(p, HEAD_SIZE));
     (low.0 == Key::LOWEST.0) & is_child(p, 0)
 }
 
 // Whether it is an inner page of a level, with at least so many children, and separators above low and below high.
 pub fn is_inner(p: &[u8], level: usize, least: usize, low: Key, high: Key) -> bool
-    requires { ⌜ length (now p) ≡ 512 ⌝ }
+    requires { ⌜ length (now p) ≡ pageSize ⌝ }
     requires { ⌜ 1 ≤ least ⌝ }
     ensures { λ r. ⌜ r ≡ innerOk level least (low .0) (high .0) (now (p .entry)) ⌝ }
 {
     let n = head::count_of(p);
-    if !(has_head(p, 3, level) & ((least <= n) & (n <= 30)) & is_first_child(p)) {
+    if !(has_head(p, 3, level) & ((least <= n) & (n <= limits::INNER_MOST)) & is_first_child(p)) {
         return false;
     }
     let mut above = low;
     let mut i: usize = 1;
     while i < n {
-        let key = Key(numbers::read_u64(p, 16 + 16 * i));
+        let key = Key(numbers::read_u64(p, HEAD_SIZE + CHILD_SIZE * i));
         if !(is_between(above, high, key) & is_child(p, i)) {
             return false;
         }
         above = key;
         i += 1;
     }
-    numbers::is_zero(p, 16 + 16 * n, 496 - 16 * n)
+    numbers::is_zero(
+        p,
+        HEAD_SIZE + CHILD_SIZE * n,
+        limits::BODY_SIZE - CHILD_SIZE * n,
+    )
 }

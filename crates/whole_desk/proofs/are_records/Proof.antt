@@ -2,7 +2,8 @@
 -- The measure is the number of records left. Assumes nothing.
 use borrow.Author.Needs.{needs}
 use mathlib.Core.Path.{_≡_}
-use Prim.Native.Nat.{_-_, _≤_}
+use Prim.Native.Nat.{_+_, _-_, _≤_}
+use Rattle.limits.specs.Limits.{transactionsMost}
 use Rattle.lists.specs.Lists.{tab, all}
 use Rattle.lists.proofs.Scans.{all-bad, all-step, all-end}
 use Rattle.whole_desk.specs.Checks.{recordOk}
@@ -10,10 +11,10 @@ use Rattle.whole_desk.proofs.are_records.Statement.{statement}
 use Rattle.whole_desk.proofs.are_records.Tie as tie
 
 abbrev Inv-loop : tie.InvT-loop
-Inv-loop d seen t₀ t = (1 ≤ t) × ((t ≤ 17) × (all (recordOk d seen) (tab 16 1 (λ k. k)) ≡ all (recordOk d seen) (tab (17 - t) t (λ k. k))))
+Inv-loop d seen t₀ t = (1 ≤ t) × ((t ≤ transactionsMost + 1) × (all (recordOk d seen) (tab transactionsMost 1 (λ k. k)) ≡ all (recordOk d seen) (tab (transactionsMost + 1 - t) t (λ k. k))))
 
 abbrev μ-loop : tie.MeasureT-loop
-μ-loop d seen t₀ t = 17 - t
+μ-loop d seen t₀ t = transactionsMost + 1 - t
 
 loop-holds : tie.Need-loop-holds Inv-loop μ-loop
 loop-holds c = search needs

@@ -3,6 +3,7 @@
 use borrow.Author.Needs.{needs}
 use mathlib.Core.Path.{_≡_}
 use Prim.Native.Nat.{_-_, _≤_}
+use Rattle.limits.specs.Limits.{locksMost}
 use Rattle.lists.specs.Lists.{tab, all}
 use Rattle.lists.proofs.Scans.{all-bad, all-step, all-end}
 use Rattle.whole_desk.specs.Checks.{slotOk}
@@ -11,10 +12,10 @@ use Rattle.whole_desk.proofs.are_slots.Statement.{statement}
 use Rattle.whole_desk.proofs.are_slots.Tie as tie
 
 abbrev Inv-loop : tie.InvT-loop
-Inv-loop d i₀ i = (i ≤ 256) × (all (slotOk d) (tab 256 0 (λ k. k)) ≡ all (slotOk d) (tab (256 - i) i (λ k. k)))
+Inv-loop d i₀ i = (i ≤ locksMost) × (all (slotOk d) (tab locksMost 0 (λ k. k)) ≡ all (slotOk d) (tab (locksMost - i) i (λ k. k)))
 
 abbrev μ-loop : tie.MeasureT-loop
-μ-loop d i₀ i = 256 - i
+μ-loop d i₀ i = locksMost - i
 
 are-zero-requires : tie.Need-are-zero-requires Inv-loop μ-loop
 are-zero-requires c κs = search needs

@@ -2,7 +2,8 @@
 -- The measure is the number of places left. Assumes nothing.
 use borrow.Author.Needs.{needs}
 use mathlib.Core.Path.{_≡_}
-use Prim.Native.Nat.{_-_, _≤_}
+use Prim.Native.Nat.{_+_, _-_, _≤_}
+use Rattle.limits.specs.Limits.{transactionsMost}
 use Rattle.lists.specs.Lists.{tab}
 use Rattle.tables.specs.Layout.{inPlace}
 use Rattle.whole_pages.specs.Walks.{marks}
@@ -12,7 +13,7 @@ use Rattle.whole_desk.proofs.askers.Statement.{statement}
 use Rattle.whole_desk.proofs.askers.Tie as tie
 
 abbrev Inv-loop : tie.InvT-loop
-Inv-loop d n m₀ i₀ m i = (n ≤ 16) × ((i ≤ n) × (askersIn d ≡ marks 17 (tab (n - i) i (inPlace d)) m))
+Inv-loop d n m₀ i₀ m i = (n ≤ transactionsMost) × ((i ≤ n) × (askersIn d ≡ marks (transactionsMost + 1) (tab (n - i) i (inPlace d)) m))
 
 abbrev μ-loop : tie.MeasureT-loop
 μ-loop d n m₀ i₀ m i = n - i

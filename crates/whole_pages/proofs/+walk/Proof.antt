@@ -4,6 +4,7 @@
 use borrow.Author.Needs.{needs}
 use mathlib.Core.Path.{_≡_}
 use Prim.Native.Nat.{_-_, _≤_, ℕ, _<_}
+use Rattle.limits.specs.Limits.{pagesMost, innerMost, innerFewest}
 use Rattle.lists.specs.Lists.{tab}
 use Rattle.pages.specs.Layout.{childAt}
 use Rattle.index.specs.Pictures.{pageAt}
@@ -32,7 +33,7 @@ abbrev walk-below : ℕ → In 1 walk-kinds.ps
 walk-below t = and 1 walk-kinds.ps (falls 1 walk-kinds.ps _<_ μ-walk t) walk.Pre
 
 abbrev walk-Inv-loop : walk-lts.InvT-loop
-walk-Inv-loop pages used level least q n high low₀ m₀ i₀ low m i = (q < 64) × ((n ≤ 30) × ((i ≤ n) × (walkOver (walkAt (level - 1) 15 pages used) (spans (low₀ .0) (high .0) (tab n 0 (childAt (pageAt pages q)))) m₀ ≡ walkOver (walkAt (level - 1) 15 pages used) (spans (low .0) (high .0) (tab (n - i) i (childAt (pageAt pages q)))) m)))
+walk-Inv-loop pages used level least q n high low₀ m₀ i₀ low m i = (q < pagesMost) × ((n ≤ innerMost) × ((i ≤ n) × (walkOver (walkAt (level - 1) innerFewest pages used) (spans (low₀ .0) (high .0) (tab n 0 (childAt (pageAt pages q)))) m₀ ≡ walkOver (walkAt (level - 1) innerFewest pages used) (spans (low .0) (high .0) (tab (n - i) i (childAt (pageAt pages q)))) m)))
 
 abbrev walk-μ-loop : walk-lts.MeasureT-loop
 walk-μ-loop pages used level least q n high low₀ m₀ i₀ low m i = n - i

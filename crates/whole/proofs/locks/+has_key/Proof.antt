@@ -3,6 +3,7 @@
 use borrow.Author.Needs.{needs}
 use mathlib.Core.Path.{_≡_}
 use Prim.Native.Nat.{_-_, _≤_}
+use Rattle.limits.specs.Limits.{pagesMost, innerMost}
 use Rattle.lists.specs.Lists.{tab, any}
 use Rattle.pages.specs.Layout.{childAt}
 use Rattle.index.specs.Pictures.{pageAt}
@@ -30,7 +31,7 @@ abbrev has-key-below : ℕ → In 1 has-key-kinds.ps
 has-key-below t = and 1 has-key-kinds.ps (falls 1 has-key-kinds.ps _<_ μ-has-key t) has-key.Pre
 
 abbrev has-key-Inv-loop : has-key-lts.InvT-loop
-has-key-Inv-loop pages level q key n i₀ i = (q < 64) × ((n ≤ 30) × ((i ≤ n) × (findAt level pages (key .0) q ≡ any (λ c. findAt (level - 1) pages (key .0) (c .page)) (tab (n - i) i (childAt (pageAt pages q))))))
+has-key-Inv-loop pages level q key n i₀ i = (q < pagesMost) × ((n ≤ innerMost) × ((i ≤ n) × (findAt level pages (key .0) q ≡ any (λ c. findAt (level - 1) pages (key .0) (c .page)) (tab (n - i) i (childAt (pageAt pages q))))))
 
 abbrev has-key-μ-loop : has-key-lts.MeasureT-loop
 has-key-μ-loop pages level q key n i₀ i = n - i

@@ -3,6 +3,7 @@
 use borrow.Author.Needs.{needs}
 use mathlib.Core.Path.{_≡_}
 use Prim.Native.Nat.{_-_, _≤_}
+use Rattle.limits.specs.Limits.{pagesMost, innerMost}
 use Rattle.lists.specs.Lists.{tab, all}
 use Rattle.pages.specs.Layout.{childAt}
 use Rattle.index.specs.Pictures.{pageAt}
@@ -32,7 +33,7 @@ owners-hold-below t =
     and 2 owners-hold-kinds.ps (falls 2 owners-hold-kinds.ps _<_ μ-owners-hold t) owners-hold.Pre
 
 abbrev owners-hold-Inv-loop : owners-hold-lts.InvT-loop
-owners-hold-Inv-loop pages d level q n i₀ i = (q < 64) × ((n ≤ 30) × ((i ≤ n) × (ownersAt level pages d q ≡ all (λ c. ownersAt (level - 1) pages d (c .page)) (tab (n - i) i (childAt (pageAt pages q))))))
+owners-hold-Inv-loop pages d level q n i₀ i = (q < pagesMost) × ((n ≤ innerMost) × ((i ≤ n) × (ownersAt level pages d q ≡ all (λ c. ownersAt (level - 1) pages d (c .page)) (tab (n - i) i (childAt (pageAt pages q))))))
 
 abbrev owners-hold-μ-loop : owners-hold-lts.MeasureT-loop
 owners-hold-μ-loop pages d level q n i₀ i = n - i

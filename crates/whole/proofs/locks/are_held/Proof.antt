@@ -3,6 +3,7 @@
 use borrow.Author.Needs.{needs}
 use mathlib.Core.Path.{_≡_}
 use Prim.Native.Nat.{_-_, _≤_}
+use Rattle.limits.specs.Limits.{leafMost}
 use Rattle.lists.proofs.Scans.{all-bad, all-step, all-end}
 use Rattle.pages.specs.Layout.{entryAt, entriesOf}
 use Rattle.index.specs.Pictures.{pageAt}
@@ -13,7 +14,7 @@ use Rattle.whole.proofs.locks.are_held.Statement.{statement}
 use Rattle.whole.proofs.locks.are_held.Tie as tie
 
 abbrev Inv-loop : tie.InvT-loop
-Inv-loop pages d q n i₀ i = (n ≤ 24) × ((i ≤ n) × (all (entryHeld d) (entriesOf (pageAt pages q)) ≡ all (entryHeld d) (tab (n - i) i (entryAt (pageAt pages q)))))
+Inv-loop pages d q n i₀ i = (n ≤ leafMost) × ((i ≤ n) × (all (entryHeld d) (entriesOf (pageAt pages q)) ≡ all (entryHeld d) (tab (n - i) i (entryAt (pageAt pages q)))))
 
 abbrev μ-loop : tie.MeasureT-loop
 μ-loop pages d q n i₀ i = n - i

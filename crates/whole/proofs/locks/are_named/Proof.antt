@@ -3,6 +3,7 @@
 use borrow.Author.Needs.{needs}
 use mathlib.Core.Path.{_≡_}
 use Prim.Native.Nat.{_-_, _≤_}
+use Rattle.limits.specs.Limits.{locksMost}
 use Rattle.lists.proofs.Scans.{all-bad, all-step, all-end}
 use Rattle.lists.specs.Lists.{tab, all}
 use Rattle.tables.specs.Layout.{slotAt, slotsOf}
@@ -11,10 +12,10 @@ use Rattle.whole.proofs.locks.are_named.Statement.{statement}
 use Rattle.whole.proofs.locks.are_named.Tie as tie
 
 abbrev Inv-loop : tie.InvT-loop
-Inv-loop pages d level root i₀ i = (i ≤ 256) × (all (slotNamed level pages root) (slotsOf d) ≡ all (slotNamed level pages root) (tab (256 - i) i (slotAt d)))
+Inv-loop pages d level root i₀ i = (i ≤ locksMost) × (all (slotNamed level pages root) (slotsOf d) ≡ all (slotNamed level pages root) (tab (locksMost - i) i (slotAt d)))
 
 abbrev μ-loop : tie.MeasureT-loop
-μ-loop pages d level root i₀ i = 256 - i
+μ-loop pages d level root i₀ i = locksMost - i
 
 loop-holds : tie.Need-loop-holds Inv-loop μ-loop
 unfolding slotsOf

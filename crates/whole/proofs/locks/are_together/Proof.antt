@@ -3,6 +3,7 @@
 use borrow.Author.Needs.{needs}
 use mathlib.Core.Path.{_≡_}
 use Prim.Native.Nat.{_-_, _≤_}
+use Rattle.limits.specs.Limits.{locksMost}
 use Rattle.lists.specs.Lists.{tab, pairs}
 use Rattle.tables.specs.Layout.{slotAt, slotsOf}
 use Rattle.whole.specs.Checks.{slotTogether}
@@ -11,10 +12,10 @@ use Rattle.whole.proofs.locks.are_together.Statement.{statement}
 use Rattle.whole.proofs.locks.are_together.Tie as tie
 
 abbrev Inv-loop : tie.InvT-loop
-Inv-loop d i₀ i = (i ≤ 256) × (pairs slotTogether (slotsOf d) ≡ pairs slotTogether (tab (256 - i) i (slotAt d)))
+Inv-loop d i₀ i = (i ≤ locksMost) × (pairs slotTogether (slotsOf d) ≡ pairs slotTogether (tab (locksMost - i) i (slotAt d)))
 
 abbrev μ-loop : tie.MeasureT-loop
-μ-loop d i₀ i = 256 - i
+μ-loop d i₀ i = locksMost - i
 
 loop-holds : tie.Need-loop-holds Inv-loop μ-loop
 unfolding slotsOf

@@ -3,6 +3,7 @@
 use borrow.Author.Needs.{needs}
 use mathlib.Core.Path.{_≡_}
 use Prim.Native.Nat.{_-_, _≤_}
+use Rattle.limits.specs.Limits.{locksMost}
 use Rattle.lists.proofs.Scans.{any-hit, any-step, any-end}
 use Rattle.lists.specs.Lists.{tab, any}
 use Rattle.tables.specs.Layout.{slotAt, slotsOf}
@@ -11,10 +12,10 @@ use Rattle.whole.proofs.locks.holds_x.Statement.{statement}
 use Rattle.whole.proofs.locks.holds_x.Tie as tie
 
 abbrev Inv-loop : tie.InvT-loop
-Inv-loop d t key i₀ i = (i ≤ 256) × (any (slotHolds t (key .0)) (slotsOf d) ≡ any (slotHolds t (key .0)) (tab (256 - i) i (slotAt d)))
+Inv-loop d t key i₀ i = (i ≤ locksMost) × (any (slotHolds t (key .0)) (slotsOf d) ≡ any (slotHolds t (key .0)) (tab (locksMost - i) i (slotAt d)))
 
 abbrev μ-loop : tie.MeasureT-loop
-μ-loop d t key i₀ i = 256 - i
+μ-loop d t key i₀ i = locksMost - i
 
 loop-holds : tie.Need-loop-holds Inv-loop μ-loop
 unfolding slotsOf

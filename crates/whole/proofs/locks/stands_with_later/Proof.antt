@@ -3,6 +3,7 @@
 use borrow.Author.Needs.{needs}
 use mathlib.Core.Path.{_≡_}
 use Prim.Native.Nat.{_+_, _-_, _≤_}
+use Rattle.limits.specs.Limits.{locksMost}
 use Rattle.lists.proofs.Scans.{all-bad, all-step, all-end}
 use Rattle.lists.specs.Lists.{tab, all}
 use Rattle.tables.specs.Layout.{slotAt}
@@ -12,10 +13,10 @@ use Rattle.whole.proofs.locks.stands_with_later.Statement.{statement}
 use Rattle.whole.proofs.locks.stands_with_later.Tie as tie
 
 abbrev Inv-loop : tie.InvT-loop
-Inv-loop d i j₀ j = (i + 1 ≤ j) × ((j ≤ 256) × (all (slotTogether (slotAt d i)) (tab (256 - (i + 1)) (i + 1) (slotAt d)) ≡ all (slotTogether (slotAt d i)) (tab (256 - j) j (slotAt d))))
+Inv-loop d i j₀ j = (i + 1 ≤ j) × ((j ≤ locksMost) × (all (slotTogether (slotAt d i)) (tab (locksMost - (i + 1)) (i + 1) (slotAt d)) ≡ all (slotTogether (slotAt d i)) (tab (locksMost - j) j (slotAt d))))
 
 abbrev μ-loop : tie.MeasureT-loop
-μ-loop d i j₀ j = 256 - j
+μ-loop d i j₀ j = locksMost - j
 
 slot-at-requires : tie.Need-slot-at-requires Inv-loop μ-loop
 slot-at-requires c κs = search needs

@@ -3,6 +3,7 @@
 use borrow.Author.Needs.{needs}
 use mathlib.Core.Path.{_≡_}
 use Prim.Native.Nat.{_-_, _≤_}
+use Rattle.limits.specs.Limits.{pagesMost, innerMost}
 use Rattle.trees.specs.Trees.{flat}
 use Rattle.index.specs.Pictures.{Item, treeOf}
 use Rattle.whole.specs.Orders.{placed, past}
@@ -32,8 +33,8 @@ pass-tree-below t =
 
 abbrev pass-tree-Inv-loop : pass-tree-lts.InvT-loop
 pass-tree-Inv-loop pages d order m level q k n at₀ i₀ at i =
-    (q < 64)
-    × ((n ≤ 30)
+    (q < pagesMost)
+    × ((n ≤ innerMost)
     × ((i ≤ n)
     × ((at ≤ m)
     × (past (placed d order) m (flat ℕ Item level (treeOf level pages q)) k ≡ past (placed d order) m (entriesFrom (level - 1) pages q n i) at))))

@@ -4,6 +4,7 @@
 use borrow.Author.Needs.{needs}
 use mathlib.Core.Path.{_≡_}
 use Prim.Native.Nat.{_-_, _≤_}
+use Rattle.limits.specs.Limits.{locksMost}
 use Rattle.lists.proofs.Scans.{all-bad, all-step, all-end}
 use Rattle.lists.specs.Lists.{tab, all}
 use Rattle.whole.specs.Orders.{hasPlace}
@@ -11,10 +12,10 @@ use Rattle.whole.proofs.order.have_places.Statement.{statement}
 use Rattle.whole.proofs.order.have_places.Tie as tie
 
 abbrev Inv-loop : tie.InvT-loop
-Inv-loop d order places m i₀ i = (i ≤ 256) × (all (hasPlace d order places m) (tab 256 0 (λ x. x)) ≡ all (hasPlace d order places m) (tab (256 - i) i (λ x. x)))
+Inv-loop d order places m i₀ i = (i ≤ locksMost) × (all (hasPlace d order places m) (tab locksMost 0 (λ x. x)) ≡ all (hasPlace d order places m) (tab (locksMost - i) i (λ x. x)))
 
 abbrev μ-loop : tie.MeasureT-loop
-μ-loop d order places m i₀ i = 256 - i
+μ-loop d order places m i₀ i = locksMost - i
 
 loop-holds : tie.Need-loop-holds Inv-loop μ-loop
 loop-holds c = search needs

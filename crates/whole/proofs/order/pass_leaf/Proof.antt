@@ -4,6 +4,7 @@
 use borrow.Author.Needs.{needs}
 use mathlib.Core.Path.{_≡_}
 use Prim.Native.Nat.{_-_, _≤_}
+use Rattle.limits.specs.Limits.{leafMost}
 use Rattle.lists.specs.Lists.{tab}
 use Rattle.pages.specs.Layout.{entryAt, entriesOf}
 use Rattle.index.specs.Pictures.{pageAt}
@@ -15,7 +16,7 @@ use Rattle.whole.proofs.order.pass_leaf.Tie as tie
 
 abbrev Inv-loop : tie.InvT-loop
 Inv-loop pages d order m q k n at₀ i₀ at i =
-    (n ≤ 24)
+    (n ≤ leafMost)
     × ((i ≤ n)
     × ((at ≤ m)
     × (past (placed d order) m (entriesOf (pageAt pages q)) k ≡ past (placed d order) m (tab (n - i) i (entryAt (pageAt pages q))) at)))

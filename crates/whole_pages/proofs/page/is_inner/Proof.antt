@@ -3,6 +3,7 @@
 use borrow.Author.Needs.{needs}
 use mathlib.Core.Path.{_≡_}
 use Prim.Native.Nat.{_-_, _≤_}
+use Rattle.limits.specs.Limits.{innerMost}
 use Rattle.lists.specs.Lists.{tab}
 use Rattle.whole_pages.specs.Checks.{childFieldsAt, childrenOk}
 use Rattle.whole_pages.proofs.PageTurns.{inner-few, inner-some, inner-headless, inner-bad, inner-next, inner-done}
@@ -10,7 +11,7 @@ use Rattle.whole_pages.proofs.page.is_inner.Statement.{statement}
 use Rattle.whole_pages.proofs.page.is_inner.Tie as tie
 
 abbrev Inv-loop : tie.InvT-loop
-Inv-loop p level least high n above₀ i₀ above i = (n ≤ 30) × ((1 ≤ i) × ((i ≤ n) × (childrenOk (above₀ .0) (high .0) (tab (n - 1) 1 (childFieldsAt p)) ≡ childrenOk (above .0) (high .0) (tab (n - i) i (childFieldsAt p)))))
+Inv-loop p level least high n above₀ i₀ above i = (n ≤ innerMost) × ((1 ≤ i) × ((i ≤ n) × (childrenOk (above₀ .0) (high .0) (tab (n - 1) 1 (childFieldsAt p)) ≡ childrenOk (above .0) (high .0) (tab (n - i) i (childFieldsAt p)))))
 
 abbrev μ-loop : tie.MeasureT-loop
 μ-loop p level least high n above₀ i₀ above i = n - i

@@ -3,6 +3,7 @@
 use borrow.Author.Needs.{needs}
 use mathlib.Core.Path.{_≡_}
 use Prim.Native.Nat.{_-_, _≤_}
+use Rattle.limits.specs.Limits.{leafMost}
 use Rattle.lists.specs.Lists.{tab}
 use Rattle.whole_pages.specs.Checks.{entryFieldsAt, entriesOk}
 use Rattle.whole_pages.proofs.PageTurns.{leaf-few, next-fits, leaf-headless, leaf-bad, leaf-next, leaf-done}
@@ -11,7 +12,7 @@ use Rattle.whole_pages.proofs.page.is_leaf.Statement.{statement}
 use Rattle.whole_pages.proofs.page.is_leaf.Tie as tie
 
 abbrev Inv-loop : tie.InvT-loop
-Inv-loop p high n least₀ i₀ least i = (n ≤ 24) × ((i ≤ n) × (entriesOk (least₀ .0) (high .0) (tab n 0 (entryFieldsAt p)) ≡ entriesOk (least .0) (high .0) (tab (n - i) i (entryFieldsAt p))))
+Inv-loop p high n least₀ i₀ least i = (n ≤ leafMost) × ((i ≤ n) × (entriesOk (least₀ .0) (high .0) (tab n 0 (entryFieldsAt p)) ≡ entriesOk (least .0) (high .0) (tab (n - i) i (entryFieldsAt p))))
 
 abbrev μ-loop : tie.MeasureT-loop
 μ-loop p high n least₀ i₀ least i = n - i
