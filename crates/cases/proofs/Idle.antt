@@ -12,6 +12,7 @@ use native.Mathlib.Omega.{arith}
 use borrow.Author.Tests.{ltb-true, lt-ltb}
 use lib.Dec.{ltb}
 use lib.ListN.{length, getD, List·getD-eq-default}
+use Rattle.limits.specs.Limits.{answerSize, spaceLeast}
 use Rattle.lists.specs.Lists as L
 use Rattle.lists.proofs.Tests.{all-at, all-each}
 use Rattle.numbers.specs.Numbers.{Bytes, numberAt}
@@ -73,9 +74,9 @@ numberIn b = numberAt 2 (b .space) 6
 
 -- by computation
 record Known : Type 0 where
-  readOne : C.backOf (led opening) (sent reads) .result ≡ returned 0 20
+  readOne : C.backOf (led opening) (sent reads) .result ≡ returned 0 answerSize
   readNumber : numberIn (C.backOf (led opening) (sent reads)) ≡ 2
-  insertOne : C.backOf (led opening) (sent inserts) .result ≡ returned 0 20
+  insertOne : C.backOf (led opening) (sent inserts) .result ≡ returned 0 answerSize
   insertNumber : numberIn (C.backOf (led opening) (sent inserts)) ≡ 0
   unlockedBefore : unlocked (led opening .slots) ≡ true
   lockedThen : unlocked (C.onward (led opening) (C.callIn (sent reads)) .slots) ≡ false
@@ -107,7 +108,7 @@ known =
     }
 
 -- where there is one answer, its number is the only one told
-tells-one : (y : I.Left) (t n : ℕ) → y .result ≡ returned 0 20 → I.Tells y t n → n ≡ numberAt 2 (y .lent .answers) 6
+tells-one : (y : I.Left) (t n : ℕ) → y .result ≡ returned 0 answerSize → I.Tells y t n → n ≡ numberAt 2 (y .lent .answers) 6
 tells-one y t n e (I.Tells.returns m r) = absurd (omega arith)
 tells-one y t n e (I.Tells.answers zero l s a b) = sym b
 tells-one y t n e (I.Tells.answers (suc i) l s a b) = absurd (omega arith)
@@ -121,7 +122,7 @@ module _ (f : I.Way) (k : I.Keeps f) where
   back l = record { result = l .result; space = l .lent .answers }
 
   lent-bytes : (p d : List ℕ) → Whole p d → BytesIn (lent p d space)
-  lent-bytes p d w = record { pages = whole-bytes p d w .0; desk = whole-bytes p d w .1; answers = bytes-zeros 320 }
+  lent-bytes p d w = record { pages = whole-bytes p d w .0; desk = whole-bytes p d w .1; answers = bytes-zeros spaceLeast }
 
   -- on bytes a call is served
   kept : (q : List ℕ) (x : Lent) → Bytes q → BytesIn x → Served q x (f q x .lent) (f q x .result)
@@ -191,7 +192,7 @@ module _ (f : I.Way) (k : I.Keeps f) where
       }
 
   -- the one number that is told where 1 has begun: 2 where it reads, 0 where it inserts
-  one-told : (c : Call ℕ ℕ) → C.backOf (led opening) (sent c) .result ≡ returned 0 20
+  one-told : (c : Call ℕ ℕ) → C.backOf (led opening) (sent c) .result ≡ returned 0 answerSize
       → (t n : ℕ) → I.Tells (last opening c) t n → n ≡ numberIn (C.backOf (led opening) (sent c))
   one-told c h t n i =
       let e = last-back opening c in tells-one (last opening c) t n (ap (λ (b : C.Back). b .result) e ∙ h) i ∙ ap numberIn e

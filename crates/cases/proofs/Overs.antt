@@ -11,6 +11,7 @@ use native.Mathlib.Omega.{arith}
 use borrow.Author.Tests.{not-true, ltb-false, leb-true}
 use lib.Dec.{leb}
 use lib.ListN.{length, getD, drop}
+use Rattle.limits.specs.Limits.{transactionsMost, spaceLeast}
 use Rattle.lists.specs.Lists.{In, all, join, isNil}
 use Rattle.lists.proofs.Tests.{and-left, and-right}
 use Rattle.lists.proofs.Elements.{all-in}
@@ -132,15 +133,15 @@ calls-sent (o ∷ os) (a ∷ as′) s h r g =
 
 -- ---- in bytes
 abbrev pub fewIn : C.Over → Bool
-fewIn o = leb (length (O.answersIn (o .answered))) 16
+fewIn o = leb (length (O.answersIn (o .answered))) transactionsMost
 
-back-bytes : (o : List ℕ) (x : Option (List (Answer ℕ ℕ))) → shortSpace o ≡ false → leb (length (O.answersIn x)) 16 ≡ true
+back-bytes : (o : List ℕ) (x : Option (List (Answer ℕ ℕ))) → shortSpace o ≡ false → leb (length (O.answersIn x)) transactionsMost ≡ true
     → wrote (O.statedBack o x) ≡ join bytesOf (O.answersIn x)
 unfolding join
 back-bytes o none r f = refusal-wrote o 12 (omega arith)
 back-bytes o (some xs) r f =
-    let room : 320 ≤ length o = ltb-false (length o) 320 r in
-    let few : length xs ≤ 16 = leb-true (length xs) 16 f in answers-wrote o xs room (omega arith)
+    let room : spaceLeast ≤ length o = ltb-false (length o) spaceLeast r in
+    let few : length xs ≤ transactionsMost = leb-true (length xs) transactionsMost f in answers-wrote o xs room (omega arith)
 
 backs-bytes : (os : List C.Over) (as′ : List Sent) → Sends os as′ → Roomy as′ → all fewIn os ≡ true
     → map wrote (O.statedBacks os as′) ≡ map O.statedBytes os

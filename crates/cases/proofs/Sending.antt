@@ -5,6 +5,7 @@ use mathlib.Core.Path.{_≡_, refl, subst}
 use mathlib.Core.Bool.{true, not}
 use mathlib.Core.List.{List, _∷_, map, map-map}
 use lib.ListN.{replicate}
+use Rattle.limits.specs.Limits.{spaceLeast}
 use Rattle.lists.specs.Lists.{In}
 use Rattle.lists.proofs.Elements.{in-all, map-in}
 use Rattle.numbers.specs.Numbers.{Bytes, widthOf}
@@ -18,7 +19,7 @@ use Rattle.calls.proofs.Outcomes.{some-run}
 use Rattle.cases.specs.Overs as O
 
 abbrev pub space : List ℕ
-space = replicate 320 0
+space = replicate spaceLeast 0
 
 abbrev pub sent : Call ℕ ℕ → Sent
 sent c = record { request = O.requestRecord c; space = space }
@@ -41,7 +42,7 @@ bytes-sent : (os : List Over) → BytesSent (map overSent os)
 bytes-sent os =
     record {
       requests = λ a i. let w = sent-in os a i in subst (λ (b : Sent). Bytes (b .request)) (w .1) (sent-bytes (w .0 .bowled));
-      spaces = λ a i. let w = sent-in os a i in subst (λ (b : Sent). Bytes (b .space)) (w .1) (bytes-zeros 320);
+      spaces = λ a i. let w = sent-in os a i in subst (λ (b : Sent). Bytes (b .space)) (w .1) (bytes-zeros spaceLeast);
     }
 
 pub record Playable (c : Case) : Type 0 where

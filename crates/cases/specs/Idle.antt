@@ -7,6 +7,7 @@ use mathlib.Core.Bool.{false}
 use mathlib.Core.List.{List, []}
 use mathlib.Core.Option.{some}
 use lib.ListN.{length}
+use Rattle.limits.specs.Limits.{answerSize}
 use Rattle.numbers.specs.Numbers.{Bytes, numberAt}
 use Rattle.rules.specs.Kinds.{Ask, Request, ask, Call}
 use Rattle.entries.specs.Records.{heard}
@@ -36,8 +37,8 @@ pub record Sound (q : List ℕ) (x : Lent) (c : Call ℕ ℕ) : Type 0 where
 -- what a call tells t: the number that it returns, or one that stands in an answer to t among the bytes that it says it wrote
 pub data Tells (y : Left) (t n : ℕ) : Type 0 where
   returns : 10 ≤ n → y .result ≡ returned n 0 → Tells y t n
-  answers : (i : ℕ) → 20 * i < y .result → y .result < returned 1 0 → numberAt 2 (y .lent .answers) (20 * i + 4) ≡ t
-      → numberAt 2 (y .lent .answers) (20 * i + 6) ≡ n → Tells y t n
+  answers : (i : ℕ) → answerSize * i < y .result → y .result < returned 1 0 → numberAt 2 (y .lent .answers) (answerSize * i + 4) ≡ t
+      → numberAt 2 (y .lent .answers) (answerSize * i + 6) ≡ n → Tells y t n
 
 -- "a desk that refuses everything": every read, insert and delete gets one of 10 to 19
 pub record RefusesAll (f : Way) : Type 0 where
@@ -66,4 +67,4 @@ pub record MakesUp (f : Way) : Type 0 where
   pub lent : Lent
   pub call : Call ℕ ℕ
   pub sound : Sound request lent call
-  pub madeUp : f request lent .result ≡ returned 0 (20 * length (stepOf call lent .answers)) → ⊥
+  pub madeUp : f request lent .result ≡ returned 0 (answerSize * length (stepOf call lent .answers)) → ⊥

@@ -105,7 +105,7 @@ record Room (ls : List (Option (Lock ℕ))) (qs : List (Queued ℕ ℕ)) (ms : L
   pub rows : (i : ℕ) → i < locksMost → Fits lockWidths (slotFields (getD ls i none))
 
 module _ (ls : List (Option (Lock ℕ))) (qs : List (Queued ℕ ℕ)) (ms : List Mark) (room : Room ls qs ms) where
-  length-locks : length (lockPart ls) ≡ 4096
+  length-locks : length (lockPart ls) ≡ slotSize * locksMost
   length-locks = length-join lockRow slotSize ls length-lock ∙ ap (λ n. slotSize * n) (room .slots)
 
   length-room : length (deskWith ls qs ms) ≡ deskSize

@@ -9,6 +9,7 @@ use mathlib.Core.Option.{none, some}
 use native.Mathlib.Nat.{zero-add}
 use native.Mathlib.Omega.{arith}
 use lib.ListN.{length, getD, drop}
+use Rattle.limits.specs.Limits.{spaceLeast}
 use Rattle.rules.specs.Kinds.{Call}
 use Rattle.entries.specs.Records.{heard}
 use Rattle.entries.proofs.Written.{length-written, written-rest}
@@ -21,7 +22,7 @@ use Rattle.promises.specs.Demand1.{Demand1, ShutsOut}
 
 module _ (q : List ℕ) (x y : Lent) (r : ℕ) where
   -- ---- a number at no other time than when its cause holds
-  good-small : (c : Call ℕ ℕ) (bytes : ℕ) → Whole (x .pages) (x .desk) → heard q ≡ some c → Answered c x y bytes → r ≡ returned 0 bytes → r ≤ 320
+  good-small : (c : Call ℕ ℕ) (bytes : ℕ) → Whole (x .pages) (x .desk) → heard q ≡ some c → Answered c x y bytes → r ≡ returned 0 bytes → r ≤ spaceLeast
   good-small c bytes w h a n = omega (arith, a .bytes, few-bytes (stateOf (x .pages) (x .desk)) (w .values) q c h)
 
   ten-cause : Served q x y r → r ≡ returned 10 0 → wrongSizes x ≡ true
@@ -43,7 +44,7 @@ module _ (q : List ℕ) (x y : Lent) (r : ℕ) where
   twelve-cause (Served.good c m v f h a n) k = absurd (omega (arith, good-small c m f h a n))
 
   -- and without a cause it is answered
-  no-refusal : Served q x y r → wrongSizes x ≡ false → Whole (x .pages) (x .desk) → (heard q ≡ none → ⊥) → r ≤ 320
+  no-refusal : Served q x y r → wrongSizes x ≡ false → Whole (x .pages) (x .desk) → (heard q ≡ none → ⊥) → r ≤ spaceLeast
   no-refusal (Served.sizes v e n) w g k = absurd (true≢false (sym v ∙ w))
   no-refusal (Served.broken v f e n) w g k = absurd (f g)
   no-refusal (Served.bad v f h e n) w g k = absurd (k h)
@@ -58,7 +59,7 @@ module _ (q : List ℕ) (x y : Lent) (r : ℕ) where
     call : Call ℕ ℕ
     before : Whole (x .pages) (x .desk)
     answered : Answered call x y r
-    small : r ≤ 320
+    small : r ≤ spaceLeast
 
   refusal-or-answer : Served q x y r → Refusal ⊎ Grant
   refusal-or-answer (Served.sizes v e n) = inl (record { same = e; large = omega arith })
@@ -72,7 +73,7 @@ module _ (q : List ℕ) (x y : Lent) (r : ℕ) where
   unchanged (inl o) l = o .same
   unchanged (inr o) l = absurd (omega (arith, o .small))
 
-  most-bytes : Refusal ⊎ Grant → r < 4294967296 → r ≤ 320
+  most-bytes : Refusal ⊎ Grant → r < 4294967296 → r ≤ spaceLeast
   most-bytes (inl o) l = absurd (omega (arith, o .large))
   most-bytes (inr o) l = o .small
 

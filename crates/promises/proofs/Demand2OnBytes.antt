@@ -7,6 +7,7 @@ use mathlib.Core.List.{List}
 use mathlib.Core.Option.{some}
 use lib.ListN.{length}
 use borrow.Author.Tests.{leb-false, lt-leb}
+use Rattle.limits.specs.Limits.{pagesMost, answerSize}
 use Rattle.lists.proofs.Tests.{and-left, and-right}
 use Rattle.rules.specs.Kinds.{Call}
 use Rattle.rules.specs.Queue.{St}
@@ -34,13 +35,13 @@ fits-index : (p d : List ℕ) (k : ℕ) → book .paging .fits (stateOf p d .pag
 unfolding stateOf
 fits-index p d k = fits-shape compare keyOf 0 documentSizes k (indexOf p)
 
-too-many : (p : List ℕ) (k : ℕ) → 64 < usedAndNeeded p k → fits compare keyOf 0 documentSizes k (indexOf p) ≡ false
+too-many : (p : List ℕ) (k : ℕ) → pagesMost < usedAndNeeded p k → fits compare keyOf 0 documentSizes k (indexOf p) ≡ false
 unfolding fits
-too-many p k h = lt-leb (usedAndNeeded p k) 64 h
+too-many p k h = lt-leb (usedAndNeeded p k) pagesMost h
 
-only-too-many : (p : List ℕ) (k : ℕ) → fits compare keyOf 0 documentSizes k (indexOf p) ≡ false → 64 < usedAndNeeded p k
+only-too-many : (p : List ℕ) (k : ℕ) → fits compare keyOf 0 documentSizes k (indexOf p) ≡ false → pagesMost < usedAndNeeded p k
 unfolding fits
-only-too-many p k h = leb-false (usedAndNeeded p k) 64 h
+only-too-many p k h = leb-false (usedAndNeeded p k) pagesMost h
 
 pub demand2-on-bytes : Demand2OnBytes
 demand2-on-bytes q x y r c v w g h =
@@ -76,4 +77,4 @@ module _ (q : List ℕ) (x : Lent) (c : Call ℕ ℕ) (g : Whole (x .pages) (x .
       let as′ : u .answers ≡ u′ .answers = ap (λ (z : Worked book). z .answers) same in
       let e = whole-inj (y .pages) (y .desk) (y′ .pages) (y′ .desk) w w′ (ap (λ (z : Worked book). z .state) same) in
       let o = u .space ∙ ap (written (x .answers) 0) as′ ∙ sym (u′ .space) in
-      (λ i. lent (e .0 i) (e .1 i) (o i), u .result ∙ ap (λ bs. returned 0 (20 * length bs)) as′ ∙ sym (u′ .result))
+      (λ i. lent (e .0 i) (e .1 i) (o i), u .result ∙ ap (λ bs. returned 0 (answerSize * length bs)) as′ ∙ sym (u′ .result))

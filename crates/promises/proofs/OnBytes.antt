@@ -9,6 +9,7 @@ use mathlib.Core.Option.{Option, none, some}
 use native.Mathlib.Omega.{arith}
 use borrow.Author.Tests.{ltb-false}
 use lib.ListN.{length}
+use Rattle.limits.specs.Limits.{spaceLeast}
 use Rattle.lists.specs.Lists.{join, In}
 use Rattle.lists.proofs.Joins.{append-apart, join-append}
 use Rattle.rules.specs.Kinds.{Call, Lock}
@@ -56,7 +57,7 @@ call-wrote s g a as′ more = go (shortSpace (a .space)) (heard (a .request)) re
         let l = heard-legal (book .paging) (a .request) c k in
         let w = step book s (c .asker) (c .request) in
         ap₂ (λ b bs. b ++ bs)
-        (answers-wrote (a .space) (w .answers) (ltb-false (length (a .space)) 320 e) (few-bytes s g (a .request) c k))
+        (answers-wrote (a .space) (w .answers) (ltb-false (length (a .space)) spaceLeast e) (few-bytes s g (a .request) c k))
         (more (w .state) (step-good book numbers-ordered s c l g))
         ∙ sym (join-append bytesOf (w .answers) (join (given book) (session book (w .state) cs)))
         ∙ ap (λ o. join bytesOf (given book (answersOf book o) ++ join (given book) (session book (stateAfter book s o) cs))) (sym (legal-called s c l))

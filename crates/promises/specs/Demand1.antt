@@ -7,6 +7,7 @@ use mathlib.Core.Bool.{true, false}
 use mathlib.Core.List.{List}
 use mathlib.Core.Option.{none}
 use lib.ListN.{length, getD, drop}
+use Rattle.limits.specs.Limits.{spaceLeast}
 use Rattle.entries.specs.Records.{heard}
 use Rattle.desks.specs.Whole.{Whole}
 use Rattle.calls.specs.Promise.{Lent, wrongSizes, returned}
@@ -26,7 +27,7 @@ pub record Demand1 (q : List ℕ) (x y : Lent) (r : ℕ) : Type 0 where
   -- a refusal changes nothing
   pub refused : 4294967296 ≤ r → y ≡ x
   -- otherwise r is the number of answer bytes, and those beyond keep their values
-  pub most : r < 4294967296 → r ≤ 320
+  pub most : r < 4294967296 → r ≤ spaceLeast
   pub beyond : r < 4294967296 → drop r (y .answers) ≡ drop r (x .answers)
   -- the picture stays whole, and everything keeps its length
   pub whole : wrongSizes x ≡ false → Whole (x .pages) (x .desk) → Whole (y .pages) (y .desk)

@@ -6,6 +6,7 @@ use mathlib.Core.Bool.{false}
 use mathlib.Core.List.{List}
 use mathlib.Core.Option.{some}
 use lib.ListN.{length}
+use Rattle.limits.specs.Limits.{pagesMost, answerSize}
 use Rattle.rules.specs.Kinds.{Call}
 use Rattle.rules.specs.Runs.{Answer}
 use Rattle.trees.specs.Trees.{documentSizes}
@@ -26,12 +27,12 @@ pub record Ruled (x y : Lent) (r : ℕ) (c : Call ℕ ℕ) : Type 0 where
   pub answers : List (Answer ℕ ℕ)
   -- "it returns 0 and the number of answer bytes"; bytes beyond those written keep their values
   pub space : y .answers ≡ written (x .answers) 0 answers
-  pub result : r ≡ returned 0 (20 * length answers)
+  pub result : r ≡ returned 0 (answerSize * length answers)
   -- demand 2, of what the bytes say before and after
   pub rule : Demand2 book (stateOf (x .pages) (x .desk)) (c .asker) (c .request) (record { state = stateOf (y .pages) (y .desk); answers = answers })
   -- the pages are short of a missing key where they are by document 01's count, and only there
-  pub short : (k : ℕ) → 64 < usedAndNeeded (x .pages) k → book .paging .fits (stateOf (x .pages) (x .desk) .pages) k ≡ false
-  pub shortOnly : (k : ℕ) → book .paging .fits (stateOf (x .pages) (x .desk) .pages) k ≡ false → 64 < usedAndNeeded (x .pages) k
+  pub short : (k : ℕ) → pagesMost < usedAndNeeded (x .pages) k → book .paging .fits (stateOf (x .pages) (x .desk) .pages) k ≡ false
+  pub shortOnly : (k : ℕ) → book .paging .fits (stateOf (x .pages) (x .desk) .pages) k ≡ false → pagesMost < usedAndNeeded (x .pages) k
 
 -- every call that isn't refused 10 to 12
 abbrev pub Demand2OnBytes : Type 0

@@ -8,6 +8,7 @@ use mathlib.Core.Option.{Option·none-ne-some, Option·some-injective}
 use borrow.Author.Tests.{not-false, ltb-true}
 use lib.Dec.{leb, eqb, ltb}
 use lib.ListN.{length}
+use Rattle.limits.specs.Limits.{pagesSize}
 use Rattle.lists.specs.Lists.{first}
 use Rattle.numbers.specs.Numbers.{Bytes}
 use Rattle.rules.specs.Document.{endMark}
@@ -25,7 +26,7 @@ use Rattle.whole_pages.proofs.Pages.{pages-sound}
 use Rattle.shelves.specs.Judging.{Held, Sees}
 
 -- ---- the judge
-pub held : (s : List ℕ) (r : Bool) → Bytes s → length s ≡ 32768 → r ≡ pagesOk s → Held s r
+pub held : (s : List ℕ) (r : Bool) → Bytes s → length s ≡ pagesSize → r ≡ pagesOk s → Held s r
 held s r b size e = record { whole = λ t. pages-sound s b size (sym e ∙ t) .whole }
 
 pub not-held : (s : List ℕ) → Held s false

@@ -16,7 +16,7 @@ pub const REFUSED: u64 = 18446744073709551615;
 fn is_whole(pages: &[u8]) -> bool
     ensures { λ r. ⌜ Held (now (pages .entry)) r ⌝ }
 {
-    if pages.len() != 32768 {
+    if pages.len() != limits::PAGES_SIZE {
         return false;
     }
     whole_pages::are_pages(pages)
@@ -52,7 +52,7 @@ pub extern "C" fn shelf_is_whole(pages: &[u8]) -> bool {
 // Makes a buffer of the right length that of an empty index, whatever its bytes are.
 #[no_mangle]
 pub extern "C" fn shelf_fresh(pages: &mut [u8]) -> bool {
-    if pages.len() != 32768 {
+    if pages.len() != limits::PAGES_SIZE {
         return false;
     }
     index::fresh_pages(pages);
