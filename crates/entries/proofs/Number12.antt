@@ -8,13 +8,14 @@ use mathlib.Core.List.{List}
 use mathlib.Core.Option.{none, some, Option·none-ne-some, Option·some-injective}
 use lib.Dec.{leb, ltb}
 use borrow.Author.Tests.{ltb-true, leb-true, lt-leb, not-false}
+use Rattle.limits.specs.Limits.{transactionsMost}
 use Rattle.lists.proofs.Tests.{and-left, and-right, either, or-left, or-right, neither}
 use Rattle.numbers.specs.Numbers.{numberAt, fieldsAt, Bytes}
 use Rattle.numbers.proofs.Numbers.{number-below}
 use Rattle.rules.specs.Kinds.{Paging, Ask, read, insert, delete, Request, begin, commit, rollback, ask, Call}
 use Rattle.rules.specs.Desk.{isTransaction, legalAsk, legalRequest, legalCall}
 use Rattle.rules.specs.Document.{document, endless, endMark}
-use Rattle.entries.specs.Records.{forms, requests, kindIn, callIn, short, unlikeSlice, unlikeKind, unknownKind, misshapen, filled, illegal, isBad, heard}
+use Rattle.entries.specs.Records.{forms, requests, kindIn, callIn, short, unlikeSlice, unlikeKind, unknownKind, misshapen, filled, illegal, isBad, heard, firstPlace, secondPlace}
 use Rattle.entries.proofs.Legal.{legal-any}
 use Rattle.entries.proofs.Requests.{shaped, each-kind, requestBy, asked}
 
@@ -82,23 +83,23 @@ module _ (s : List ℕ) where
       let t = isTransaction (document endless) (callIn s .asker) in
       ap (λ b. not (t && b)) (ap (legalRequest (document endless)) (sym (asked n s (kindIn s) refl k)) ∙ e) ∙ ap not (and-false t)
 
-  pub end-lo-illegal : kindIn s ≡ 4 → numberAt 8 s 8 ≡ endMark → illegal s ≡ true
+  pub end-lo-illegal : kindIn s ≡ 4 → numberAt 8 s firstPlace ≡ endMark → illegal s ≡ true
   unfolding legalRequest legalAsk requests forms fieldsAt
   end-lo-illegal k e = by-kind 4 k (rw e)
 
-  pub end-hi-illegal : kindIn s ≡ 4 → numberAt 8 s 16 ≡ endMark → illegal s ≡ true
+  pub end-hi-illegal : kindIn s ≡ 4 → numberAt 8 s secondPlace ≡ endMark → illegal s ≡ true
   unfolding legalRequest legalAsk requests forms fieldsAt
   end-hi-illegal k e = by-kind 4 k (rw (e, and-false))
 
-  pub lo-above-hi-illegal : kindIn s ≡ 4 → numberAt 8 s 16 < numberAt 8 s 8 → illegal s ≡ true
+  pub lo-above-hi-illegal : kindIn s ≡ 4 → numberAt 8 s secondPlace < numberAt 8 s firstPlace → illegal s ≡ true
   unfolding legalRequest legalAsk requests forms fieldsAt
-  lo-above-hi-illegal k h = by-kind 4 k (rw (lt-leb (numberAt 8 s 8) (numberAt 8 s 16) h, and-false))
+  lo-above-hi-illegal k h = by-kind 4 k (rw (lt-leb (numberAt 8 s firstPlace) (numberAt 8 s secondPlace) h, and-false))
 
-  pub end-insert-illegal : kindIn s ≡ 5 → numberAt 8 s 8 ≡ endMark → illegal s ≡ true
+  pub end-insert-illegal : kindIn s ≡ 5 → numberAt 8 s firstPlace ≡ endMark → illegal s ≡ true
   unfolding legalRequest legalAsk requests forms fieldsAt
   end-insert-illegal k e = by-kind 5 k (rw e)
 
-  pub end-delete-illegal : kindIn s ≡ 6 → numberAt 8 s 8 ≡ endMark → illegal s ≡ true
+  pub end-delete-illegal : kindIn s ≡ 6 → numberAt 8 s firstPlace ≡ endMark → illegal s ≡ true
   unfolding legalRequest legalAsk requests forms fieldsAt
   end-delete-illegal k e = by-kind 6 k (rw e)
 
@@ -137,7 +138,7 @@ RequestFits (ask a) = AskFits a
 
 pub record CallFits (c : Call ℕ ℕ) : Type 0 where
   pub low : 1 ≤ c .asker
-  pub high : c .asker ≤ 16
+  pub high : c .asker ≤ transactionsMost
   pub request : RequestFits (c .request)
 
 request-fits : (s : List ℕ) → Bytes s → (k : ℕ) → (leb 1 k && leb k 6) ≡ true → legalRequest (document endless) (requestBy k s) ≡ true → RequestFits (requestBy k s)
@@ -147,13 +148,13 @@ request-fits s f =
     (λ h. let keys = and-left (ltb lo endMark && ltb hi endMark) (leb lo hi) h in
     let order = and-right (ltb lo endMark && ltb hi endMark) (leb lo hi) h in
     (ltb-true lo endMark (and-left (ltb lo endMark) (ltb hi endMark) keys), (ltb-true hi endMark (and-right (ltb lo endMark) (ltb hi endMark) keys), leb-true lo hi order)))
-    (λ h. (ltb-true lo endMark h, number-below 4 s 16 f)) (λ h. ltb-true lo endMark h)
+    (λ h. (ltb-true lo endMark h, number-below 4 s secondPlace f)) (λ h. ltb-true lo endMark h)
   where
     lo : ℕ
-    lo = numberAt 8 s 8
+    lo = numberAt 8 s firstPlace
 
     hi : ℕ
-    hi = numberAt 8 s 16
+    hi = numberAt 8 s secondPlace
 
 good-fits : (s : List ℕ) → Bytes s → isBad s ≡ false → CallFits (callIn s)
 unfolding isBad
@@ -165,8 +166,8 @@ good-fits s f e =
     let h = shaped s (misshapen s) refl (neither (misshapen s) (filled s) (neither (misshapen s || filled s) (illegal s) e .0) .0) in
     let q = asked (kindIn s) s (kindIn s) refl refl in
     record {
-      low = leb-true 1 t (and-left (leb 1 t) (leb t 16) known);
-      high = leb-true t 16 (and-right (leb 1 t) (leb t 16) known);
+      low = leb-true 1 t (and-left (leb 1 t) (leb t transactionsMost) known);
+      high = leb-true t transactionsMost (and-right (leb 1 t) (leb t transactionsMost) known);
       request = subst RequestFits q (request-fits s f (kindIn s) (h .known) (ap (legalRequest (document endless)) q ∙ legal));
     }
 

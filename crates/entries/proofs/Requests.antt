@@ -9,6 +9,7 @@ use native.Mathlib.Omega.{arith}
 use lib.Dec.{eqb, leb}
 use lib.ListN.{length, getD, List·getD-map}
 use borrow.Author.Tests.{lt-ltb, le-ltb, ltb-false, eqb-true, leb-true, not-false}
+use Rattle.limits.specs.Limits.{requestHeadSize, readSize, insertSize, deleteSize}
 use Rattle.lists.proofs.Tests.{and-right, neither}
 use Rattle.numbers.specs.Numbers.{numberAt, widthOf, fieldsAt}
 use Rattle.rules.specs.Kinds as K
@@ -18,10 +19,10 @@ use Rattle.entries.specs.declared.Ask.{Ask}
 use Rattle.entries.specs.declared.Request.{Request}
 use Rattle.entries.specs.declared.Call.{Call}
 use Rattle.entries.specs.Meaning.{bookAsk, bookRequest, bookCall}
-use Rattle.entries.specs.Records.{forms, formOf, kindIn, requests, callIn, short, unlikeSlice, unlikeKind, unknownKind, filled, misshapen, Shaped, isBad, heard}
+use Rattle.entries.specs.Records.{forms, formOf, kindIn, requests, callIn, short, unlikeSlice, unlikeKind, unknownKind, filled, misshapen, Shaped, isBad, heard, firstPlace, secondPlace, fillerPlace}
 
 -- ---- a misshapen record
-by-kind : (k : ℕ) → getD (0 ∷ 8 ∷ 8 ∷ 8 ∷ 24 ∷ 24 ∷ 16 ∷ []) k 0 ≡ widthOf (formOf k)
+by-kind : (k : ℕ) → getD (0 ∷ requestHeadSize ∷ requestHeadSize ∷ requestHeadSize ∷ readSize ∷ insertSize ∷ deleteSize ∷ []) k 0 ≡ widthOf (formOf k)
 unfolding forms widthOf
 by-kind k = List·getD-map widthOf forms k []
 
@@ -37,7 +38,7 @@ pub known-below : (k : ℕ) → not (leb 1 k && leb k 6) ≡ false → k < 7
 known-below k h = omega (arith, leb-true k 6 (and-right (leb 1 k) (leb k 6) (not-false (leb 1 k && leb k 6) h)))
 
 pub misshapen-length : (s : List ℕ) (k n : ℕ) → 8 ≤ length s → k ≡ kindIn s → not (leb 1 k && leb k 6) ≡ false → n ≡ numberAt 2 s 0
-    → (not (eqb n (length s)) || not (eqb n (getD (0 ∷ 8 ∷ 8 ∷ 8 ∷ 24 ∷ 24 ∷ 16 ∷ []) k 0))) ≡ misshapen s
+    → (not (eqb n (length s)) || not (eqb n (getD (0 ∷ requestHeadSize ∷ requestHeadSize ∷ requestHeadSize ∷ readSize ∷ insertSize ∷ deleteSize ∷ []) k 0))) ≡ misshapen s
 misshapen-length s k n l e h q =
     let u : unknownKind s ≡ false = rw e at h in
     let p : short s ≡ false = le-ltb (length s) 8 l in
@@ -79,7 +80,7 @@ each-kind P p q r t u v (suc (suc (suc (suc (suc (suc (suc k))))))) h =
     absurd never
 
 -- ---- fillers
-pub filled-insert : (s : List ℕ) (k x y : ℕ) → k ≡ kindIn s → k ≡ 5 → x ≡ numberAt 2 s 6 → y ≡ numberAt 4 s 20
+pub filled-insert : (s : List ℕ) (k x y : ℕ) → k ≡ kindIn s → k ≡ 5 → x ≡ numberAt 2 s 6 → y ≡ numberAt 4 s fillerPlace
     → (not (eqb x 0) || not (eqb y 0)) ≡ filled s
 unfolding forms fieldsAt
 filled-insert s k x y e f p q = rw (p, q, sym e ∙ f)
@@ -102,12 +103,12 @@ pub asked : (n : ℕ) (s : List ℕ) (k : ℕ) → k ≡ kindIn s → k ≡ n �
 unfolding callIn
 asked n s k e f = rw (sym f ∙ e)
 
-pub asked-read : (s : List ℕ) (k : ℕ) (a : Ask) → k ≡ kindIn s → k ≡ 4 → bookAsk a ≡ K.read (numberAt 8 s 8) (numberAt 8 s 16)
+pub asked-read : (s : List ℕ) (k : ℕ) (a : Ask) → k ≡ kindIn s → k ≡ 4 → bookAsk a ≡ K.read (numberAt 8 s firstPlace) (numberAt 8 s secondPlace)
     → K.ask (bookAsk a) ≡ callIn s .request
 unfolding requests forms fieldsAt
 asked-read s k a e f p = ap K.ask p ∙ asked 4 s k e f
 
-pub asked-insert : (s : List ℕ) (k : ℕ) (a : Ask) → k ≡ kindIn s → k ≡ 5 → bookAsk a ≡ K.insert (numberAt 8 s 8) (numberAt 4 s 16)
+pub asked-insert : (s : List ℕ) (k : ℕ) (a : Ask) → k ≡ kindIn s → k ≡ 5 → bookAsk a ≡ K.insert (numberAt 8 s firstPlace) (numberAt 4 s secondPlace)
     → K.ask (bookAsk a) ≡ callIn s .request
 unfolding requests forms fieldsAt
 asked-insert s k a e f p = ap K.ask p ∙ asked 5 s k e f
@@ -121,7 +122,7 @@ unfolding forms widthOf
 room-delete s k h e f₁ f₂ f₃ f₄ f₅ = room 6 s k h e (last-kind s k h e f₁ f₂ f₃ f₄ f₅)
 
 pub asked-delete : (s : List ℕ) (k : ℕ) (a : Ask) → Shaped s → k ≡ kindIn s → (k ≡ 1 → ⊥) → (k ≡ 2 → ⊥) → (k ≡ 3 → ⊥) → (k ≡ 4 → ⊥) → (k ≡ 5 → ⊥)
-    → bookAsk a ≡ K.delete (numberAt 8 s 8) → K.ask (bookAsk a) ≡ callIn s .request
+    → bookAsk a ≡ K.delete (numberAt 8 s firstPlace) → K.ask (bookAsk a) ≡ callIn s .request
 unfolding requests forms fieldsAt
 asked-delete s k a h e f₁ f₂ f₃ f₄ f₅ p = ap K.ask p ∙ asked 6 s k e (last-kind s k h e f₁ f₂ f₃ f₄ f₅)
 

@@ -6,6 +6,7 @@ use mathlib.Core.List.{List, [], _∷_}
 use mathlib.Core.Option.{Option, none, some}
 use lib.Dec.{eqb, leb, ltb}
 use lib.ListN.{length, getD}
+use Rattle.limits.specs.Limits.{keySize, requestHeadSize, answerSize}
 use Rattle.numbers.specs.Numbers.{numberAt, widthOf, fieldsAt, putFields}
 use Rattle.rules.specs.Kinds.{read, insert, delete, Request, begin, commit, rollback, ask, Call}
 use Rattle.rules.specs.Runs.{paper, Answer}
@@ -24,6 +25,16 @@ forms =
     ∷ (2 ∷ 2 ∷ 2 ∷ 2 ∷ 8 ∷ 4 ∷ 4 ∷ [])
     ∷ (2 ∷ 2 ∷ 2 ∷ 2 ∷ 8 ∷ [])
     ∷ []
+
+-- where the fields behind the head stand: the key, or lo; then hi, or the record; then the filler of an insert
+abbrev pub firstPlace : ℕ
+firstPlace = requestHeadSize
+
+abbrev pub secondPlace : ℕ
+secondPlace = firstPlace + keySize
+
+abbrev pub fillerPlace : ℕ
+fillerPlace = secondPlace + 4
 
 abbrev pub formOf : ℕ → List ℕ
 formOf kind = getD forms kind []
@@ -93,7 +104,7 @@ orZero (some n) = n
 
 unfoldable pub answerFields : Answer ℕ ℕ → List ℕ
 answerFields a =
-    let p = paper (a .says) in 20 ∷ 7 ∷ a .asker ∷ p .number ∷ orZero (p .key) ∷ orZero (p .rec) ∷ []
+    let p = paper (a .says) in answerSize ∷ 7 ∷ a .asker ∷ p .number ∷ orZero (p .key) ∷ orZero (p .rec) ∷ []
 
 -- the bytes with an answer written at a place
 unfoldable pub putAnswer : List ℕ → ℕ → Answer ℕ ℕ → List ℕ
@@ -102,4 +113,4 @@ putAnswer s at a = putFields answerWidths s at (answerFields a)
 -- the answers written one after the other from the start: "Answer bytes beyond those written keep their values."
 unfoldable pub written : List ℕ → ℕ → List (Answer ℕ ℕ) → List ℕ
 written s at [] = s
-written s at (a ∷ as′) = written (putAnswer s at a) (at + 20) as′
+written s at (a ∷ as′) = written (putAnswer s at a) (at + answerSize) as′

@@ -4,6 +4,7 @@ ghost use mathlib.Core.Path.{_≡_};
 ghost use mathlib.Core.Bool.{true, false};
 ghost use Prim.Native.Nat.{_+_, _<_, _≤_};
 ghost use lib.Dec.{leb, eqb, ltb};
+ghost use Rattle.limits.specs.Limits.{readSize, deleteSize, answerSize};
 ghost use Rattle.numbers.specs.Numbers.{numberAt};
 ghost use Rattle.rules.specs.Kinds.{read, insert, delete};
 ghost use Rattle.rules.specs.Entries.{isThere, committed, rolledBack, deleted, revived, inserted, ghost};
@@ -11,7 +12,8 @@ ghost use Rattle.rules.specs.Desk.{isTransaction, legalAsk, legalRequest, legal
 ghost use Rattle.rules.specs.Document.{endMark, document, endless};
 ghost use Rattle.rules.specs.Runs.{paper, numbered};
 ghost use Rattle.entries.specs.Meaning.{bookEntry, bookValue, bookAsk, bookRequest, bookCall, bookHeard, bookSays, bookAnswer, OnPaper};
-ghost use Rattle.entries.specs.Records.{misshapen, Shaped, filled, callIn, heard, orZero, putAnswer};
+ghost use Rattle.entries.specs.Records.{misshapen, Shaped, filled, callIn, heard, orZero, putAnswer, firstPlace, secondPlace};
+use limits::REQUEST_HEAD_SIZE;
 
 // A key: its upper half is the pupil, its lower half the delivery. The marks belong to it; the end is never a key, but names a lock.
 pub struct Key(pub u64);
@@ -255,8 +257,23 @@ pub enum Heard {
     Bad,
 }
 
+// Where the fields of a request stand behind its head: the key, or lo; then hi, or the record; then the filler of an insert.
+const FIRST: usize = REQUEST_HEAD_SIZE;
+
+const SECOND: usize = FIRST + limits::KEY_SIZE;
+
+const FILLER: usize = SECOND + 4;
+
 // The length of a request record by its kind. Kind 0 is none.
-const LENGTHS: [usize; 7] = [0, 8, 8, 8, 24, 24, 16];
+const LENGTHS: [usize; 7] = [
+    0,
+    REQUEST_HEAD_SIZE,
+    REQUEST_HEAD_SIZE,
+    REQUEST_HEAD_SIZE,
+    limits::READ_SIZE,
+    limits::INSERT_SIZE,
+    limits::DELETE_SIZE,
+];
 
 // Whether a slice is no record of a kind that there is: under 8 bytes, of a length unlike slice or kind, or of an unknown kind.
 fn is_misshapen(s: &[u8]) -> bool
@@ -281,33 +298,39 @@ fn is_filled(s: &[u8]) -> bool
     let filler = numbers::read_u16(s, 6);
     let kind = numbers::read_u16(s, 2);
     if kind == Ask::INSERT {
-        return (filler != 0) | (numbers::read_u32(s, 20) != 0);
+        return (filler != 0) | (numbers::read_u32(s, FILLER) != 0);
     }
     filler != 0
 }
 
 // The bounds of a read.
 fn read_in(s: &[u8]) -> Ask
-    requires { do ⌜ 24 ≤ (← ⟦s.len()⟧) ⌝ }
-    ensures { λ r. ⌜ bookAsk r ≡ read (numberAt 8 (now (s .entry)) 8) (numberAt 8 (now (s .entry)) 16) ⌝ }
+    requires { do ⌜ readSize ≤ (← ⟦s.len()⟧) ⌝ }
+    ensures { λ r. ⌜ bookAsk r ≡ read (numberAt 8 (now (s .entry)) firstPlace) (numberAt 8 (now (s .entry)) secondPlace) ⌝ }
 {
-    Ask::Read(Key(numbers::read_u64(s, 8)), Key(numbers::read_u64(s, 16)))
+    Ask::Read(
+        Key(numbers::read_u64(s, FIRST)),
+        Key(numbers::read_u64(s, SECOND)),
+    )
 }
 
 // The key and record of an insert.
 fn insert_in(s: &[u8]) -> Ask
-    requires { do ⌜ 24 ≤ (← ⟦s.len()⟧) ⌝ }
-    ensures { λ r. ⌜ bookAsk r ≡ insert (numberAt 8 (now (s .entry)) 8) (numberAt 4 (now (s .entry)) 16) ⌝ }
+    requires { do ⌜ readSize ≤ (← ⟦s.len()⟧) ⌝ }
+    ensures { λ r. ⌜ bookAsk r ≡ insert (numberAt 8 (now (s .entry)) firstPlace) (numberAt 4 (now (s .entry)) secondPlace) ⌝ }
 {
-    Ask::Insert(Key(numbers::read_u64(s, 8)), numbers::read_u32(s, 16))
+    Ask::Insert(
+        Key(numbers::read_u64(s, FIRST)),
+        numbers::read_u32(s, SECOND),
+    )
 }
 
 // The key of a delete.
 fn delete_in(s: &[u8]) -> Ask
-    requires { do ⌜ 16 ≤ (← ⟦s.len()⟧) ⌝ }
-    ensures { λ r. ⌜ bookAsk r ≡ delete (numberAt 8 (now (s .entry)) 8) ⌝ }
+    requires { do ⌜ deleteSize ≤ (← ⟦s.len()⟧) ⌝ }
+    ensures { λ r. ⌜ bookAsk r ≡ delete (numberAt 8 (now (s .entry)) firstPlace) ⌝ }
 {
-    Ask::Delete(Key(numbers::read_u64(s, 8)))
+    Ask::Delete(Key(numbers::read_u64(s, FIRST)))
 }
 
 // What a record asks.
@@ -419,17 +442,22 @@ pub struct Answer {
     pub says: Says,
 }
 
+// The length of an answer, as it says it itself, and where its record stands.
+const LENGTH: u16 = limits::ANSWER_SIZE as u16;
+
+const REC: usize = 8 + limits::KEY_SIZE;
+
 // Writes an answer record at a place, and nothing else.
 pub fn put_answer(out: &mut [u8], at: usize, a: Answer)
-    requires { do ⌜ at + 20 ≤ (← ⟦out.len()⟧) ⌝ }
+    requires { do ⌜ at + answerSize ≤ (← ⟦out.len()⟧) ⌝ }
     ensures { λ _. ⌜ now (out .exit) ≡ putAnswer (now (out .entry)) at (bookAnswer a) ⌝ }
 {
     let says = a.says;
     let p = says.paper();
-    numbers::write_u16(out, at, 20);
+    numbers::write_u16(out, at, LENGTH);
     numbers::write_u16(out, at + 2, 7);
     numbers::write_u16(out, at + 4, a.asker);
     numbers::write_u16(out, at + 6, p.number);
     numbers::write_u64(out, at + 8, p.key.0);
-    numbers::write_u32(out, at + 16, p.rec);
+    numbers::write_u32(out, at + REC, p.rec);
 }
