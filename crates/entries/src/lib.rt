@@ -4,8 +4,8 @@ ghost use mathlib.Core.Path.{_≡_};
 ghost use mathlib.Core.Bool.{true, false};
 ghost use Prim.Native.Nat.{_+_, _<_, _≤_};
 ghost use lib.Dec.{leb, eqb, ltb};
-ghost use Rattle.limits.specs.Limits.{readSize, deleteSize, answerSize};
-ghost use Rattle.numbers.specs.Numbers.{numberAt};
+ghost use Rattle.limits.specs.Limits.{keySize, readSize, deleteSize, answerSize};
+ghost use Rattle.numbers.specs.Numbers.{numberAt, putNumber};
 ghost use Rattle.rules.specs.Kinds.{read, insert, delete};
 ghost use Rattle.rules.specs.Entries.{isThere, committed, rolledBack, deleted, revived, inserted, ghost};
 ghost use Rattle.rules.specs.Desk.{isTransaction, legalAsk, legalRequest, legalCall};
@@ -47,11 +47,34 @@ impl Key {
         self.0 <= other.0
     }
 
+    // Whether it is below another.
+    pub fn is_below(self, other: Key) -> bool
+        ensures { λ r. ⌜ r ≡ ltb (self .0) (other .0) ⌝ }
+    {
+        self.0 < other.0
+    }
+
     // Whether it is the same as another.
     pub fn same(self, other: Key) -> bool
         ensures { λ r. ⌜ r ≡ eqb (self .0) (other .0) ⌝ }
     {
         self.0 == other.0
+    }
+
+    // The key that stands at a place.
+    pub fn read(s: &[u8], at: usize) -> Key
+        requires { do ⌜ at + keySize ≤ (← ⟦s.len()⟧) ⌝ }
+        ensures { λ r. ⌜ r .0 ≡ numberAt keySize (now (s .entry)) at ⌝ }
+    {
+        Key(numbers::read_u64(s, at))
+    }
+
+    // Writes it at a place, and nothing else.
+    pub fn write(self, s: &mut [u8], at: usize)
+        requires { do ⌜ at + keySize ≤ (← ⟦s.len()⟧) ⌝ }
+        ensures { λ _. ⌜ now (s .exit) ≡ putNumber keySize (now (s .entry)) at (self .0) ⌝ }
+    {
+        numbers::write_u64(s, at, self.0);
     }
 }
 
