@@ -30,11 +30,10 @@ use Rattle.index.specs.Pictures.{indexOf}
 use Rattle.index.specs.Changes.{settledIn, Becomes}
 use Rattle.index.proofs.Entries.{entries-settled, shape-ended}
 use Rattle.desks.specs.States.{book, stateOf}
-use Rattle.desks.specs.Whole.{Whole}
+use Rattle.desks.specs.Whole.{Whole, Says}
 use Rattle.desks.specs.Fitting.{Fitting}
 use Rattle.desks.proofs.Kept.{fit-marked, fit-released, fit-left}
 use Rattle.desks.proofs.Ends.{dropped, desk-ended}
-use Rattle.acts.specs.Acts.{Says}
 use Rattle.acts.proofs.Tables.{tables-say, whole-fits}
 
 -- ---- the invariants, whether t waits or not

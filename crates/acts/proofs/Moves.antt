@@ -22,13 +22,12 @@ use Rattle.tables.specs.Layout.{queued, queuedAt, queueOf, slotsOf, marksOf, in
 use Rattle.tables.specs.Moves.{markPut, queueJoined, queueLeft}
 use Rattle.tables.proofs.Queues.{length-queue}
 use Rattle.desks.specs.States.{book, stateOf, deskWith}
-use Rattle.desks.specs.Whole.{Whole}
+use Rattle.desks.specs.Whole.{Whole, Says}
 use Rattle.desks.specs.Fitting.{AskFits, Fitting}
 use Rattle.desks.proofs.Says.{askerIn}
 use Rattle.desks.proofs.Kept.{fit-marked, room-for, fit-joined, fit-left}
 use Rattle.desks.proofs.Desks.{desk-says}
 use Rattle.desks.proofs.Moves.{mark-put, queue-joined, queue-left}
-use Rattle.acts.specs.Acts.{Says}
 use Rattle.acts.proofs.Tables.{tables-say, whole-fits}
 use Rattle.acts.proofs.Places.{place-waits}
 

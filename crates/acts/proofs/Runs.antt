@@ -21,7 +21,7 @@ use Rattle.tables.specs.Moves.{lockTaken, lockGiven, queueLeft}
 use Rattle.tables.proofs.Queues.{length-queue}
 use Rattle.index.specs.Pictures.{keyOf, indexOf, entriesIn, WholePages}
 use Rattle.desks.specs.States.{book, stateOf, deskWith}
-use Rattle.desks.specs.Whole.{Whole}
+use Rattle.desks.specs.Whole.{Whole, Says}
 use Rattle.desks.specs.Fitting.{NameFits, QueuedFits, Fitting}
 use Rattle.desks.proofs.Kept.{fit-taken, fit-left}
 use Rattle.desks.proofs.Moves.{queue-left, lock-given, lock-taken, lock-refused}
@@ -73,7 +73,7 @@ module _ (p d : List ℕ) (w : Whole p d) (q : ℕ) (c : A.Clear p d q) where
   -- ---- the state that a run leaves
   pub ran-says : (p′ : List ℕ) → WholePages p′ → (r : Ran book) → run book (stateOf p d) (queuedAt d q) ≡ r
       → entriesIn p′ ≡ r .entries → shape keyOf (indexOf p′) ≡ r .pages → Fitting (r .slots) (queueOf d) (marksOf d)
-      → (d₁ d₂ : List ℕ) → d₁ ≡ deskWith (r .slots) (queueOf d) (marksOf d) → d₂ ≡ queueLeft d₁ q → A.Says p′ d₂ (A.ranAt p d q .state)
+      → (d₁ d₂ : List ℕ) → d₁ ≡ deskWith (r .slots) (queueOf d) (marksOf d) → d₂ ≡ queueLeft d₁ q → Says p′ d₂ (A.ranAt p d q .state)
   unfolding A.ranAt stateOf
   ran-says p′ pages r e es ps f d₁ d₂ e₁ e₂ =
       let s = stateOf p d in

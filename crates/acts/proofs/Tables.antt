@@ -15,11 +15,10 @@ use Rattle.tables.specs.Layout.{queued, slotsOf, queueOf, marksOf}
 use Rattle.tables.proofs.Queues.{length-queue}
 use Rattle.index.specs.Pictures.{keyOf, indexOf, entriesIn, WholePages}
 use Rattle.desks.specs.States.{book, stateOf, deskWith}
-use Rattle.desks.specs.Whole.{Whole}
+use Rattle.desks.specs.Whole.{Whole, Says}
 use Rattle.desks.specs.Fitting.{Fitting}
 use Rattle.desks.proofs.Reading.{desk-length}
 use Rattle.desks.proofs.Itself.{itself-fits, desk-itself, desk-state}
-use Rattle.acts.specs.Acts.{Says}
 
 -- the state of these pages and tables
 abbrev pub stateWith : List ℕ → List (Option (Lock ℕ)) → List (Queued ℕ ℕ) → List Mark → St book

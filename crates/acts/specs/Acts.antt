@@ -3,7 +3,6 @@ use Prim.Native.Nat.{ℕ, _<_}
 use mathlib.Core.Path.{_≡_}
 use mathlib.Core.List.{List, []}
 use Rattle.lists.specs.Lists.{tab}
-use Rattle.rules.specs.Queue.{St}
 use Rattle.rules.specs.Locks.{blockers}
 use Rattle.rules.specs.Runs.{Turn, left, run}
 use Rattle.entries.specs.declared.Answer.{Answer}
@@ -11,12 +10,7 @@ use Rattle.entries.specs.Meaning.{bookAnswer}
 use Rattle.tables.specs.Layout.{queued, queuedAt, slotsOf}
 use Rattle.index.specs.Pictures.{entriesIn}
 use Rattle.desks.specs.States.{book, stateOf}
-use Rattle.desks.specs.Whole.{Whole}
-
--- the picture is whole and says s
-pub record Says (p d : List ℕ) (s : St book) : Type 0 where
-  pub whole : Whole p d
-  pub state : stateOf p d ≡ s
+use Rattle.desks.specs.Whole.{Says}
 
 -- nobody blocks the request at place q of the queue
 pub record Clear (p d : List ℕ) (q : ℕ) : Type 0 where

@@ -11,8 +11,7 @@ ghost use Rattle.tables.specs.Moves.{locksReleased, waitsIn, queueLeft, markPut
 ghost use Rattle.index.specs.Pictures.{indexOf, WholePages};
 ghost use Rattle.index.specs.Changes.{settledIn, Becomes};
 ghost use Rattle.desks.specs.States.{book, stateOf};
-ghost use Rattle.desks.specs.Whole.{Whole};
-ghost use Rattle.acts.specs.Acts.{Says};
+ghost use Rattle.desks.specs.Whole.{Whole, Says};
 ghost use Rattle.acts.specs.Endings.{exclusive, settledUnder};
 use limits::LOCKS;
 use tables::Mode;

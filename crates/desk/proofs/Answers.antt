@@ -31,8 +31,7 @@ use Rattle.tables.specs.Layout.{queued, isWaiting}
 use Rattle.tables.specs.Moves.{markPut, queueJoined}
 use Rattle.desks.specs.States.{book, stateOf}
 use Rattle.desks.specs.Fitting.{AskFits}
-use Rattle.desks.specs.Whole.{Whole}
-use Rattle.acts.specs.Acts.{Says}
+use Rattle.desks.specs.Whole.{Whole, Says}
 use Rattle.acts.proofs.Tables.{whole-few}
 use Rattle.acts.proofs.Moves.{is-transaction, begin-says, join-room, join-says}
 use Rattle.turns.specs.Working.{Wrote, workedOf}

@@ -24,11 +24,10 @@ use Rattle.pages.specs.Layout.{entriesOf}
 use Rattle.index.specs.Pictures.{Item, keyOf, pageAt, putPage, treeOf, indexOf, entriesIn, leafPage, headPage}
 use Rattle.index.specs.Changes.{Becomes}
 use Rattle.index.proofs.Buffers.{length-page, length-putPage, page-same, page-other}
-use Rattle.index.proofs.Written.{length-blank}
+use Rattle.index.proofs.Written.{length-blank, blank-none}
 use Rattle.index.proofs.Leaves.{leaf-entries}
 use Rattle.index.proofs.Heads.{length-head}
-use Rattle.index.proofs.Roots.{blank-none}
-use Rattle.index.proofs.Adds.{becomes}
+use Rattle.index.proofs.Becoming.{becomes}
 use Rattle.lists.proofs.Places.{getD-alike}
 use Rattle.desks.specs.States.{book, stateOf, deskWith}
 use Rattle.desks.proofs.Desks.{desk-says}

@@ -7,6 +7,7 @@ use mathlib.Core.Bool.{Bool, true}
 use mathlib.Core.List.{List}
 use lib.ListN.{length}
 use Rattle.limits.specs.Limits.{deskSize}
+use Rattle.rules.specs.Queue.{St}
 use Rattle.rules.specs.Good.{Good}
 use Rattle.tables.specs.Layout.{slotsOf, queueOf, marksOf}
 use Rattle.index.specs.Pictures.{WholePages}
@@ -17,6 +18,11 @@ pub record Whole (p d : List ℕ) : Type 0 where
   pub size : length d ≡ deskSize
   pub desk : d ≡ deskWith (slotsOf d) (queueOf d) (marksOf d)
   pub values : Good book (stateOf p d)
+
+-- the picture is whole and says s
+pub record Says (p d : List ℕ) (s : St book) : Type 0 where
+  pub whole : Whole p d
+  pub state : stateOf p d ≡ s
 
 -- a judgement: yes exactly when the picture is whole
 pub record Judged (p d : List ℕ) (r : Bool) : Type 0 where

@@ -34,33 +34,8 @@ use Rattle.index.proofs.Inners as Inner
 use Rattle.index.proofs.Frame as F
 use Rattle.index.proofs.Frame.{Times, own-page, frame, laid-frame}
 use Rattle.index.proofs.Subtrees.{used-page, subtree-root}
-use Rattle.index.proofs.Heads.{length-head, head-again, root-head, used-head, height-head, level-small}
-
--- ---- what stands in the buffer, from page 0 on
-pub becomes : (s : List ℕ) (root used n : ℕ) (x : Index ℕ Item) → length s ≡ pagesSize → pageAt s 0 ≡ headPage root used (n + 1) → root < 65536 → used ≤ pagesMost → n < 65535
-    → Laid n s root → ((q : ℕ) → used ≤ q → q < pagesMost → pageAt s q ≡ replicate pageSize 0)
-    → record { level = n; used = used; tree = treeOf n s root } ≡ x → WholeIndex compare keyOf 0 (some endMark) documentSizes x → Becomes s x
-unfolding indexOf
-becomes s root used n x size head a b c laid spare is whole =
-    let i : rootOf (pageAt s 0) ≡ root = ap rootOf head ∙ root-head root used (n + 1) a (omega arith) (omega arith) in
-    let j : usedOf (pageAt s 0) ≡ used = ap usedOf head ∙ used-head root used (n + 1) a (omega arith) (omega arith) in
-    let k : heightOf (pageAt s 0) ≡ n + 1 = ap heightOf head ∙ height-head root used (n + 1) a (omega arith) (omega arith) in
-    let l : heightOf (pageAt s 0) - 1 ≡ n = omega arith in
-    let y : indexOf s ≡ x =
-    ap (λ m. record { level = m; used = usedOf (pageAt s 0); tree = treeOf m s (rootOf (pageAt s 0)) }) l
-    ∙ ap (λ m. record { level = n; used = m; tree = treeOf n s (rootOf (pageAt s 0)) }) j
-    ∙ ap (λ m. record { level = n; used = used; tree = treeOf n s m }) i ∙ is in
-    record {
-      whole = record {
-        size = size;
-        head = head ∙ sym (ap (λ m. headPage m (usedOf (pageAt s 0)) (heightOf (pageAt s 0))) i ∙ ap (λ m. headPage root m (heightOf (pageAt s 0))) j ∙ ap (headPage root used) k);
-        tall = omega arith;
-        laid = subst (λ m. Laid m s (rootOf (pageAt s 0))) (sym l) (subst (Laid n s) (sym i) laid);
-        spare = λ q g h. spare q (omega arith) h;
-        index = subst (WholeIndex compare keyOf 0 (some endMark) documentSizes) (sym y) whole;
-      };
-      index = y;
-    }
+use Rattle.index.proofs.Heads.{length-head, head-again, level-small}
+use Rattle.index.proofs.Becoming.{becomes}
 
 module _ (s : List ℕ) (w : WholePages s) (t : Top) (o : TopOf s t) (e : Item) where
   abbrev p₀ : List ℕ

@@ -23,11 +23,10 @@ use Rattle.trees.proofs.Wholes.{bare-whole, document-fair}
 use Rattle.index.specs.Pictures.{keyOf, pageAt, putPage, treeOf, blankPage, headPage, leafPage}
 use Rattle.index.specs.Changes.{Becomes}
 use Rattle.index.proofs.Buffers.{length-page, length-putPage, page-same, page-other, page-lent, page-back}
-use Rattle.index.proofs.Written.{length-blank}
+use Rattle.index.proofs.Written.{length-blank, blank-none}
 use Rattle.index.proofs.Leaves.{leaf-entries}
 use Rattle.index.proofs.Heads.{length-head}
-use Rattle.index.proofs.Roots.{blank-none}
-use Rattle.index.proofs.Adds.{becomes}
+use Rattle.index.proofs.Becoming.{becomes}
 
 pub blank-back : (s : List ℕ) (q kind : ℕ) (p : List ℕ) → length p ≡ length (take (pageSize * q + pageSize - pageSize * q) (drop (pageSize * q) s))
     → p ≡ putHead (take (pageSize * q + pageSize - pageSize * q) (drop (pageSize * q) s)) kind 0 0

@@ -22,8 +22,8 @@ use Rattle.pages.specs.Rows.{rowsOf, entryRow, childRow, childPut, Divided, asT
 use Rattle.pages.proofs.Children.{length-children}
 use Rattle.trees.specs.Growth.{lowKey}
 use Rattle.index.specs.declared.Grown.the-variants.{Same, Split}
-use Rattle.index.specs.Pictures.{Item, keyOf, pageAt, putPage, blankPage, leafPage, innerPage}
-use Rattle.index.specs.Growing.{LeafFull, LeafSplit, InnerRoom, InnerFull, Widened, zeroFirst}
+use Rattle.index.specs.Pictures.{Item, keyOf, pageAt, putPage, blankPage, leafPage, innerPage, zeroFirst}
+use Rattle.index.specs.Growing.{LeafFull, LeafSplit, InnerRoom, InnerFull, Widened}
 use Rattle.index.proofs.Buffers.{page-lent, page-back, length-page, length-putPage}
 use Rattle.index.proofs.Leaves as Leaf
 use Rattle.index.proofs.Inners as Inner

@@ -8,8 +8,9 @@ use mathlib.Core.List.{List, [], _∷_}
 use native.Mathlib.Decide.{decLt}
 use native.Mathlib.Omega.{arith}
 use lib.Dec.{lit≤}
-use lib.ListN.{length, getD}
+use lib.ListN.{length, getD, take}
 use lib.Seq.{ext-getD}
+use borrow.Rule.Slice.PartMut.{putMid}
 use borrow.Author.Tests.{eq-eqb}
 use Rattle.limits.specs.Limits.{pagesMost, pageSize, headSize}
 use Rattle.lists.specs.Lists.{In}
@@ -20,11 +21,16 @@ use Rattle.pages.specs.declared.Child as P
 use Rattle.pages.specs.Layout.{rootOf, usedOf, heightOf, rootWidths, putRoot, childrenOf}
 use Rattle.trees.specs.Trees.{isPage, times}
 use Rattle.trees.proofs.Pages.{summed-in}
-use Rattle.index.specs.Pictures.{pageAt, treeOf, blankPage, headPage}
+use Rattle.index.specs.Pictures.{pageAt, putPage, treeOf, blankPage, headPage}
 use Rattle.index.specs.Descents.{Subtree}
+use Rattle.index.proofs.Buffers.{page-lent, page-back}
 use Rattle.index.proofs.Written.{length-blank}
 use Rattle.index.proofs.Frame.{Times, times-inner}
 use Rattle.index.proofs.Subtrees.{subtree-child, inner-filled}
+
+pub top-back : (s p : List ℕ) (root used height : ℕ) → length p ≡ length (take pageSize s) → p ≡ putRoot (take pageSize s) root used height
+    → putMid 0 pageSize s p ≡ putPage s 0 (putRoot (pageAt s 0) root used height)
+top-back s p root used height l e = page-back s 0 p (putRoot (pageAt s 0) root used height) l (e ∙ ap (λ v. putRoot v root used height) (page-lent s 0))
 
 pub length-head : (root used height : ℕ) → length (headPage root used height) ≡ pageSize
 unfolding headPage putRoot

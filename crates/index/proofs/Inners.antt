@@ -18,8 +18,7 @@ use Rattle.numbers.proofs.Kept.{bytes-putNumber}
 use Rattle.pages.specs.declared.Child.{Child}
 use Rattle.pages.specs.Rows.{rowsOf, withRows, childRow, childPut, Divided, fromZero, firstLow}
 use Rattle.pages.proofs.Children.{child-fits, rowChild, child-row, length-childRow, children-with, row-fits, bytes-childRow}
-use Rattle.index.specs.Pictures.{blankPage, innerPage}
-use Rattle.index.specs.Growing.{zeroFirst, lowFirst}
+use Rattle.index.specs.Pictures.{blankPage, innerPage, zeroFirst, lowFirst}
 use Rattle.pages.proofs.Written.{fit-rows, rows-written, count-written, length-written, put-written, stay-written, go-written}
 use Rattle.index.proofs.Written.{blank-page}
 

@@ -12,6 +12,7 @@ pub mod Divided
 pub mod Grows
 pub mod Widens
 pub mod Heads
+pub mod Becoming
 pub mod Roots
 pub mod Adds
 pub mod Same

@@ -18,19 +18,7 @@ use Rattle.index.specs.Pictures.{pageAt, putPage, blankPage, innerPage}
 use Rattle.index.specs.Growing.{rootPage, RootIn}
 use Rattle.index.proofs.Buffers.{page-lent, page-back, page-other}
 use Rattle.index.proofs.Inners.{inner-put, inner-count, inner-length}
-use Rattle.index.proofs.Written.{length-blank, count-blank, bytes-blank}
-
-pub top-back : (s p : List ℕ) (root used height : ℕ) → length p ≡ length (take pageSize s) → p ≡ putRoot (take pageSize s) root used height
-    → putMid 0 pageSize s p ≡ putPage s 0 (putRoot (pageAt s 0) root used height)
-top-back s p root used height l e = page-back s 0 p (putRoot (pageAt s 0) root used height) l (e ∙ ap (λ v. putRoot v root used height) (page-lent s 0))
-
--- a page with no rows is blank
-pub blank-none : (z kind n : ℕ) → blankPage kind n ≡ withRows z (blankPage kind n) []
-unfolding rowsOf tab
-blank-none z kind n =
-    let p = blankPage kind n in
-    sym (ap (λ m. withRows z p (tab m 0 (rowAt z p))) (sym (count-blank kind n))
-    ∙ with-own z p (bytes-blank kind n) (omega (arith, length-blank kind n, ap (λ m. z * m) (count-blank kind n) ∙ mul-zero z)))
+use Rattle.index.proofs.Written.{blank-none}
 
 none-blank : (n : ℕ) → blankPage 3 n ≡ innerPage n []
 unfolding innerPage

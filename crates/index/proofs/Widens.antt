@@ -31,9 +31,9 @@ use Rattle.index.specs.declared.Grown.{Grown}
 use Rattle.index.specs.declared.Grown.the-variants.{Short, Same, Split}
 use Rattle.index.specs.declared.Step.{Step}
 use Rattle.index.specs.declared.Way.{Way}
-use Rattle.index.specs.Pictures.{Item, keyOf, pageAt, putPage, treeOf, innerPage, Laid}
+use Rattle.index.specs.Pictures.{Item, keyOf, pageAt, putPage, treeOf, innerPage, Laid, zeroFirst, lowFirst}
 use Rattle.index.specs.Descents.{Subtree, Starts, Goes, runOf}
-use Rattle.index.specs.Growing.{neededIn, neededAbove, GrowIn, Grew, grownOf, Outcome, Tried, zeroFirst, lowFirst, Wider, Widened, InnerRoom, Rising, Rises, Rose, Risen}
+use Rattle.index.specs.Growing.{neededIn, neededAbove, GrowIn, Grew, grownOf, Outcome, Tried, Wider, Widened, InnerRoom, Rising, Rises, Rose, Risen}
 use Rattle.index.proofs.Buffers.{length-putPage, page-same, page-kept}
 use Rattle.index.proofs.Inners as Inner
 use Rattle.index.proofs.Frame as F

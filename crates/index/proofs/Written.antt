@@ -1,12 +1,14 @@
 -- A blank page: what is read of it, and that behind its head it is zero; and the kinds of the pages that are written on one.
 -- By the laws of records, each field at its place. Assumes nothing.
-use Prim.Native.Nat.{ℕ, _+_, _≤_, _<_}
-use mathlib.Core.Path.{_≡_, _∙_}
+use Prim.Native.Nat.{ℕ, _+_, _*_, _≤_, _<_}
+use mathlib.Core.Path.{_≡_, sym, ap, _∙_}
 use mathlib.Core.List.{List, [], _∷_, map}
+use native.Mathlib.Nat.{mul-zero}
 use native.Mathlib.Omega.{arith}
 use lib.Dec.{lit<}
 use lib.ListN.{length, getD, replicate, length-replicate}
 use Rattle.limits.specs.Limits.{pageSize, headSize, bodySize, entrySize, leafMost, childSize, innerMost}
+use Rattle.lists.specs.Lists.{tab}
 use Rattle.lists.proofs.Places.{getD-alike}
 use Rattle.numbers.specs.Numbers.{putNumber, putFields, widthOf, Bytes}
 use Rattle.numbers.proofs.Numbers.{number-apart, number-other, number-same, length-putNumber}
@@ -15,10 +17,10 @@ use Rattle.numbers.proofs.Kept.{bytes-putFields, bytes-zeros}
 use Rattle.numbers.proofs.Moves.{zeroAt-is}
 use Rattle.pages.specs.declared.Child.{Child}
 use Rattle.pages.specs.Layout.{kindOf, countOf, headWidths, putHead, rootWidths, putRoot}
-use Rattle.pages.specs.Rows.{entryRow, childRow}
+use Rattle.pages.specs.Rows.{rowAt, rowsOf, withRows, entryRow, childRow}
 use Rattle.pages.proofs.Entries.{length-entryRow}
 use Rattle.pages.proofs.Children.{length-childRow}
-use Rattle.pages.proofs.WithRows.{kind-with}
+use Rattle.pages.proofs.WithRows.{kind-with, with-own}
 use Rattle.pages.proofs.Written.{Blank, fit-rows}
 use Rattle.index.specs.Pictures.{Item, blankPage, headPage, leafPage, innerPage}
 
@@ -72,6 +74,14 @@ module _ (kind level : ℕ) where
         none = count-blank;
         zero = zeroAt-is bodySize headSize (blankPage kind level) (omega (arith, length-blank)) (record { byte = λ k h. blank-zero (headSize + k) (omega arith) });
       }
+
+-- a page with no rows is blank
+pub blank-none : (z kind n : ℕ) → blankPage kind n ≡ withRows z (blankPage kind n) []
+unfolding rowsOf tab
+blank-none z kind n =
+    let p = blankPage kind n in
+    sym (ap (λ m. withRows z p (tab m 0 (rowAt z p))) (sym (count-blank kind n))
+    ∙ with-own z p (bytes-blank kind n) (omega (arith, length-blank kind n, ap (λ m. z * m) (count-blank kind n) ∙ mul-zero z)))
 
 -- ---- the kinds of pages
 pub kind-leaf : (es : List Item) → length es ≤ leafMost → kindOf (leafPage es) ≡ 2

@@ -16,7 +16,7 @@ use Rattle.trees.specs.Trees.{Child, Tree, documentSizes, times}
 use Rattle.trees.specs.Growth as G
 use Rattle.index.specs.declared.Grown.{Grown}
 use Rattle.index.specs.declared.Grown.the-variants.{Short, Same, Split}
-use Rattle.index.specs.Pictures.{Item, keyOf, pageAt, putPage, treeOf, leafPage, innerPage, Laid}
+use Rattle.index.specs.Pictures.{Item, keyOf, pageAt, putPage, treeOf, leafPage, innerPage, Laid, zeroFirst, lowFirst}
 use Rattle.index.specs.Descents.{Subtree, runOf}
 
 -- the pages that an insert of k needs, in the tree of level n at page pg and above it: where the tree's own page is in the run, `above` more
@@ -96,14 +96,6 @@ pub record LeafParted (s s′ : List ℕ) (pg u above i : ℕ) (e : Item) (r : G
   pub how : ((r ≡ Short) × (s′ ≡ s) × (pagesMost < u + above + 1)) ⊎ (LeafSplit s s′ pg u i e r × (u + above + 1 ≤ pagesMost))
 
 -- an inner page with one more child, at place i of those that it had
-abbrev pub zeroFirst : List P.Child → List P.Child
-zeroFirst [] = []
-zeroFirst (c ∷ cs) = record { low = record { 0 = 0 }; page = c .page } ∷ cs
-
-abbrev pub lowFirst : List P.Child → ℕ
-lowFirst [] = 0
-lowFirst (c ∷ cs) = c .low .0
-
 abbrev pub Wider : List ℕ → List ℕ → ℕ → ℕ → ℕ → List P.Child → List P.Child → Grown → Type 0
 Wider s s′ n pg u cs ds Short = ⊥
 Wider s s′ n pg u cs ds (Same v) = (v ≡ u) × (s′ ≡ putPage s pg (innerPage n ds)) × (length cs ≤ innerMost - 1)

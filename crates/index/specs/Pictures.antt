@@ -2,7 +2,7 @@
 -- those that the tree writes. Assumes nothing.
 use Prim.Native.Nat.{ℕ, zero, suc, _*_, _-_, _≤_, _<_, compare}
 use mathlib.Core.Path.{_≡_}
-use mathlib.Core.List.{List, map}
+use mathlib.Core.List.{List, [], _∷_, map}
 use mathlib.Core.Option.{some}
 use lib.ListN.{length, replicate}
 use Rattle.limits.specs.Limits.{pagesMost, pageSize, pagesSize, entrySize, childSize}
@@ -59,6 +59,15 @@ leafPage es = withRows entrySize (blankPage 2 0) (map entryRow es)
 
 unfoldable pub innerPage : ℕ → List P.Child → List ℕ
 innerPage level cs = withRows childSize (blankPage 3 level) (map childRow cs)
+
+-- in a new inner page "the first separator is 0"; the one that it had goes up
+abbrev pub zeroFirst : List P.Child → List P.Child
+zeroFirst [] = []
+zeroFirst (c ∷ cs) = record { low = record { 0 = 0 }; page = c .page } ∷ cs
+
+abbrev pub lowFirst : List P.Child → ℕ
+lowFirst [] = 0
+lowFirst (c ∷ cs) = c .low .0
 
 -- the pages of the tree at page q are those that its entries and children write
 abbrev pub Laid : (n : ℕ) → List ℕ → ℕ → Type 0

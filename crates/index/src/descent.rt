@@ -1,10 +1,10 @@
-// The way down the tree: what page 0 says, the children of an inner page, and the leaf that a key belongs to.
+// The way down the tree: what page 0 says and is told, the children of an inner page, and the leaf that a key belongs to.
 ghost use mathlib.Core.Path.{_≡_};
 ghost use Prim.Native.Nat.{_<_};
 ghost use lib.ListN.{length};
 ghost use Rattle.limits.specs.Limits.{pagesMost, pagesSize, innerMost};
-ghost use Rattle.pages.specs.Layout.{countOf, rootOf, usedOf, heightOf, childAt};
-ghost use Rattle.index.specs.Pictures.{pageAt, WholePages};
+ghost use Rattle.pages.specs.Layout.{countOf, rootOf, usedOf, heightOf, putRoot, childAt};
+ghost use Rattle.index.specs.Pictures.{pageAt, putPage, WholePages};
 ghost use Rattle.index.specs.Descents.{Subtree, InnerIn, Starts, Goes, TopOf, LeafFor};
 use super::Step;
 use super::Top;
@@ -51,6 +51,14 @@ pub fn top(pages: &[u8]) -> Top
         level: height - 1,
         used: used,
     }
+}
+
+// Writes page 0: the root, the pages used and the height.
+pub fn put_top(pages: &mut [u8], root: usize, used: usize, height: usize)
+    requires { ⌜ length (now pages) ≡ pagesSize ⌝ }
+    ensures { λ _. ⌜ now (pages .exit) ≡ putPage (now (pages .entry)) 0 (putRoot (pageAt (now (pages .entry)) 0) root used height) ⌝ }
+{
+    head::put_root(&mut pages[0..PAGE_SIZE], root, used, height);
 }
 
 // How many entries or children page q has.

@@ -7,7 +7,7 @@ ghost use Rattle.pages.specs.Layout.{putHead};
 ghost use Rattle.trees.specs.Shapes.{bare};
 ghost use Rattle.index.specs.Pictures.{pageAt, putPage};
 ghost use Rattle.index.specs.Changes.{Becomes};
-use super::insert;
+use super::descent;
 use limits::PAGE_SIZE;
 use pages::head;
 
@@ -19,7 +19,7 @@ pub fn fresh_pages(pages: &mut [u8])
     numbers::zero_bytes(pages, 0, limits::PAGES_SIZE);
     put_blank(pages, 0, 1);
     put_blank(pages, 1, 2);
-    insert::put_top(pages, 1, 2, 1);
+    descent::put_top(pages, 1, 2, 1);
 }
 
 // Writes the head of a page that has nothing yet.

@@ -4,9 +4,9 @@ ghost use mathlib.Core.Bool.{true};
 ghost use mathlib.Core.List.{[], _∷_};
 ghost use Prim.Native.Nat.{_+_, _≤_, _<_, compare};
 ghost use lib.ListN.{length, replicate};
-ghost use Rattle.limits.specs.Limits.{pagesMost, pageSize, pagesSize};
+ghost use Rattle.limits.specs.Limits.{pagesMost, pageSize};
 ghost use Rattle.rules.specs.Document.{endMark};
-ghost use Rattle.pages.specs.Layout.{EntryFits, countOf, putRoot};
+ghost use Rattle.pages.specs.Layout.{countOf, putRoot};
 ghost use Rattle.trees.specs.Growth.{missing};
 ghost use Rattle.index.specs.Pictures.{keyOf, pageAt, putPage, innerPage, entriesIn, WholePages};
 ghost use Rattle.index.specs.Changes.{Added};
@@ -30,7 +30,7 @@ pub fn add(pages: &mut [u8], e: Entry) -> bool
     requires { ⌜ missing compare keyOf (e .key .0) (entriesIn (now pages)) ≡ true ⌝ }
     ensures { λ r. ⌜ Added (now (pages .entry)) (now (pages .exit)) (bookEntry e) r ⌝ }
 {
-    fits_page(e);
+    leaf::fits_page(e);
     let t = descent::top(pages);
     let g = grow(pages, t.level, t.root, t.used, 1, e);
     match g {
@@ -38,7 +38,7 @@ pub fn add(pages: &mut [u8], e: Entry) -> bool
             return false;
         }
         Grown::Same(u) => {
-            put_top(pages, t.root, u, t.level + 1);
+            descent::put_top(pages, t.root, u, t.level + 1);
             return true;
         }
         Grown::Split(u, c) => {
@@ -48,24 +48,6 @@ pub fn add(pages: &mut [u8], e: Entry) -> bool
     }
 }
 
-// What an entry's type says, as a fact for the promises: its numbers fit their places in a page. There is nothing to do.
-pub fn fits_page(e: Entry)
-    ensures { λ _. ⌜ EntryFits (bookEntry e) ⌝ }
-{
-    let now = e.now;
-    let before = e.before;
-    now.record();
-    before.record();
-}
-
-// Writes page 0: the root, the pages used and the height.
-pub fn put_top(pages: &mut [u8], root: usize, used: usize, height: usize)
-    requires { ⌜ length (now pages) ≡ pagesSize ⌝ }
-    ensures { λ _. ⌜ now (pages .exit) ≡ putPage (now (pages .entry)) 0 (putRoot (pageAt (now (pages .entry)) 0) root used height) ⌝ }
-{
-    head::put_root(&mut pages[0..PAGE_SIZE], root, used, height);
-}
-
 // Makes a new root over the old one and the new tree beside it, in the next unused page, and writes page 0.
 fn add_root(pages: &mut [u8], level: usize, root: usize, used: usize, c: Child)
     requires { ⌜ RootIn (now pages) level root used c ⌝ }
@@ -73,7 +55,7 @@ fn add_root(pages: &mut [u8], level: usize, root: usize, used: usize, c: Child)
 {
     let b = PAGE_SIZE * used;
     fill_root(&mut pages[b..b + PAGE_SIZE], level + 1, root, c);
-    put_top(pages, used, used + 1, level + 2);
+    descent::put_top(pages, used, used + 1, level + 2);
 }
 
 // Writes a new root's page over zeros.

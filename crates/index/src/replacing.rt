@@ -6,7 +6,6 @@ ghost use Rattle.index.specs.Pictures.{pageAt, putPage, indexOf, leafPag
 ghost use Rattle.index.specs.Changes.{replaced, Becomes};
 ghost use Rattle.index.specs.Descents.{OwnLeaf, LeafAt, overwritten};
 use super::descent;
-use super::insert;
 use entries::Entry;
 use limits::PAGE_SIZE;
 use pages::head;
@@ -17,7 +16,7 @@ pub fn replace(pages: &mut [u8], e: Entry)
     requires { ⌜ WholePages (now pages) ⌝ }
     ensures { λ _. ⌜ Becomes (now (pages .exit)) (replaced (bookEntry e) (indexOf (now (pages .entry)))) ⌝ }
 {
-    insert::fits_page(e);
+    leaf::fits_page(e);
     let t = descent::top(pages);
     let key = e.key;
     let pg = descent::leaf_for(pages, t.level, t.root, key);

@@ -248,3 +248,13 @@ fn bit_of(v: Value) -> u16
         Value::Absent => 0,
     }
 }
+
+// What an entry's type says, as a fact for the promises: its numbers fit their places in a page. There is nothing to do.
+pub fn fits_page(e: Entry)
+    ensures { λ _. ⌜ EntryFits (bookEntry e) ⌝ }
+{
+    let now = e.now;
+    let before = e.before;
+    now.record();
+    before.record();
+}

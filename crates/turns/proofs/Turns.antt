@@ -26,7 +26,7 @@ use Rattle.tables.specs.Layout.{queued, inPlace, queuedAt, slotsOf}
 use Rattle.tables.specs.Moves.{queueLeft}
 use Rattle.index.specs.Pictures.{entriesIn}
 use Rattle.desks.specs.States.{book, stateOf}
-use Rattle.desks.specs.Whole.{Whole}
+use Rattle.desks.specs.Whole.{Whole, Says}
 use Rattle.waits.specs.declared.Place.{Place}
 use Rattle.waits.specs.declared.Place.the-variants.{At, Nowhere}
 use Rattle.waits.proofs.Known.{asker-high}
@@ -166,6 +166,6 @@ module _ (p d : List ℕ) (w : Whole p d) where
     unfolding wayAt queuedAt
     gave-way d′ k =
         record {
-          says = subst (λ x. A.Says p x (wayAt p d q .state)) (sym k) (way-says p d w q h);
+          says = subst (λ x. Says p x (wayAt p d q .state)) (sym k) (way-says p d w q h);
           answer = ap (λ u. record { asker = u; says = circle }) e;
         }

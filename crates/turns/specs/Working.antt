@@ -12,8 +12,7 @@ use Rattle.entries.specs.Meaning.{bookAnswer}
 use Rattle.entries.specs.Records.{written}
 use Rattle.tables.specs.Layout.{queuedAt}
 use Rattle.desks.specs.States.{book, stateOf}
-use Rattle.desks.specs.Whole.{Whole}
-use Rattle.acts.specs.Acts.{Says}
+use Rattle.desks.specs.Whole.{Whole, Says}
 use Rattle.turns.specs.declared.Turned.{Turned}
 use Rattle.turns.specs.declared.Turned.the-variants as TV
 

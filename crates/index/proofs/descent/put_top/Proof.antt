@@ -1,9 +1,9 @@
--- `index::insert::put_top` meets its contract: the first 512 bytes are page 0.
+-- `index::descent::put_top` meets its contract: the first 512 bytes are page 0.
 -- Assumes nothing.
 use borrow.Author.Needs.{needs}
-use Rattle.index.proofs.Roots.{top-back}
-use Rattle.index.proofs.insert.put_top.Statement.{statement}
-use Rattle.index.proofs.insert.put_top.Tie as tie
+use Rattle.index.proofs.Heads.{top-back}
+use Rattle.index.proofs.descent.put_top.Statement.{statement}
+use Rattle.index.proofs.descent.put_top.Tie as tie
 
 sub-put-root : tie.Need-sub-put-root
 sub-put-root c = search needs
