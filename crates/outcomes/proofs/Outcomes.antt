@@ -4,7 +4,7 @@ use Prim.Native.Nat.{ℕ}
 use mathlib.Core.Path.{refl}
 use mathlib.Core.List.{List}
 use Rattle.numbers.specs.Numbers.{Bytes}
-use Rattle.whole.specs.Checks.{wholeOk}
+use Rattle.whole.specs.Verdict.{wholeOk}
 use Rattle.whole.proofs.Judging.{judged}
 use Rattle.calls.specs.Promise.{Lent, BytesIn, Outcome}
 use Rattle.calls.proofs.Outcomes.{Judgement, judged-outcome}

@@ -37,7 +37,8 @@ use Rattle.whole_pages.proofs.Pages.{PagesFacts, pages-sound, pages-complete}
 use Rattle.desks.specs.States.{book, stateOf, deskWith}
 use Rattle.desks.proofs.Itself.{itself-fits}
 use Rattle.desks.specs.Whole.{Whole, Judged}
-use Rattle.whole.specs.Checks.{slotTogether, slotHolds, entryHeld, hasKey, ownersAt, named, slotNamed, locksOk, wholeOk}
+use Rattle.whole.specs.Checks.{slotTogether, slotHolds, entryHeld, hasKey, ownersAt, named, slotNamed, locksOk}
+use Rattle.whole.specs.Verdict.{wholeOk}
 use Rattle.whole.proofs.Flats.{find-is, owners-is}
 use Rattle.whole_desk.specs.Checks.{deskOk}
 use Rattle.whole_desk.proofs.Slots.{in-use, use-in}

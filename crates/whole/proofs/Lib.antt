@@ -1,4 +1,5 @@
 pub mod LockTurns
+pub mod PictureTurns
 pub mod Fines
 pub mod Flats
 pub mod Ascending

@@ -1,6 +1,6 @@
--- The tests that the code makes of the locks, in the order in which it makes them, and of the picture. They are not for readers: what they
+-- The tests that the code makes of the locks, in the order in which it makes them. They are not for readers: what they
 -- come to is shown in ../proofs. Assumes nothing.
-use Prim.Native.Nat.{ℕ, zero, suc, _-_, _≤_}
+use Prim.Native.Nat.{ℕ, zero, suc, _≤_}
 use mathlib.Core.Path.{_≡_}
 use mathlib.Core.Bool.{Bool, true, false, _&&_, _||_}
 use mathlib.Core.List.{List}
@@ -14,11 +14,10 @@ use Rattle.rules.specs.Kinds.{Lock, Entry, Name, on, end}
 use Rattle.rules.specs.Good.{isX, together}
 use Rattle.tables.specs.Layout.{nameIn, slotsOf}
 use Rattle.tables.specs.Moves.{isSlotOf}
-use Rattle.pages.specs.Layout.{entriesOf, childrenOf, rootOf, heightOf}
+use Rattle.pages.specs.Layout.{entriesOf, childrenOf}
 use Rattle.index.specs.Pictures.{pageAt}
-use Rattle.whole_pages.specs.Walks.{spanOf, treeOk, pagesOk}
+use Rattle.whole_pages.specs.Walks.{spanOf, treeOk}
 use Rattle.desks.specs.States.{book}
-use Rattle.whole_desk.specs.Checks.{deskOk}
 
 -- ---- locks against one another, and against the entries
 abbrev pub slotTogether : Option (Lock ℕ) → Option (Lock ℕ) → Bool
@@ -67,9 +66,6 @@ pub record Fine (n : ℕ) (s : List ℕ) (q : ℕ) : Type 0 where
   pub size : length s ≡ pagesSize
   pub ok : treeOk n least s (spanOf q low high) ≡ true
 
--- the whole picture
+-- all of it
 unfoldable pub locksOk : ℕ → List ℕ → List ℕ → ℕ → Bool
 locksOk n s d q = (pairs slotTogether (slotsOf d) && all (slotNamed n s q) (slotsOf d)) && ownersAt n s d q
-
-unfoldable pub wholeOk : List ℕ → List ℕ → Bool
-wholeOk s d = (pagesOk s && deskOk d) && locksOk (heightOf (pageAt s 0) - 1) s d (rootOf (pageAt s 0))

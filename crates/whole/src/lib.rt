@@ -8,7 +8,7 @@ ghost use lib.ListN.{length};
 ghost use Rattle.limits.specs.Limits.{pagesSize, deskSize};
 ghost use Rattle.numbers.specs.Numbers.{Bytes};
 ghost use Rattle.desks.specs.Whole.{Judged};
-ghost use Rattle.whole.specs.Checks.{wholeOk};
+ghost use Rattle.whole.specs.Verdict.{wholeOk};
 
 // To which place in the order of the locks the walk over the entries has come, or that it cannot go on.
 pub enum Passage {

@@ -1,7 +1,7 @@
 -- `whole::passes` meets its contract: the tests are made in their order.
 -- Assumes nothing.
 use borrow.Author.Needs.{needs}
-use Rattle.whole.proofs.LockTurns.{not-pages, tall-pages, fine-root, not-desk, whole-done}
+use Rattle.whole.proofs.PictureTurns.{not-pages, tall-pages, fine-root, not-desk, whole-done}
 use Rattle.whole.proofs.passes.Statement.{statement}
 use Rattle.whole.proofs.passes.Tie as tie
 
