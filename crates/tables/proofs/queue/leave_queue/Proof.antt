@@ -1,7 +1,7 @@
 -- `tables::queue::leave_queue` meets its contract: the request, the places behind it and the count are written.
 -- Assumes nothing.
 use borrow.Author.Needs.{needs}
-use Rattle.tables.specs.Moves.{queueLeft}
+use Rattle.tables.proofs.Queues.{queue-closed}
 use Rattle.tables.proofs.queue.leave_queue.Statement.{statement}
 use Rattle.tables.proofs.queue.leave_queue.Tie as tie
 
@@ -30,8 +30,7 @@ same-length : tie.Need-same-length
 same-length c = search needs
 
 returns : tie.Need-returns
-unfolding queueLeft
-returns c = cc
+returns c = search (needs, queue-closed)
 
 pub leave-queue-spec : {M : Type 1} → statement M
 leave-queue-spec =
