@@ -15,7 +15,7 @@ use lib.Seq.{getD-set-same, getD-set-other}
 use Rattle.limits.specs.Limits.{locksMost, slotSize, slotsPlace, deskSize}
 use Rattle.numbers.specs.Numbers.{numberAt, widthOf, fieldsAt, part, Bytes}
 use Rattle.numbers.proofs.Fields.{fields-same, fields-other}
-use Rattle.numbers.proofs.Rows.{rows-distinct}
+use Rattle.numbers.proofs.Tables.{rows-distinct}
 use Rattle.numbers.proofs.Parts.{getD-part, fieldsAt-part}
 use Rattle.numbers.proofs.Kept.{bytes-putFields, bytes-part, bytes-zeros}
 use Rattle.rules.specs.Kinds.{Queued, Mark, Lock, Mode, Name, Paging}

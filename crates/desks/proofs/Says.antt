@@ -13,7 +13,7 @@ use Rattle.lists.proofs.Tables.{tab-ext}
 use Rattle.numbers.specs.Numbers.{widthOf, fieldsAt, rows, Bytes}
 use Rattle.numbers.proofs.Agree.{Agree, agree-front, agree-join, agree-all}
 use Rattle.numbers.proofs.Fields.{fields-inj}
-use Rattle.numbers.proofs.Rows.{rows-inj}
+use Rattle.numbers.proofs.Tables.{rows-inj}
 use Rattle.rules.specs.Kinds.{Lock, Queued, delete, Mark, idle}
 use Rattle.tables.specs.Layout.{headWidths, inPlace, recordWidths, recordPlace, recordAt, lockWidths, lockPlace, slotFields}
 use Rattle.desks.specs.States.{waitingFields, markNumber}

@@ -180,7 +180,7 @@ module _ (s : List ℕ) (n pg u i : ℕ) (c : P.Child) (f : InnerFull s n pg u i
 -- ---- with room
 module _ (s : List ℕ) (n pg u i : ℕ) (c : P.Child) (f : InnerRoom s n pg u i c) where
   pub room-count : (m : ℕ) → m ≡ countOf (take (pageSize * pg + pageSize - pageSize * pg) (drop (pageSize * pg) s)) → m < innerMost
-      → countOf (take (pageSize * pg + pageSize - pageSize * pg) (drop (pageSize * pg) s)) ≤ innerMost - 1
+      → countOf (take (pageSize * pg + pageSize - pageSize * pg) (drop (pageSize * pg) s)) < innerMost
   room-count m e h = omega arith
 
   pub room-place : i ≤ countOf (take (pageSize * pg + pageSize - pageSize * pg) (drop (pageSize * pg) s))

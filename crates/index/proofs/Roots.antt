@@ -1,6 +1,6 @@
 -- Page 0 and the new root, as the code writes them: the parts that are lent are those pages, and a page of zeros with two children is the
 -- page written from the two. Assumes nothing.
-use Prim.Native.Nat.{ℕ, _+_, _*_, _-_, _≤_}
+use Prim.Native.Nat.{ℕ, _+_, _*_, _-_, _≤_, _<_}
 use mathlib.Core.Path.{_≡_, sym, ap, _∙_}
 use mathlib.Core.List.{List, [], _∷_}
 use native.Mathlib.Nat.{mul-zero}
@@ -28,7 +28,7 @@ pub cleared : (p p₁ : List ℕ) (n : ℕ) → p ≡ replicate pageSize 0 → p
 unfolding blankPage
 cleared p p₁ n z e = e ∙ ap (λ v. putHead v 3 0 n) z ∙ none-blank n
 
-pub none-yet : (p : List ℕ) (n : ℕ) → p ≡ innerPage n [] → countOf p ≤ innerMost - 1
+pub none-yet : (p : List ℕ) (n : ℕ) → p ≡ innerPage n [] → countOf p < innerMost
 none-yet p n e = omega (arith, ap countOf e, inner-count n [] (lit≤ tt))
 
 pub first-is : (p q : List ℕ) (n : ℕ) (c : P.Child) → p ≡ innerPage n [] → q ≡ childPut p 0 c → q ≡ innerPage n (c ∷ [])
@@ -36,7 +36,7 @@ unfolding insertAt
 first-is p q n c e f = f ∙ ap (λ v. childPut v 0 c) e ∙ inner-put n [] (lit≤ tt) 0 c (lit≤ tt)
 
 module _ (p : List ℕ) (n : ℕ) (c : P.Child) (e : p ≡ innerPage n (c ∷ [])) where
-  pub one-now : countOf p ≤ innerMost - 1
+  pub one-now : countOf p < innerMost
   one-now = omega (arith, ap countOf e, inner-count n (c ∷ []) (lit≤ tt))
 
   pub one-there : 1 ≤ countOf p

@@ -4,6 +4,7 @@ pub mod Fields
 pub mod Parts
 pub mod Moves
 pub mod Turns
-pub mod Rows
+pub mod Tables
+pub mod Widths
 pub mod Kept
 pub mod Splices

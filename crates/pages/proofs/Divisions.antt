@@ -7,11 +7,14 @@ use native.Mathlib.Nat.{mul-le-mul-left, zero-add, add-sub-cancel-left}
 use native.Mathlib.Omega.{arith}
 use lib.ListN.{length, getD, take, drop, length-drop, List·getD-append}
 use lib.Seq.{length-take-le}
+use Rattle.limits.specs.Limits.{keySize, pageSize, headSize, bodySize}
 use Rattle.lists.specs.Lists.{join, insertAt}
 use Rattle.lists.proofs.Places.{length-insertAt, take-insertAt-below, drop-insertAt-below, take-insertAt-above, drop-insertAt-above}
-use Rattle.numbers.specs.Numbers.{numberAt, putNumber, copied, zeroed}
+use Rattle.numbers.specs.Numbers.{numberAt, putNumber}
+use Rattle.numbers.specs.Rows.{cut, rowsCopied}
 use Rattle.numbers.proofs.Numbers.{numberAt-ext, number-same}
 use Rattle.numbers.proofs.Moves.{length-copied, length-zeroed}
+use Rattle.numbers.proofs.Widths.{rows-halves}
 use Rattle.pages.specs.Layout.{countOf}
 use Rattle.pages.specs.Rows.{rowsOf, withRows, Divided, asTheyAre, firstLow}
 use Rattle.pages.specs.Steps.{Parted}
@@ -19,16 +22,16 @@ use Rattle.pages.proofs.Rows.{Wide, bytesOf, wide-first, wide-take, wid
 use Rattle.pages.proofs.WithRows.{Fit, length-insert, holds-with, rows-with, with-with}
 use Rattle.pages.proofs.Moves.{rows-stay, rows-go}
 
-pub parted : (l r l₁ r₁ r₂ : List ℕ) (from n stay go : ℕ) → r₁ ≡ copied n l (16 + from) 16 r → r₂ ≡ putNumber 2 r₁ 4 go
-    → l₁ ≡ putNumber 2 (zeroed n (16 + from) l) 4 stay → length l ≡ 512 → length r ≡ 512 → from + n ≤ 496 → stay < 65536 → go < 65536
-    → Parted from n stay go l r l₁ r₂
-parted l r l₁ r₁ r₂ from n stay go a b c h k m e f =
-    let s = length-zeroed n (16 + from) l (omega arith) in
-    let t = ap length a ∙ length-copied n l (16 + from) 16 r (omega arith) (omega arith) in
+pub parted : (l r l₁ r₁ r₂ : List ℕ) (z stay go : ℕ) → r₁ ≡ rowsCopied headSize z stay go l r → r₂ ≡ putNumber 2 r₁ 4 go
+    → l₁ ≡ putNumber 2 (cut headSize z stay (stay + go) l) 4 stay → length l ≡ pageSize → length r ≡ pageSize → z * (stay + go) ≤ bodySize
+    → stay < 65536 → go < 65536 → Parted z stay go l r l₁ r₂
+parted l r l₁ r₁ r₂ z stay go a b c h k m e f =
+    let s = length-zeroed (z * (stay + go - stay)) (headSize + z * stay) l (omega (arith, rows-halves z stay (stay + go) (omega arith))) in
+    let t = ap length a ∙ length-copied (z * go) l (headSize + z * stay) headSize r (omega arith) (omega arith) in
     record {
       left = c;
       right = b ∙ ap (λ u. putNumber 2 u 4 go) a;
-      stays = ap countOf c ∙ number-same 2 (zeroed n (16 + from) l) 4 stay e (omega arith);
+      stays = ap countOf c ∙ number-same 2 (cut headSize z stay (stay + go) l) 4 stay e (omega arith);
       goes = ap countOf b ∙ number-same 2 r₁ 4 go f (omega arith);
     }
 
@@ -44,12 +47,12 @@ put-again z p q x i rs f g e =
 pub record OneMore (z n : ℕ) (l r x : List ℕ) : Type 0 where
   pub full : countOf l ≡ n
   pub bare : countOf r ≡ 0
-  pub left : 16 + z * n ≤ length l
-  pub right : 16 + z * n ≤ length r
+  pub left : headSize + z * n ≤ length l
+  pub right : headSize + z * n ≤ length r
   pub row : length x ≡ z
   pub few : n < 65536
 
-own : {z n : ℕ} {l r x : List ℕ} → OneMore z n l r x → 16 + z * countOf l ≤ length l
+own : {z n : ℕ} {l r x : List ℕ} → OneMore z n l r x → headSize + z * countOf l ≤ length l
 own o = rw (o .full) (o .left)
 
 -- some of the first rows fit the page, and the others the page that has none
@@ -82,7 +85,7 @@ module _ {z n : ℕ} {l r x : List ℕ} (o : OneMore z n l r x) (i : ℕ) where
         few = omega (arith, o .few);
       }
 
-module _ (z : ℕ) (l r x l₁ r₁ : List ℕ) (i stay go : ℕ) (d : Parted (z * stay) (z * go) stay go l r l₁ r₁) (o : OneMore z (stay + go) l r x) (m : i ≤ stay + go) where
+module _ (z : ℕ) (l r x l₁ r₁ : List ℕ) (i stay go : ℕ) (d : Parted z stay go l r l₁ r₁) (o : OneMore z (stay + go) l r x) (m : i ≤ stay + go) where
   abbrev rs : List (List ℕ)
   rs = rowsOf z l
 
@@ -132,12 +135,12 @@ module _ (z : ℕ) (l r x l₁ r₁ : List ℕ) (i stay go : ℕ) (d : Parted (z
       }
 
 -- ---- the first separator of the half that goes: it is handed out, and 0 in its place
-pub first-low : (z : ℕ) (p : List ℕ) (rs : List (List ℕ)) → Fit z p rs → 8 ≤ z → 0 < length rs → numberAt 8 (withRows z p rs) 16 ≡ firstLow rs
+pub first-low : (z : ℕ) (p : List ℕ) (rs : List (List ℕ)) → Fit z p rs → keySize ≤ z → 0 < length rs → numberAt keySize (withRows z p rs) headSize ≡ firstLow rs
 unfolding join
 first-low z p [] f w h = absurd (omega arith)
 first-low z p (r ∷ rs) f w h =
     let e = wide-first z r rs (f .wide) in
-    numberAt-ext 8
+    numberAt-ext keySize
     (record {
       byte = λ k l. holds-with z p (r ∷ rs) f .rows k (omega arith)
           ∙ List·getD-append r (bytesOf rs) 0 k (omega arith)

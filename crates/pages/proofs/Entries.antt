@@ -9,6 +9,7 @@ use lib.Dec.{lit<, lit≤, eqb}
 use lib.ListN.{length, replicate, getD}
 use borrow.Author.Tests.{eq-eqb, ne-eqb}
 use mathlib.Core.Bool.{Bool, true, false, cond}
+use Rattle.limits.specs.Limits.{pageSize, entrySize, leafMost}
 use Rattle.lists.proofs.Tables.{length-tab}
 use Rattle.numbers.specs.Numbers.{widthOf, Fits, Bytes, fieldsAt}
 use Rattle.numbers.proofs.Fields.{length-putFields, fields-same, fields-fit}
@@ -53,19 +54,19 @@ entry-back e = fields-in (e .key) (e .owner) (e .now) (e .before)
 
 -- what a row says
 abbrev pub rowEntry : List ℕ → Entry ℕ ℕ
-rowEntry r = said entryWidths 20 entryIn r
+rowEntry r = said entryWidths entrySize entryIn r
 
 pub entry-row : (e : Entry ℕ ℕ) → EntryFits e → rowEntry (entryRow e) ≡ e
 unfolding entryRow widthOf
-entry-row e s = ap entryIn (fields-same entryWidths (replicate 20 0) 0 (entryFields e) (entry-fits e s) (lit≤ tt)) ∙ entry-back e
+entry-row e s = ap entryIn (fields-same entryWidths (replicate entrySize 0) 0 (entryFields e) (entry-fits e s) (lit≤ tt)) ∙ entry-back e
 
-pub length-entryRow : (e : Entry ℕ ℕ) → length (entryRow e) ≡ 20
+pub length-entryRow : (e : Entry ℕ ℕ) → length (entryRow e) ≡ entrySize
 unfolding entryRow
-length-entryRow e = length-putFields entryWidths (replicate 20 0) 0 (entryFields e)
+length-entryRow e = length-putFields entryWidths (replicate entrySize 0) 0 (entryFields e)
 
 pub bytes-entryRow : (e : Entry ℕ ℕ) → Bytes (entryRow e)
 unfolding entryRow
-bytes-entryRow e = bytes-putFields entryWidths (replicate 20 0) 0 (entryFields e) (bytes-zeros 20)
+bytes-entryRow e = bytes-putFields entryWidths (replicate entrySize 0) 0 (entryFields e) (bytes-zeros entrySize)
 
 -- a row of bytes says an entry that fits
 pub or-small : (c : Bool) (r m : ℕ) → r < m → orZero (cond c (some r) none) < m
@@ -84,7 +85,7 @@ row-fits r b =
     }
 
 -- ---- a leaf's entries
-width : widthOf entryWidths ≡ 20
+width : widthOf entryWidths ≡ entrySize
 unfolding widthOf
 width = refl
 
@@ -92,15 +93,15 @@ pub length-entries : (p : List ℕ) → length (entriesOf p) ≡ countOf p
 unfolding entriesOf
 length-entries p = length-tab (countOf p) 0 (entryAt p)
 
-pub row-entry : (p : List ℕ) (i : ℕ) → rowEntry (rowAt 20 p i) ≡ entryAt p i
+pub row-entry : (p : List ℕ) (i : ℕ) → rowEntry (rowAt entrySize p i) ≡ entryAt p i
 unfolding entryAt
-row-entry p i = said-row entryWidths 20 entryIn width p i
+row-entry p i = said-row entryWidths entrySize entryIn width p i
 
-pub entries-with : (p : List ℕ) (rs : List (List ℕ)) → Fit 20 p rs → entriesOf (withRows 20 p rs) ≡ map rowEntry rs
+pub entries-with : (p : List ℕ) (rs : List (List ℕ)) → Fit entrySize p rs → entriesOf (withRows entrySize p rs) ≡ map rowEntry rs
 unfolding entriesOf entryAt
-entries-with p rs f = said-with entryWidths 20 entryIn width p rs f
+entries-with p rs f = said-with entryWidths entrySize entryIn width p rs f
 
 -- ---- a full leaf and one entry more
-pub one-entry : (l r : List ℕ) (e : Entry ℕ ℕ) → length l ≡ 512 → length r ≡ 512 → countOf l ≡ 24 → countOf r ≡ 0 → OneMore 20 24 l r (entryRow e)
+pub one-entry : (l r : List ℕ) (e : Entry ℕ ℕ) → length l ≡ pageSize → length r ≡ pageSize → countOf l ≡ leafMost → countOf r ≡ 0 → OneMore entrySize leafMost l r (entryRow e)
 one-entry l r e a b c n =
     record { full = c; bare = n; left = omega arith; right = omega arith; row = length-entryRow e; few = lit< tt }

@@ -1,24 +1,27 @@
 -- What the code does to a page's bytes: rows moved up or down by one, cut off, copied to another page, a row written over. Each is a page
--- with other rows. All that is written comes to one part put at byte 16. Assumes nothing.
+-- with other rows. All that is written comes to one part put behind the head. Assumes nothing.
 use mathlib.Core.Path.{_≡_, sym, ap, ap₂, _∙_}
 use mathlib.Core.List.{List, [], _∷_, _++_, append-assoc, append-nil}
 use Prim.Native.Nat.{ℕ, suc, _+_, _-_, _*_, _/_, _%_, _≤_, _<_}
-use native.Mathlib.Nat.{mul-le-mul-left, mul-sub, mul-zero, mul-one, zero-add, div-one}
+use native.Mathlib.Nat.{mul-zero, mul-one, zero-add, div-one}
 use native.Mathlib.Numerals.{add-one}
 use native.Mathlib.Omega.{arith}
 use native.Mathlib.Decide.{decLt}
 use lib.Dec.{lit<}
 use lib.ListN.{length, getD, set, length-set, take, drop, replicate, length-replicate, length-drop, List·getD-append}
 use lib.Seq.{ext-getD, set-split, length-take-le, getD-append-add}
+use Rattle.limits.specs.Limits.{keySize, headSize}
 use Rattle.lists.specs.Lists.{join, insertAt, removeAt}
 use Rattle.lists.proofs.Places.{insertAt-is, removeAt-is, length-insertAt, length-removeAt}
 use Rattle.lists.proofs.Joins.{join-append}
 use Rattle.numbers.specs.Numbers.{putNumber, widthOf, putFields, part, putPart, copied, moved, zeroed}
+use Rattle.numbers.specs.Rows.{opened, closed, cut, rowsCopied}
 use Rattle.numbers.proofs.Numbers.{length-putNumber, getD-putNumber-in, getD-putNumber-out}
 use Rattle.numbers.proofs.Fields.{length-putFields}
 use Rattle.numbers.proofs.Parts.{length-part, length-putPart, getD-putPart-out, putPart-part}
 use Rattle.numbers.proofs.Moves.{length-copied}
 use Rattle.numbers.proofs.Splices.{putPart-behind, putPart-before, put-row}
+use Rattle.numbers.proofs.Widths.{rows-halves, row-behind}
 use Rattle.pages.specs.Layout.{countOf}
 use Rattle.pages.specs.Rows.{rowsOf, withRows, fromZero}
 use Rattle.pages.proofs.Rows.{bytesOf, wide-first, wide-rest, wide-more, length-rowsOf, bytes-take, bytes-drop}
@@ -26,14 +29,14 @@ use Rattle.pages.proofs.WithRows.{Fit, Holds, holds-same, holds-with}
 
 -- m rows whose bytes, with zeros to the end of the page's own, are b
 pub with-is : (z : ℕ) (p : List ℕ) (rs : List (List ℕ)) (m : ℕ) (b : List ℕ) → length rs ≡ m → bytesOf rs ++ replicate (z * (countOf p - m)) 0 ≡ b
-    → putNumber 2 (putPart 16 b p) 4 m ≡ withRows z p rs
+    → putNumber 2 (putPart headSize b p) 4 m ≡ withRows z p rs
 unfolding withRows
 with-is z p rs m b e h = sym (rw (e, h))
 
--- what is put further on is put from 16 on, with the bytes before it as they are
-pub from-16 : (k : ℕ) (t p : List ℕ) → 16 + k ≤ length p → putPart (16 + k) t p ≡ putPart 16 (part 16 k p ++ t) p
-from-16 k t p h =
-    ap (putPart (16 + k) t) (sym (putPart-part 16 k p h)) ∙ putPart-behind 16 k (part 16 k p) t p (length-part 16 k p h) (omega arith)
+-- what is put further on is put from the head on, with the bytes before it as they are
+pub from-head : (k : ℕ) (t p : List ℕ) → headSize + k ≤ length p → putPart (headSize + k) t p ≡ putPart headSize (part headSize k p ++ t) p
+from-head k t p h =
+    ap (putPart (headSize + k) t) (sym (putPart-part headSize k p h)) ∙ putPart-behind headSize k (part headSize k p) t p (length-part headSize k p h) (omega arith)
 
 -- ---- the bytes of the rows that come out
 nothing-freed : (z n m : ℕ) (b : List ℕ) → n ≤ m → b ++ replicate (z * (n - m)) 0 ≡ b
@@ -42,7 +45,7 @@ nothing-freed z n m b h =
     ap (λ k. b ++ replicate k 0) (ap (λ x. z * x) e ∙ mul-zero z) ∙ append-nil b
 
 inserted-bytes : (z : ℕ) (p : List ℕ) (i : ℕ) (r : List ℕ) → i ≤ countOf p
-    → bytesOf (insertAt i r (rowsOf z p)) ≡ part 16 (z * i) p ++ (r ++ part (16 + z * i) (z * (countOf p - i)) p)
+    → bytesOf (insertAt i r (rowsOf z p)) ≡ part headSize (z * i) p ++ (r ++ part (headSize + z * i) (z * (countOf p - i)) p)
 unfolding join
 inserted-bytes z p i r h =
     ap bytesOf (insertAt-is i r (rowsOf z p) (rw (length-rowsOf z p) h))
@@ -50,7 +53,7 @@ inserted-bytes z p i r h =
     ∙ ap₂ (λ x y. x ++ (r ++ y)) (bytes-take z p i h) (bytes-drop z p i)
 
 removed-bytes : (z : ℕ) (p : List ℕ) (i : ℕ) → i ≤ countOf p
-    → bytesOf (removeAt i (rowsOf z p)) ≡ part 16 (z * i) p ++ part (16 + z * (i + 1)) (z * (countOf p - (i + 1))) p
+    → bytesOf (removeAt i (rowsOf z p)) ≡ part headSize (z * i) p ++ part (headSize + z * (i + 1)) (z * (countOf p - (i + 1))) p
 removed-bytes z p i h =
     ap bytesOf (removeAt-is i (rowsOf z p))
     ∙ join-append (λ r. r) (take i (rowsOf z p)) (drop (i + 1) (rowsOf z p))
@@ -59,13 +62,13 @@ removed-bytes z p i h =
 -- with the zeros behind them, where there was a row more
 removed-strip : (z : ℕ) (p : List ℕ) (i : ℕ) → i < countOf p
     → bytesOf (removeAt i (rowsOf z p)) ++ replicate (z * (countOf p - (countOf p - 1))) 0
-    ≡ part 16 (z * i) p ++ (part (16 + z * i + z) (z * (countOf p - 1 - i)) p ++ replicate z 0)
+    ≡ part headSize (z * i) p ++ (part (headSize + z * i + z) (z * (countOf p - 1 - i)) p ++ replicate z 0)
 removed-strip z p i h =
-    ap₂ (λ b k. b ++ replicate (z * k) 0) (removed-bytes z p i (omega arith) ∙ ap₂ (λ x k. part 16 (z * i) p ++ part x (z * k) p) a b) c
-    ∙ ap (λ k. part 16 (z * i) p ++ part (16 + z * i + z) (z * (countOf p - 1 - i)) p ++ replicate k 0) (mul-one z)
-    ∙ append-assoc (part 16 (z * i) p) (part (16 + z * i + z) (z * (countOf p - 1 - i)) p) (replicate z 0)
+    ap₂ (λ b k. b ++ replicate (z * k) 0) (removed-bytes z p i (omega arith) ∙ ap₂ (λ x k. part headSize (z * i) p ++ part x (z * k) p) a b) c
+    ∙ ap (λ k. part headSize (z * i) p ++ part (headSize + z * i + z) (z * (countOf p - 1 - i)) p ++ replicate k 0) (mul-one z)
+    ∙ append-assoc (part headSize (z * i) p) (part (headSize + z * i + z) (z * (countOf p - 1 - i)) p) (replicate z 0)
   where
-    a : 16 + z * (i + 1) ≡ 16 + z * i + z
+    a : headSize + z * (i + 1) ≡ headSize + z * i + z
     a = omega arith
 
     b : countOf p - (i + 1) ≡ countOf p - 1 - i
@@ -75,22 +78,22 @@ removed-strip z p i h =
     c = omega arith
 
 -- ---- a row put in: the rows from i on moved up, and its fields written
-pub row-in : (z : ℕ) (p : List ℕ) (ws vs : List ℕ) (i : ℕ) → widthOf ws ≡ z → i ≤ countOf p → 16 + z * (countOf p + 1) ≤ length p
-    → putNumber 2 (putFields ws (moved (z * (countOf p - i)) (16 + z * i) (16 + z * i + z) p) (16 + z * i) vs) 4 (countOf p + 1)
+pub row-in : (z : ℕ) (p : List ℕ) (ws vs : List ℕ) (i : ℕ) → widthOf ws ≡ z → i ≤ countOf p → headSize + z * (countOf p + 1) ≤ length p
+    → putNumber 2 (putFields ws (opened headSize z i (countOf p) p) (headSize + z * i) vs) 4 (countOf p + 1)
     ≡ withRows z p (insertAt i (putFields ws (replicate z 0) 0 vs) (rowsOf z p))
 unfolding copied
 row-in z p ws vs i w h l =
     ap (λ u. putNumber 2 u 4 (n + 1))
     (put-row ws (moved rest at (at + z) p) at vs z w (omega (arith, a, b))
     ∙ putPart-before at z r (part at rest p) p (length-putFields ws (replicate z 0) 0 vs ∙ length-replicate z 0) (omega (arith, a))
-    ∙ from-16 (z * i) (r ++ part at rest p) p (omega (arith, a)))
-    ∙ with-is z p (insertAt i r (rowsOf z p)) (n + 1) (part 16 (z * i) p ++ (r ++ part at rest p)) len bytes
+    ∙ from-head (z * i) (r ++ part at rest p) p (omega (arith, a)))
+    ∙ with-is z p (insertAt i r (rowsOf z p)) (n + 1) (part headSize (z * i) p ++ (r ++ part at rest p)) len bytes
   where
     n : ℕ
     n = countOf p
 
     at : ℕ
-    at = 16 + z * i
+    at = headSize + z * i
 
     rest : ℕ
     rest = z * (n - i)
@@ -99,7 +102,7 @@ row-in z p ws vs i w h l =
     r = putFields ws (replicate z 0) 0 vs
 
     a : at + z + rest ≤ length p
-    a = omega (arith, mul-sub z n i, mul-le-mul-left z h)
+    a = omega (arith, rows-halves z i n h)
 
     b : length (moved rest at (at + z) p) ≡ length p
     b = length-copied rest p at (at + z) p (omega (arith, a)) a
@@ -107,38 +110,35 @@ row-in z p ws vs i w h l =
     len : length (insertAt i r (rowsOf z p)) ≡ n + 1
     len = length-insertAt i r (rowsOf z p) ∙ ap (λ m. m + 1) (length-rowsOf z p)
 
-    bytes : bytesOf (insertAt i r (rowsOf z p)) ++ replicate (z * (n - (n + 1))) 0 ≡ part 16 (z * i) p ++ (r ++ part at rest p)
+    bytes : bytesOf (insertAt i r (rowsOf z p)) ++ replicate (z * (n - (n + 1))) 0 ≡ part headSize (z * i) p ++ (r ++ part at rest p)
     bytes = nothing-freed z n (n + 1) (bytesOf (insertAt i r (rowsOf z p))) (omega arith) ∙ inserted-bytes z p i r h
 
 -- ---- a row taken out: the rows behind i moved down, and the last one's bytes freed
-pub row-out : (z : ℕ) (p : List ℕ) (i : ℕ) → i < countOf p → 16 + z * countOf p ≤ length p
-    → putNumber 2 (zeroed z (16 + z * (countOf p - 1)) (moved (z * (countOf p - 1 - i)) (16 + z * i + z) (16 + z * i) p)) 4 (countOf p - 1)
+pub row-out : (z : ℕ) (p : List ℕ) (i : ℕ) → i < countOf p → headSize + z * countOf p ≤ length p
+    → putNumber 2 (closed headSize z i (countOf p) p) 4 (countOf p - 1)
     ≡ withRows z p (removeAt i (rowsOf z p))
 unfolding copied zeroed
 row-out z p i h l =
     ap (λ u. putNumber 2 u 4 (n - 1))
     (ap (λ x. putPart x (replicate z 0) (moved rest (at + z) at p)) b
     ∙ putPart-behind at rest (part (at + z) rest p) (replicate z 0) p (length-part (at + z) rest p a) (omega (arith, a))
-    ∙ from-16 (z * i) (part (at + z) rest p ++ replicate z 0) p (omega (arith, a)))
-    ∙ with-is z p (removeAt i (rowsOf z p)) (n - 1) (part 16 (z * i) p ++ (part (at + z) rest p ++ replicate z 0)) len (removed-strip z p i h)
+    ∙ from-head (z * i) (part (at + z) rest p ++ replicate z 0) p (omega (arith, a)))
+    ∙ with-is z p (removeAt i (rowsOf z p)) (n - 1) (part headSize (z * i) p ++ (part (at + z) rest p ++ replicate z 0)) len (removed-strip z p i h)
   where
     n : ℕ
     n = countOf p
 
     at : ℕ
-    at = 16 + z * i
+    at = headSize + z * i
 
     rest : ℕ
     rest = z * (n - 1 - i)
 
-    room : z * i + z + rest ≡ z * n
-    room = let e : i + 1 + (n - 1 - i) ≡ n = omega arith in omega (arith, ap (λ x. z * x) e)
-
     a : at + z + rest ≤ length p
-    a = omega (arith, room)
+    a = omega (arith, row-behind z i n h)
 
-    b : 16 + z * (n - 1) ≡ at + rest
-    b = let e : i + (n - 1 - i) ≡ n - 1 = omega arith in omega (arith, ap (λ x. z * x) e)
+    b : headSize + z * (n - 1) ≡ at + rest
+    b = omega (arith, rows-halves z i (n - 1) (omega arith))
 
     len : length (removeAt i (rowsOf z p)) ≡ n - 1
     len = length-removeAt i (rowsOf z p) (rw (length-rowsOf z p) h) ∙ ap (λ m. m - 1) (length-rowsOf z p)
@@ -156,30 +156,30 @@ count-same u n l a b =
     at k (no h) (no c) (no d) = getD-putNumber-out 2 u 4 n k (omega arith)
 
 set-bytes : (z : ℕ) (p : List ℕ) (i : ℕ) (r : List ℕ) → i < countOf p
-    → bytesOf (set (rowsOf z p) i r) ≡ part 16 (z * i) p ++ (r ++ part (16 + z * (i + 1)) (z * (countOf p - (i + 1))) p)
+    → bytesOf (set (rowsOf z p) i r) ≡ part headSize (z * i) p ++ (r ++ part (headSize + z * (i + 1)) (z * (countOf p - (i + 1))) p)
 unfolding join
 set-bytes z p i r h =
     ap bytesOf (set-split (rowsOf z p) i r (rw (length-rowsOf z p) h) ∙ ap (λ k. take i (rowsOf z p) ++ r ∷ drop k (rowsOf z p)) (sym (add-one i)))
     ∙ join-append (λ r. r) (take i (rowsOf z p)) (r ∷ drop (i + 1) (rowsOf z p))
     ∙ ap₂ (λ x y. x ++ (r ++ y)) (bytes-take z p i (omega arith)) (bytes-drop z p (i + 1))
 
-pub row-over : (z : ℕ) (p : List ℕ) (i : ℕ) (r : List ℕ) → i < countOf p → 16 + z * countOf p ≤ length p → length r ≡ z
-    → getD p 4 0 ≡ countOf p % 256 → getD p 5 0 ≡ countOf p / 256 % 256 → putPart (16 + z * i) r p ≡ withRows z p (set (rowsOf z p) i r)
+pub row-over : (z : ℕ) (p : List ℕ) (i : ℕ) (r : List ℕ) → i < countOf p → headSize + z * countOf p ≤ length p → length r ≡ z
+    → getD p 4 0 ≡ countOf p % 256 → getD p 5 0 ≡ countOf p / 256 % 256 → putPart (headSize + z * i) r p ≡ withRows z p (set (rowsOf z p) i r)
 row-over z p i r h l e a b =
     sym (count-same (putPart at r p) n (omega (arith, length-putPart at r p (omega (arith, m, e)), m))
     (getD-putPart-out at r p 4 (omega (arith, m, e)) (omega arith) ∙ a) (getD-putPart-out at r p 5 (omega (arith, m, e)) (omega arith) ∙ b))
     ∙ ap (λ u. putNumber 2 u 4 n)
     (ap (putPart at r) (sym (putPart-part (at + z) rest p m))
     ∙ putPart-before at z r (part (at + z) rest p) p e (omega (arith, m))
-    ∙ from-16 (z * i) (r ++ part (at + z) rest p) p (omega (arith, m)))
-    ∙ with-is z p (set (rowsOf z p) i r) n (part 16 (z * i) p ++ (r ++ part (at + z) rest p)) (length-set (rowsOf z p) i r ∙ length-rowsOf z p)
-    (nothing-freed z n n (bytesOf (set (rowsOf z p) i r)) (omega arith) ∙ set-bytes z p i r h ∙ ap (λ x. part 16 (z * i) p ++ (r ++ part x rest p)) q)
+    ∙ from-head (z * i) (r ++ part (at + z) rest p) p (omega (arith, m)))
+    ∙ with-is z p (set (rowsOf z p) i r) n (part headSize (z * i) p ++ (r ++ part (at + z) rest p)) (length-set (rowsOf z p) i r ∙ length-rowsOf z p)
+    (nothing-freed z n n (bytesOf (set (rowsOf z p) i r)) (omega arith) ∙ set-bytes z p i r h ∙ ap (λ x. part headSize (z * i) p ++ (r ++ part x rest p)) q)
   where
     n : ℕ
     n = countOf p
 
     at : ℕ
-    at = 16 + z * i
+    at = headSize + z * i
 
     rest : ℕ
     rest = z * (n - (i + 1))
@@ -187,55 +187,55 @@ row-over z p i r h l e a b =
     m : at + z + rest ≤ length p
     m = let k : i + 1 + (n - (i + 1)) ≡ n = omega arith in omega (arith, ap (λ x. z * x) k)
 
-    q : 16 + z * (i + 1) ≡ at + z
+    q : headSize + z * (i + 1) ≡ at + z
     q = omega arith
 
 -- ---- the first rows stay, and the others go to a page that has none
-module _ (z : ℕ) (p : List ℕ) (stay go : ℕ) (e : countOf p ≡ stay + go) (h : 16 + z * countOf p ≤ length p) where
-  room : 16 + z * stay + z * go ≤ length p
+module _ (z : ℕ) (p : List ℕ) (stay go : ℕ) (e : countOf p ≡ stay + go) (h : headSize + z * countOf p ≤ length p) where
+  room : headSize + z * stay + z * go ≤ length p
   room = omega (arith, ap (λ x. z * x) e)
 
-  pub rows-stay : putNumber 2 (zeroed (z * go) (16 + z * stay) p) 4 stay ≡ withRows z p (take stay (rowsOf z p))
+  pub rows-stay : putNumber 2 (cut headSize z stay (stay + go) p) 4 stay ≡ withRows z p (take stay (rowsOf z p))
   unfolding zeroed
   rows-stay =
-      let c : countOf p - stay ≡ go = omega arith in
+      let c : countOf p - stay ≡ stay + go - stay = omega arith in
       let l : length (take stay (rowsOf z p)) ≡ stay = length-take-le stay (rowsOf z p) (omega (arith, length-rowsOf z p)) in
-      ap (λ u. putNumber 2 u 4 stay) (from-16 (z * stay) (replicate (z * go) 0) p (omega (arith, room)))
-      ∙ with-is z p (take stay (rowsOf z p)) stay (part 16 (z * stay) p ++ replicate (z * go) 0) l
+      ap (λ u. putNumber 2 u 4 stay) (from-head (z * stay) (replicate (z * (stay + go - stay)) 0) p (omega (arith, room)))
+      ∙ with-is z p (take stay (rowsOf z p)) stay (part headSize (z * stay) p ++ replicate (z * (stay + go - stay)) 0) l
       (ap₂ (λ x k. x ++ replicate (z * k) 0) (bytes-take z p stay (omega arith)) c)
 
-  pub rows-go : (q : List ℕ) → countOf q ≤ go → putNumber 2 (copied (z * go) p (16 + z * stay) 16 q) 4 go ≡ withRows z q (drop stay (rowsOf z p))
+  pub rows-go : (q : List ℕ) → countOf q ≤ go → putNumber 2 (rowsCopied headSize z stay go p q) 4 go ≡ withRows z q (drop stay (rowsOf z p))
   unfolding copied
   rows-go q m =
       let c : countOf p - stay ≡ go = omega arith in
       let l : length (drop stay (rowsOf z p)) ≡ go = length-drop stay (rowsOf z p) ∙ ap (λ x. x - stay) (length-rowsOf z p) ∙ c in
-      with-is z q (drop stay (rowsOf z p)) go (part (16 + z * stay) (z * go) p) l
-      (nothing-freed z (countOf q) go (bytesOf (drop stay (rowsOf z p))) m ∙ bytes-drop z p stay ∙ ap (λ x. part (16 + z * stay) (z * x) p) c)
+      with-is z q (drop stay (rowsOf z p)) go (part (headSize + z * stay) (z * go) p) l
+      (nothing-freed z (countOf q) go (bytesOf (drop stay (rowsOf z p))) m ∙ bytes-drop z p stay ∙ ap (λ x. part (headSize + z * stay) (z * x) p) c)
 
 -- ---- the first row's separator set to 0
-number-first : (r u : List ℕ) (rs : List (List ℕ)) (k : ℕ) → k < 8 → 8 ≤ length r → 24 ≤ length u
-    → getD (putNumber 8 u 16 0) (16 + k) 0 ≡ getD (bytesOf (putNumber 8 r 0 0 ∷ rs)) k 0
+number-first : (r u : List ℕ) (rs : List (List ℕ)) (k : ℕ) → k < keySize → keySize ≤ length r → headSize + keySize ≤ length u
+    → getD (putNumber keySize u headSize 0) (headSize + k) 0 ≡ getD (bytesOf (putNumber keySize r 0 0 ∷ rs)) k 0
 unfolding join
 number-first r u rs k h l m =
-    getD-putNumber-in 8 u 16 0 k h m
-    ∙ sym (getD-putNumber-in 8 r 0 0 k h l)
-    ∙ ap (λ x. getD (putNumber 8 r 0 0) x 0) (zero-add k)
-    ∙ sym (List·getD-append (putNumber 8 r 0 0) (bytesOf rs) 0 k (omega (arith, length-putNumber 8 r 0 0)))
+    getD-putNumber-in keySize u headSize 0 k h m
+    ∙ sym (getD-putNumber-in keySize r 0 0 k h l)
+    ∙ ap (λ x. getD (putNumber keySize r 0 0) x 0) (zero-add k)
+    ∙ sym (List·getD-append (putNumber keySize r 0 0) (bytesOf rs) 0 k (omega (arith, length-putNumber keySize r 0 0)))
 
-number-later : (r : List ℕ) (rs : List (List ℕ)) (k : ℕ) → 8 ≤ k → getD (bytesOf (r ∷ rs)) k 0 ≡ getD (bytesOf (putNumber 8 r 0 0 ∷ rs)) k 0
+number-later : (r : List ℕ) (rs : List (List ℕ)) (k : ℕ) → keySize ≤ k → getD (bytesOf (r ∷ rs)) k 0 ≡ getD (bytesOf (putNumber keySize r 0 0 ∷ rs)) k 0
 unfolding join
 number-later r rs k h = at (decLt k (length r))
   where
     r₀ : List ℕ
-    r₀ = putNumber 8 r 0 0
+    r₀ = putNumber keySize r 0 0
 
     e : length r₀ ≡ length r
-    e = length-putNumber 8 r 0 0
+    e = length-putNumber keySize r 0 0
 
     at : Dec (k < length r) → getD (r ++ bytesOf rs) k 0 ≡ getD (r₀ ++ bytesOf rs) k 0
     at (yes l) =
         List·getD-append r (bytesOf rs) 0 k l
-        ∙ sym (List·getD-append r₀ (bytesOf rs) 0 k (omega (arith, e)) ∙ getD-putNumber-out 8 r 0 0 k (omega arith))
+        ∙ sym (List·getD-append r₀ (bytesOf rs) 0 k (omega (arith, e)) ∙ getD-putNumber-out keySize r 0 0 k (omega arith))
     at (no l) =
         let a : k ≡ length r + (k - length r) = omega arith in
         let b : length r₀ + (k - length r) ≡ k = omega (arith, e) in
@@ -244,27 +244,27 @@ number-later r rs k h = at (decLt k (length r))
         ∙ sym (getD-append-add r₀ (bytesOf rs) (k - length r) 0)
         ∙ ap (λ x. getD (r₀ ++ bytesOf rs) x 0) b
 
-pub first-from-zero : (z : ℕ) (p : List ℕ) (rs : List (List ℕ)) → Fit z p rs → 8 ≤ z → 0 < length rs
-    → putNumber 8 (withRows z p rs) 16 0 ≡ withRows z p (fromZero rs)
+pub first-from-zero : (z : ℕ) (p : List ℕ) (rs : List (List ℕ)) → Fit z p rs → keySize ≤ z → 0 < length rs
+    → putNumber keySize (withRows z p rs) headSize 0 ≡ withRows z p (fromZero rs)
 first-from-zero z p [] f w h = absurd (omega arith)
 first-from-zero z p (r ∷ rs) f w h =
-    holds-same z p (r₀ ∷ rs) (putNumber 8 u 16 0) (withRows z p (r₀ ∷ rs))
+    holds-same z p (r₀ ∷ rs) (putNumber keySize u headSize 0) (withRows z p (r₀ ∷ rs))
     (record {
-      len = length-putNumber 8 u 16 0 ∙ a .len;
-      low = getD-putNumber-out 8 u 16 0 4 (lit< tt) ∙ a .low;
-      high = getD-putNumber-out 8 u 16 0 5 (lit< tt) ∙ a .high;
-      head = λ k i j. getD-putNumber-out 8 u 16 0 k (omega arith) ∙ a .head k i j;
-      rows = λ k i. at k i (decLt k 8);
-      freed = λ k i j. getD-putNumber-out 8 u 16 0 k (omega arith) ∙ a .freed k i j;
-      behind = λ k i j. getD-putNumber-out 8 u 16 0 k (omega arith) ∙ a .behind k i j;
+      len = length-putNumber keySize u headSize 0 ∙ a .len;
+      low = getD-putNumber-out keySize u headSize 0 4 (lit< tt) ∙ a .low;
+      high = getD-putNumber-out keySize u headSize 0 5 (lit< tt) ∙ a .high;
+      head = λ k i j. getD-putNumber-out keySize u headSize 0 k (omega arith) ∙ a .head k i j;
+      rows = λ k i. at k i (decLt k keySize);
+      freed = λ k i j. getD-putNumber-out keySize u headSize 0 k (omega arith) ∙ a .freed k i j;
+      behind = λ k i j. getD-putNumber-out keySize u headSize 0 k (omega arith) ∙ a .behind k i j;
     })
-    (holds-with z p (r₀ ∷ rs) (record { wide = wide-more z r₀ rs (length-putNumber 8 r 0 0 ∙ b) (wide-rest z r rs (f .wide)); own = f .own; room = f .room; few = f .few }))
+    (holds-with z p (r₀ ∷ rs) (record { wide = wide-more z r₀ rs (length-putNumber keySize r 0 0 ∙ b) (wide-rest z r rs (f .wide)); own = f .own; room = f .room; few = f .few }))
   where
     u : List ℕ
     u = withRows z p (r ∷ rs)
 
     r₀ : List ℕ
-    r₀ = putNumber 8 r 0 0
+    r₀ = putNumber keySize r 0 0
 
     a : Holds z p (r ∷ rs) u
     a = holds-with z p (r ∷ rs) f
@@ -272,6 +272,6 @@ first-from-zero z p (r ∷ rs) f w h =
     b : length r ≡ z
     b = wide-first z r rs (f .wide)
 
-    at : (k : ℕ) → k < z * suc (length rs) → Dec (k < 8) → getD (putNumber 8 u 16 0) (16 + k) 0 ≡ getD (bytesOf (r₀ ∷ rs)) k 0
+    at : (k : ℕ) → k < z * suc (length rs) → Dec (k < keySize) → getD (putNumber keySize u headSize 0) (headSize + k) 0 ≡ getD (bytesOf (r₀ ∷ rs)) k 0
     at k i (yes c) = number-first r u rs k c (omega (arith, b)) (omega (arith, f .room, a .len))
-    at k i (no c) = getD-putNumber-out 8 u 16 0 (16 + k) (omega arith) ∙ a .rows k i ∙ number-later r rs k (omega arith)
+    at k i (no c) = getD-putNumber-out keySize u headSize 0 (headSize + k) (omega arith) ∙ a .rows k i ∙ number-later r rs k (omega arith)

@@ -5,6 +5,7 @@ use mathlib.Core.List.{List, map}
 use Prim.Native.Nat.{ℕ, _+_, _*_}
 use native.Mathlib.Nat.{add-zero}
 use native.Mathlib.Omega.{arith}
+use Rattle.limits.specs.Limits.{headSize}
 use Rattle.lists.specs.Lists.{tab}
 use Rattle.lists.proofs.Tables.{tab-ext, map-tab}
 use Rattle.numbers.specs.Numbers.{widthOf, fieldsAt}
@@ -20,15 +21,15 @@ module _ {A : Type 0} (ws : List ℕ) (z : ℕ) (dec : List ℕ → A) where
   said r = dec (fieldsAt ws r 0)
 
   abbrev pub saidAt : List ℕ → ℕ → A
-  saidAt p i = dec (fieldsAt ws p (16 + z * i))
+  saidAt p i = dec (fieldsAt ws p (headSize + z * i))
 
   abbrev pub listOf : List ℕ → List A
   listOf p = tab (countOf p) 0 (saidAt p)
 
   module _ (w : widthOf ws ≡ z) where
-    fields-row : (p : List ℕ) (i : ℕ) → fieldsAt ws (rowAt z p i) 0 ≡ fieldsAt ws p (16 + z * i)
+    fields-row : (p : List ℕ) (i : ℕ) → fieldsAt ws (rowAt z p i) 0 ≡ fieldsAt ws p (headSize + z * i)
     unfolding rowAt
-    fields-row p i = fieldsAt-part ws (16 + z * i) z p 0 (omega arith) ∙ ap (fieldsAt ws p) (add-zero (16 + z * i))
+    fields-row p i = fieldsAt-part ws (headSize + z * i) z p 0 (omega arith) ∙ ap (fieldsAt ws p) (add-zero (headSize + z * i))
 
     pub said-row : (p : List ℕ) (i : ℕ) → said (rowAt z p i) ≡ saidAt p i
     said-row p i = ap dec (fields-row p i)

@@ -10,6 +10,7 @@ use lib.Dec.{eqb}
 use lib.ListN.{length, take, drop, length-append, take-append-drop}
 use lib.Seq.{take-at, drop-at}
 use borrow.Author.Tests.{eqb-true, eq-eqb}
+use Rattle.limits.specs.Limits.{headSize}
 use Rattle.lists.specs.Lists.{all, join, tab, insertAt}
 use Rattle.lists.proofs.Tests.{and-left, and-right, and-both, all-append}
 use Rattle.lists.proofs.Places.{all-insertAt}
@@ -91,43 +92,43 @@ module _ (z : ℕ) where
       ap₂ (λ x xs. x ∷ xs) x (rows-told rs qs (wide-rest r rs w) (wide-rest q qs v) (omega arith) y)
 
   -- ---- the rows of a page
-  pub bytes-tab : (p : List ℕ) (c i : ℕ) → bytesOf (tab c i (rowAt z p)) ≡ part (16 + z * i) (z * c) p
+  pub bytes-tab : (p : List ℕ) (c i : ℕ) → bytesOf (tab c i (rowAt z p)) ≡ part (headSize + z * i) (z * c) p
   unfolding join tab rowAt part
   bytes-tab p zero i = rw mul-zero
   bytes-tab p (suc c) i =
-      let e : 16 + z * (i + 1) ≡ 16 + z * i + z = omega arith in
+      let e : headSize + z * (i + 1) ≡ headSize + z * i + z = omega arith in
       let q : z + z * c ≡ z * suc c = omega arith in
       ap (λ b. rowAt z p i ++ b) (bytes-tab p c (i + 1) ∙ ap (λ x. part x (z * c) p) e)
-      ∙ sym (part-append (16 + z * i) z (z * c) p)
-      ∙ ap (λ n. part (16 + z * i) n p) q
+      ∙ sym (part-append (headSize + z * i) z (z * c) p)
+      ∙ ap (λ n. part (headSize + z * i) n p) q
 
-  pub wide-tab : (p : List ℕ) (c i : ℕ) → 16 + z * (i + c) ≤ length p → Wide z (tab c i (rowAt z p))
+  pub wide-tab : (p : List ℕ) (c i : ℕ) → headSize + z * (i + c) ≤ length p → Wide z (tab c i (rowAt z p))
   unfolding tab rowAt all
   wide-tab p zero i h = refl
   wide-tab p (suc c) i h =
-      wide-more (rowAt z p i) (tab c (i + 1) (rowAt z p)) (length-part (16 + z * i) z p (omega arith)) (wide-tab p c (i + 1) (omega arith))
+      wide-more (rowAt z p i) (tab c (i + 1) (rowAt z p)) (length-part (headSize + z * i) z p (omega arith)) (wide-tab p c (i + 1) (omega arith))
 
   module _ (p : List ℕ) where
     pub length-rowsOf : length (rowsOf z p) ≡ countOf p
     unfolding rowsOf
     length-rowsOf = length-tab (countOf p) 0 (rowAt z p)
 
-    pub wide-rowsOf : 16 + z * countOf p ≤ length p → Wide z (rowsOf z p)
+    pub wide-rowsOf : headSize + z * countOf p ≤ length p → Wide z (rowsOf z p)
     unfolding rowsOf
     wide-rowsOf h = wide-tab p (countOf p) 0 (rw zero-add h)
 
-    pub bytes-rowsOf : bytesOf (rowsOf z p) ≡ part 16 (z * countOf p) p
+    pub bytes-rowsOf : bytesOf (rowsOf z p) ≡ part headSize (z * countOf p) p
     unfolding rowsOf
-    bytes-rowsOf = bytes-tab p (countOf p) 0 ∙ ap (λ x. part (16 + x) (z * countOf p) p) (mul-zero z)
+    bytes-rowsOf = bytes-tab p (countOf p) 0 ∙ ap (λ x. part (headSize + x) (z * countOf p) p) (mul-zero z)
 
-    pub bytes-take : (c : ℕ) → c ≤ countOf p → bytesOf (take c (rowsOf z p)) ≡ part 16 (z * c) p
+    pub bytes-take : (c : ℕ) → c ≤ countOf p → bytesOf (take c (rowsOf z p)) ≡ part headSize (z * c) p
     unfolding rowsOf
     bytes-take c h =
-        ap bytesOf (take-tab c (countOf p) 0 (rowAt z p) h) ∙ bytes-tab p c 0 ∙ ap (λ x. part (16 + x) (z * c) p) (mul-zero z)
+        ap bytesOf (take-tab c (countOf p) 0 (rowAt z p) h) ∙ bytes-tab p c 0 ∙ ap (λ x. part (headSize + x) (z * c) p) (mul-zero z)
 
-    pub bytes-drop : (c : ℕ) → bytesOf (drop c (rowsOf z p)) ≡ part (16 + z * c) (z * (countOf p - c)) p
+    pub bytes-drop : (c : ℕ) → bytesOf (drop c (rowsOf z p)) ≡ part (headSize + z * c) (z * (countOf p - c)) p
     unfolding rowsOf
     bytes-drop c =
         ap bytesOf (drop-tab c (countOf p) 0 (rowAt z p))
         ∙ bytes-tab p (countOf p - c) (0 + c)
-        ∙ ap (λ x. part (16 + z * x) (z * (countOf p - c)) p) (zero-add c)
+        ∙ ap (λ x. part (headSize + z * x) (z * (countOf p - c)) p) (zero-add c)

@@ -10,6 +10,7 @@ use native.Mathlib.Omega.{arith}
 use lib.Dec.{lit<, lit≤}
 use lib.ListN.{length, getD, replicate, length-append, length-replicate, getD-replicate, List·getD-append}
 use lib.Seq.{ext-getD, getD-append-add}
+use Rattle.limits.specs.Limits.{headSize}
 use Rattle.lists.specs.Lists.{insertAt}
 use Rattle.lists.proofs.Places.{length-insertAt}
 use Rattle.numbers.specs.Numbers.{numberAt, part, putPart, zeroAt, Apart, Bytes}
@@ -24,8 +25,8 @@ use Rattle.pages.proofs.Rows.{Wide, bytesOf, length-bytes, rows-told, l
 -- the page has room for its own rows and for these
 pub record Fit (z : ℕ) (p : List ℕ) (rs : List (List ℕ)) : Type 0 where
   pub wide : Wide z rs
-  pub own : 16 + z * countOf p ≤ length p
-  pub room : 16 + z * length rs ≤ length p
+  pub own : headSize + z * countOf p ≤ length p
+  pub room : headSize + z * length rs ≤ length p
   pub few : length rs < 65536
 
 -- what stands at each byte of u, where u is page p with rows rs
@@ -33,31 +34,31 @@ pub record Holds (z : ℕ) (p : List ℕ) (rs : List (List ℕ)) (u : List ℕ) 
   pub len : length u ≡ length p
   pub low : getD u 4 0 ≡ length rs % 256
   pub high : getD u 5 0 ≡ length rs / 256 % 256
-  pub head : (k : ℕ) → k < 16 → Apart k 1 4 2 → getD u k 0 ≡ getD p k 0
-  pub rows : (k : ℕ) → k < z * length rs → getD u (16 + k) 0 ≡ getD (bytesOf rs) k 0
-  pub freed : (k : ℕ) → 16 + z * length rs ≤ k → k < 16 + z * countOf p → getD u k 0 ≡ 0
-  pub behind : (k : ℕ) → 16 + z * length rs ≤ k → 16 + z * countOf p ≤ k → getD u k 0 ≡ getD p k 0
+  pub head : (k : ℕ) → k < headSize → Apart k 1 4 2 → getD u k 0 ≡ getD p k 0
+  pub rows : (k : ℕ) → k < z * length rs → getD u (headSize + k) 0 ≡ getD (bytesOf rs) k 0
+  pub freed : (k : ℕ) → headSize + z * length rs ≤ k → k < headSize + z * countOf p → getD u k 0 ≡ 0
+  pub behind : (k : ℕ) → headSize + z * length rs ≤ k → headSize + z * countOf p ≤ k → getD u k 0 ≡ getD p k 0
 
 -- which says all of it
 pub holds-same : (z : ℕ) (p : List ℕ) (rs : List (List ℕ)) (u v : List ℕ) → Holds z p rs u → Holds z p rs v → u ≡ v
-holds-same z p rs u v f g = ext-getD 0 u v (f .len ∙ sym (g .len)) (λ k l. inHead k (decLt k 16) (decLt k 4) (decLt k 5) (decLt k 6))
+holds-same z p rs u v f g = ext-getD 0 u v (f .len ∙ sym (g .len)) (λ k l. inHead k (decLt k headSize) (decLt k 4) (decLt k 5) (decLt k 6))
   where
-    inRows : (k : ℕ) → 16 ≤ k → Dec (k < 16 + z * length rs) → Dec (k < 16 + z * countOf p) → getD u k 0 ≡ getD v k 0
+    inRows : (k : ℕ) → headSize ≤ k → Dec (k < headSize + z * length rs) → Dec (k < headSize + z * countOf p) → getD u k 0 ≡ getD v k 0
     inRows k h (yes a) b =
-        let e : k ≡ 16 + (k - 16) = omega arith in
-        let i : k - 16 < z * length rs = omega arith in
-        rw e (f .rows (k - 16) i ∙ sym (g .rows (k - 16) i))
+        let e : k ≡ headSize + (k - headSize) = omega arith in
+        let i : k - headSize < z * length rs = omega arith in
+        rw e (f .rows (k - headSize) i ∙ sym (g .rows (k - headSize) i))
     inRows k h (no a) (yes b) = f .freed k (omega arith) b ∙ sym (g .freed k (omega arith) b)
     inRows k h (no a) (no b) = f .behind k (omega arith) (omega arith) ∙ sym (g .behind k (omega arith) (omega arith))
 
-    inHead : (k : ℕ) → Dec (k < 16) → Dec (k < 4) → Dec (k < 5) → Dec (k < 6) → getD u k 0 ≡ getD v k 0
-    inHead k (no h) a b c = inRows k (omega arith) (decLt k (16 + z * length rs)) (decLt k (16 + z * countOf p))
+    inHead : (k : ℕ) → Dec (k < headSize) → Dec (k < 4) → Dec (k < 5) → Dec (k < 6) → getD u k 0 ≡ getD v k 0
+    inHead k (no h) a b c = inRows k (omega arith) (decLt k (headSize + z * length rs)) (decLt k (headSize + z * countOf p))
     inHead k (yes h) (yes a) b c = f .head k h (omega arith) ∙ sym (g .head k h (omega arith))
     inHead k (yes h) (no a) (yes b) c = let e : k ≡ 4 = omega arith in rw e (f .low ∙ sym (g .low))
     inHead k (yes h) (no a) (no b) (yes c) = let e : k ≡ 5 = omega arith in rw e (f .high ∙ sym (g .high))
     inHead k (yes h) (no a) (no b) (no c) = f .head k h (omega arith) ∙ sym (g .head k h (omega arith))
 
--- the bytes that are written from 16 on
+-- the bytes that are written behind the head
 abbrev pub strip : ℕ → List ℕ → List (List ℕ) → List ℕ
 strip z p rs = bytesOf rs ++ replicate (z * (countOf p - length rs)) 0
 
@@ -67,7 +68,7 @@ module _ (z : ℕ) (p : List ℕ) (rs : List (List ℕ)) (f : Fit z p rs) where
       length-append (bytesOf rs) (replicate (z * (countOf p - length rs)) 0)
       ∙ ap₂ (λ x y. x + y) (length-bytes z rs (f .wide)) (length-replicate (z * (countOf p - length rs)) 0 ∙ mul-sub z (countOf p) (length rs))
 
-  pub span : 16 + length (strip z p rs) ≤ length p
+  pub span : headSize + length (strip z p rs) ≤ length p
   span = omega (arith, length-strip, f .own, f .room)
 
   pub holds-with : Holds z p rs (withRows z p rs)
@@ -77,33 +78,33 @@ module _ (z : ℕ) (p : List ℕ) (rs : List (List ℕ)) (f : Fit z p rs) where
       let s = span in
       let b = length-bytes z rs (f .wide) in
       record {
-        len = length-putNumber 2 u 4 (length rs) ∙ length-putPart 16 (strip z p rs) p s;
+        len = length-putNumber 2 u 4 (length rs) ∙ length-putPart headSize (strip z p rs) p s;
         low = getD-putNumber-in 2 u 4 (length rs) 0 (lit< tt) (omega (arith, l)) ∙ ap (λ x. x % 256) (div-one (length rs));
         high = getD-putNumber-in 2 u 4 (length rs) 1 (lit< tt) (omega (arith, l));
-        head = λ k h a. getD-putNumber-out 2 u 4 (length rs) k a ∙ getD-putPart-out 16 (strip z p rs) p k s (omega arith);
+        head = λ k h a. getD-putNumber-out 2 u 4 (length rs) k a ∙ getD-putPart-out headSize (strip z p rs) p k s (omega arith);
         rows = λ k h.
-            getD-putNumber-out 2 u 4 (length rs) (16 + k) (omega arith)
-            ∙ getD-putPart-in 16 (strip z p rs) p k (omega arith) (omega arith)
+            getD-putNumber-out 2 u 4 (length rs) (headSize + k) (omega arith)
+            ∙ getD-putPart-in headSize (strip z p rs) p k (omega arith) (omega arith)
             ∙ List·getD-append (bytesOf rs) zeros 0 k (omega arith);
         freed = λ k h m.
-            let q : k ≡ 16 + (length (bytesOf rs) + (k - (16 + z * length rs))) = omega arith in
+            let q : k ≡ headSize + (length (bytesOf rs) + (k - (headSize + z * length rs))) = omega arith in
             getD-putNumber-out 2 u 4 (length rs) k (omega arith)
             ∙ ap (λ x. getD u x 0) q
-            ∙ getD-putPart-in 16 (strip z p rs) p (length (bytesOf rs) + (k - (16 + z * length rs))) (omega arith) (omega arith)
-            ∙ getD-append-add (bytesOf rs) zeros (k - (16 + z * length rs)) 0
-            ∙ getD-replicate (z * (countOf p - length rs)) (k - (16 + z * length rs)) 0 0 (omega (arith, mul-sub z (countOf p) (length rs)));
+            ∙ getD-putPart-in headSize (strip z p rs) p (length (bytesOf rs) + (k - (headSize + z * length rs))) (omega arith) (omega arith)
+            ∙ getD-append-add (bytesOf rs) zeros (k - (headSize + z * length rs)) 0
+            ∙ getD-replicate (z * (countOf p - length rs)) (k - (headSize + z * length rs)) 0 0 (omega (arith, mul-sub z (countOf p) (length rs)));
         behind = λ k h m.
-            getD-putNumber-out 2 u 4 (length rs) k (omega arith) ∙ getD-putPart-out 16 (strip z p rs) p k s (omega arith);
+            getD-putNumber-out 2 u 4 (length rs) k (omega arith) ∙ getD-putPart-out headSize (strip z p rs) p k s (omega arith);
       }
     where
       zeros : List ℕ
       zeros = replicate (z * (countOf p - length rs)) 0
 
       u : List ℕ
-      u = putPart 16 (strip z p rs) p
+      u = putPart headSize (strip z p rs) p
 
       l : length u ≡ length p
-      l = length-putPart 16 (strip z p rs) p span
+      l = length-putPart headSize (strip z p rs) p span
 
   -- ---- what is read of it
   pub length-with : length (withRows z p rs) ≡ length p
@@ -114,7 +115,7 @@ module _ (z : ℕ) (p : List ℕ) (rs : List (List ℕ)) (f : Fit z p rs) where
   count-with = let h = holds-with in omega (arith, h .low, h .high, f .few)
 
   -- the head but for the count
-  pub head-with : (w at : ℕ) → at + w ≤ 16 → Apart at w 4 2 → numberAt w (withRows z p rs) at ≡ numberAt w p at
+  pub head-with : (w at : ℕ) → at + w ≤ headSize → Apart at w 4 2 → numberAt w (withRows z p rs) at ≡ numberAt w p at
   head-with w at h a = numberAt-ext w (record { byte = λ k l. holds-with .head (at + k) (omega arith) (omega arith) })
 
   pub kind-with : kindOf (withRows z p rs) ≡ kindOf p
@@ -125,36 +126,36 @@ module _ (z : ℕ) (p : List ℕ) (rs : List (List ℕ)) (f : Fit z p rs) where
       let l = length-with in
       let c = count-with in
       let b = length-bytes z rs (f .wide) in
-      let own : 16 + z * countOf (withRows z p rs) ≤ length (withRows z p rs) = rw (c, l) (f .room) in
-      let g : Agree (z * length rs) (withRows z p rs) 16 (bytesOf rs) 0 =
+      let own : headSize + z * countOf (withRows z p rs) ≤ length (withRows z p rs) = rw (c, l) (f .room) in
+      let g : Agree (z * length rs) (withRows z p rs) headSize (bytesOf rs) 0 =
       record { byte = λ k h. holds-with .rows k h ∙ ap (λ x. getD (bytesOf rs) x 0) (sym (zero-add k)) } in
       rows-told z (rowsOf z (withRows z p rs)) rs (wide-rowsOf z (withRows z p rs) own) (f .wide) (length-rowsOf z (withRows z p rs) ∙ c)
       (bytes-rowsOf z (withRows z p rs)
-      ∙ ap (λ n. part 16 (z * n) (withRows z p rs)) c
+      ∙ ap (λ n. part headSize (z * n) (withRows z p rs)) c
       ∙ part-ext (z * length rs) (omega (arith, f .room)) (omega arith) g
       ∙ part-all (z * length rs) (bytesOf rs) (omega arith))
 
   -- "Unused bytes are zero": where they are zero before, they are so afterwards
-  pub zero-with : (b : ℕ) → b ≤ length p → zeroAt (b - (16 + z * countOf p)) (16 + z * countOf p) p ≡ true
-      → zeroAt (b - (16 + z * length rs)) (16 + z * length rs) (withRows z p rs) ≡ true
+  pub zero-with : (b : ℕ) → b ≤ length p → zeroAt (b - (headSize + z * countOf p)) (headSize + z * countOf p) p ≡ true
+      → zeroAt (b - (headSize + z * length rs)) (headSize + z * length rs) (withRows z p rs) ≡ true
   zero-with b h e =
       let l = length-with in
-      let own : 16 + z * countOf p ≤ length p = f .own in
-      let room : 16 + z * length rs ≤ length p = f .room in
-      zeroAt-is (b - (16 + z * length rs)) (16 + z * length rs) (withRows z p rs) (omega arith)
-      (record { byte = λ k m. at (16 + z * length rs + k) (omega arith) (omega arith) (decLt (16 + z * length rs + k) (16 + z * countOf p)) })
+      let own : headSize + z * countOf p ≤ length p = f .own in
+      let room : headSize + z * length rs ≤ length p = f .room in
+      zeroAt-is (b - (headSize + z * length rs)) (headSize + z * length rs) (withRows z p rs) (omega arith)
+      (record { byte = λ k m. at (headSize + z * length rs + k) (omega arith) (omega arith) (decLt (headSize + z * length rs + k) (headSize + z * countOf p)) })
     where
-      at : (k : ℕ) → 16 + z * length rs ≤ k → k < b → Dec (k < 16 + z * countOf p) → getD (withRows z p rs) k 0 ≡ 0
+      at : (k : ℕ) → headSize + z * length rs ≤ k → k < b → Dec (k < headSize + z * countOf p) → getD (withRows z p rs) k 0 ≡ 0
       at k m j (yes a) = holds-with .freed k m a
       at k m j (no a) =
-          let q : k ≡ 16 + z * countOf p + (k - (16 + z * countOf p)) = omega arith in
-          let i : k - (16 + z * countOf p) < b - (16 + z * countOf p) = omega arith in
+          let q : k ≡ headSize + z * countOf p + (k - (headSize + z * countOf p)) = omega arith in
+          let i : k - (headSize + z * countOf p) < b - (headSize + z * countOf p) = omega arith in
           holds-with .behind k m (omega arith)
           ∙ ap (λ x. getD p x 0) q
-          ∙ zeroAt-true (b - (16 + z * countOf p)) (16 + z * countOf p) p e (omega (arith, f .own)) .byte (k - (16 + z * countOf p)) i
+          ∙ zeroAt-true (b - (headSize + z * countOf p)) (headSize + z * countOf p) p e (omega (arith, f .own)) .byte (k - (headSize + z * countOf p)) i
 
 -- ---- rows that fit
-fit-own : (z : ℕ) (p : List ℕ) → 16 + z * countOf p ≤ length p → countOf p < 65536 → Fit z p (rowsOf z p)
+fit-own : (z : ℕ) (p : List ℕ) → headSize + z * countOf p ≤ length p → countOf p < 65536 → Fit z p (rowsOf z p)
 fit-own z p h l =
     let e = length-rowsOf z p in
     record { wide = wide-rowsOf z p h; own = h; room = rw e h; few = omega arith }
@@ -170,7 +171,7 @@ fit-with z p rs qs f g =
 
 -- ---- other rows instead of those: what was given between counts no more, where what only its rows have written over was zero
 with-over : (z : ℕ) (p : List ℕ) (rs qs : List (List ℕ)) → Fit z p rs → Fit z p qs
-    → ((k : ℕ) → 16 + z * length qs ≤ k → 16 + z * countOf p ≤ k → k < 16 + z * length rs → getD p k 0 ≡ 0)
+    → ((k : ℕ) → headSize + z * length qs ≤ k → headSize + z * countOf p ≤ k → k < headSize + z * length rs → getD p k 0 ≡ 0)
     → withRows z (withRows z p rs) qs ≡ withRows z p qs
 with-over z p rs qs f g h =
     holds-same z p qs (withRows z u qs) (withRows z p qs)
@@ -180,8 +181,8 @@ with-over z p rs qs f g h =
       high = b .high;
       head = λ k i j. b .head k i j ∙ a .head k i j;
       rows = b .rows;
-      freed = λ k i j. within k i j (decLt k (16 + z * length rs));
-      behind = λ k i j. past k i j (decLt k (16 + z * length rs));
+      freed = λ k i j. within k i j (decLt k (headSize + z * length rs));
+      behind = λ k i j. past k i j (decLt k (headSize + z * length rs));
     })
     (holds-with z p qs g)
   where
@@ -197,11 +198,11 @@ with-over z p rs qs f g h =
     c : countOf u ≡ length rs
     c = count-with z p rs f
 
-    within : (k : ℕ) → 16 + z * length qs ≤ k → k < 16 + z * countOf p → Dec (k < 16 + z * length rs) → getD (withRows z u qs) k 0 ≡ 0
+    within : (k : ℕ) → headSize + z * length qs ≤ k → k < headSize + z * countOf p → Dec (k < headSize + z * length rs) → getD (withRows z u qs) k 0 ≡ 0
     within k i j (yes m) = b .freed k i (rw c m)
     within k i j (no m) = b .behind k i (rw c (omega arith)) ∙ a .freed k (omega arith) j
 
-    past : (k : ℕ) → 16 + z * length qs ≤ k → 16 + z * countOf p ≤ k → Dec (k < 16 + z * length rs) → getD (withRows z u qs) k 0 ≡ getD p k 0
+    past : (k : ℕ) → headSize + z * length qs ≤ k → headSize + z * countOf p ≤ k → Dec (k < headSize + z * length rs) → getD (withRows z u qs) k 0 ≡ getD p k 0
     past k i j (yes m) = b .freed k i (rw c m) ∙ sym (h k i j m)
     past k i j (no m) = b .behind k i (rw c (omega arith)) ∙ a .behind k (omega arith) j
 
@@ -210,19 +211,19 @@ pub with-with : (z : ℕ) (p : List ℕ) (rs qs : List (List ℕ)) → Fit z p r
     → withRows z (withRows z p rs) qs ≡ withRows z p qs
 with-with z p rs qs f g h = with-over z p rs qs f g (λ k i j m. absurd (never k i j m (decLt (length qs) (countOf p))))
   where
-    never : (k : ℕ) → 16 + z * length qs ≤ k → 16 + z * countOf p ≤ k → k < 16 + z * length rs → Dec (length qs < countOf p) → ⊥
+    never : (k : ℕ) → headSize + z * length qs ≤ k → headSize + z * countOf p ≤ k → k < headSize + z * length rs → Dec (length qs < countOf p) → ⊥
     never k i j m (yes d) = let l : length rs ≤ countOf p = omega arith in omega (arith, mul-le-mul-left z l)
     never k i j m (no d) = let l : length rs ≤ length qs = omega arith in omega (arith, mul-le-mul-left z l)
 
 -- and where the page's unused bytes are zero
 pub with-blank : (z : ℕ) (p : List ℕ) (rs qs : List (List ℕ)) → Fit z p rs → Fit z p qs
-    → zeroAt (length p - (16 + z * countOf p)) (16 + z * countOf p) p ≡ true → withRows z (withRows z p rs) qs ≡ withRows z p qs
+    → zeroAt (length p - (headSize + z * countOf p)) (headSize + z * countOf p) p ≡ true → withRows z (withRows z p rs) qs ≡ withRows z p qs
 with-blank z p rs qs f g e =
     with-over z p rs qs f g
     (λ k i j m.
-    let q : k ≡ 16 + z * countOf p + (k - (16 + z * countOf p)) = omega arith in
+    let q : k ≡ headSize + z * countOf p + (k - (headSize + z * countOf p)) = omega arith in
     ap (λ x. getD p x 0) q
-    ∙ zeroAt-true (length p - (16 + z * countOf p)) (16 + z * countOf p) p e (omega (arith, f .own)) .byte (k - (16 + z * countOf p)) (omega (arith, f .room)))
+    ∙ zeroAt-true (length p - (headSize + z * countOf p)) (headSize + z * countOf p) p e (omega (arith, f .own)) .byte (k - (headSize + z * countOf p)) (omega (arith, f .room)))
 
 count-low : (p : List ℕ) → Bytes p → getD p 4 0 ≡ countOf p % 256
 unfolding numberAt
@@ -233,7 +234,7 @@ unfolding numberAt
 count-high p g = omega (arith, g .below 4, g .below 5)
 
 -- a page with its own rows is itself; that its count's two bytes are bytes is needed here
-pub with-own : (z : ℕ) (p : List ℕ) → Bytes p → 16 + z * countOf p ≤ length p → withRows z p (rowsOf z p) ≡ p
+pub with-own : (z : ℕ) (p : List ℕ) → Bytes p → headSize + z * countOf p ≤ length p → withRows z p (rowsOf z p) ≡ p
 with-own z p g h =
     let e = length-rowsOf z p in
     let f = fit-own z p h (number-below 2 p 4 g) in
@@ -245,7 +246,7 @@ with-own z p g h =
       head = λ k i j. refl;
       rows = λ k i.
           let m : k < z * countOf p = rw e at i in
-          sym (ap (λ s. getD s k 0) (bytes-rowsOf z p) ∙ getD-part 16 (z * countOf p) p k m);
-      freed = λ k i j. let m : 16 + z * countOf p ≤ k = rw e at i in absurd (omega arith);
+          sym (ap (λ s. getD s k 0) (bytes-rowsOf z p) ∙ getD-part headSize (z * countOf p) p k m);
+      freed = λ k i j. let m : headSize + z * countOf p ≤ k = rw e at i in absurd (omega arith);
       behind = λ k i j. refl;
     })

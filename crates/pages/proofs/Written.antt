@@ -8,6 +8,7 @@ use native.Mathlib.Nat.{mul-zero, mul-le-mul-left}
 use native.Mathlib.Omega.{arith}
 use lib.ListN.{length, set, length-set, length-map, take, drop}
 use lib.Seq.{length-take-le}
+use Rattle.limits.specs.Limits.{pageSize, headSize, bodySize, entrySize, leafMost}
 use Rattle.lists.specs.Lists.{all, insertAt, removeAt}
 use Rattle.lists.proofs.Places.{map-set, length-insertAt, map-insertAt, removeAt-is, length-removeAt}
 use Rattle.lists.proofs.Joins.{map-append, map-take, map-drop}
@@ -23,9 +24,9 @@ use Rattle.pages.proofs.Entries.{length-entryRow}
 
 -- a page with no row and no other byte behind its head
 pub record Blank (b : List ℕ) : Type 0 where
-  pub size : length b ≡ 512
+  pub size : length b ≡ pageSize
   pub none : countOf b ≡ 0
-  pub zero : zeroAt 496 16 b ≡ true
+  pub zero : zeroAt bodySize headSize b ≡ true
 
 module _ {A : Type 0} (z : ℕ) (row : A → List ℕ) (wide : (x : A) → length (row x) ≡ z) {b : List ℕ} (o : Blank b) where
   wide-rows : (xs : List A) → Wide z (map row xs)
@@ -36,7 +37,7 @@ module _ {A : Type 0} (z : ℕ) (row : A → List ℕ) (wide : (x : A) → lengt
   abbrev pub written : List A → List ℕ
   written xs = withRows z b (map row xs)
 
-  pub fit-rows : (xs : List A) → 16 + z * length xs ≤ 512 → length xs < 65536 → Fit z b (map row xs)
+  pub fit-rows : (xs : List A) → headSize + z * length xs ≤ pageSize → length xs < 65536 → Fit z b (map row xs)
   fit-rows xs h l =
       let e = length-map xs row in
       record {
@@ -46,23 +47,23 @@ module _ {A : Type 0} (z : ℕ) (row : A → List ℕ) (wide : (x : A) → lengt
         few = omega arith;
       }
 
-  module _ (xs : List A) (h : 16 + z * length xs ≤ 512) (l : length xs < 65536) where
+  module _ (xs : List A) (h : headSize + z * length xs ≤ pageSize) (l : length xs < 65536) where
     pub rows-written : rowsOf z (written xs) ≡ map row xs
     rows-written = rows-with z b (map row xs) (fit-rows xs h l)
 
     pub count-written : countOf (written xs) ≡ length xs
     count-written = count-with z b (map row xs) (fit-rows xs h l) ∙ length-map xs row
 
-    pub length-written : length (written xs) ≡ 512
+    pub length-written : length (written xs) ≡ pageSize
     length-written = length-with z b (map row xs) (fit-rows xs h l) ∙ o .size
 
     -- with other rows it is those values, written
-    pub written-again : (ys : List A) → 16 + z * length ys ≤ 512 → length ys < 65536 → withRows z (written xs) (map row ys) ≡ written ys
+    pub written-again : (ys : List A) → headSize + z * length ys ≤ pageSize → length ys < 65536 → withRows z (written xs) (map row ys) ≡ written ys
     written-again ys k m =
         with-blank z b (map row xs) (map row ys) (fit-rows xs h l) (fit-rows ys k m) (rw (o .none, mul-zero, o .size) (o .zero))
 
     -- ---- one written over
-    pub set-written : (i : ℕ) (x : A) → i < length xs → putPart (16 + z * i) (row x) (written xs) ≡ written (set xs i x)
+    pub set-written : (i : ℕ) (x : A) → i < length xs → putPart (headSize + z * i) (row x) (written xs) ≡ written (set xs i x)
     set-written i x m =
         let f = fit-rows xs h l in
         let c = count-written in
@@ -89,13 +90,13 @@ module _ {A : Type 0} (z : ℕ) (row : A → List ℕ) (wide : (x : A) → lengt
     inserted-rows : (i : ℕ) (x : A) → insertAt i (row x) (rowsOf z (written xs)) ≡ map row (insertAt i x xs)
     inserted-rows i x = ap (insertAt i (row x)) rows-written ∙ sym (map-insertAt row i x xs)
 
-    pub put-written : (i : ℕ) (x : A) → 16 + z * (length xs + 1) ≤ 512 → length xs + 1 < 65536
+    pub put-written : (i : ℕ) (x : A) → headSize + z * (length xs + 1) ≤ pageSize → length xs + 1 < 65536
         → withRows z (written xs) (insertAt i (row x) (rowsOf z (written xs))) ≡ written (insertAt i x xs)
     put-written i x k t =
         let e = length-insertAt i x xs in
         ap (withRows z (written xs)) (inserted-rows i x) ∙ written-again (insertAt i x xs) (rw e k) (rw e t)
 
-    pub stay-written : (i c : ℕ) (x : A) → 16 + z * c ≤ 512 → c < 65536 → c ≤ length xs
+    pub stay-written : (i c : ℕ) (x : A) → headSize + z * c ≤ pageSize → c < 65536 → c ≤ length xs
         → withRows z (written xs) (take c (insertAt i (row x) (rowsOf z (written xs)))) ≡ written (take c (insertAt i x xs))
     stay-written i c x k t m =
         let e : length (take c (insertAt i x xs)) ≡ c = length-take-le c (insertAt i x xs) (omega (arith, length-insertAt i x xs)) in
@@ -107,11 +108,11 @@ module _ {A : Type 0} (z : ℕ) (row : A → List ℕ) (wide : (x : A) → lengt
     go-written i c x = ap (drop c) (inserted-rows i x) ∙ sym (map-drop row c (insertAt i x xs))
 
 -- ---- a leaf, one entry written over
-pub leaf-set : (b p : List ℕ) (es : List (Entry ℕ ℕ)) → Blank b → length es ≤ 24 → p ≡ withRows 20 b (map entryRow es) → (i : ℕ) (x : Entry ℕ ℕ)
-    → i < length es → putEntry p i x ≡ withRows 20 b (map entryRow (set es i x))
+pub leaf-set : (b p : List ℕ) (es : List (Entry ℕ ℕ)) → Blank b → length es ≤ leafMost → p ≡ withRows entrySize b (map entryRow es) → (i : ℕ) (x : Entry ℕ ℕ)
+    → i < length es → putEntry p i x ≡ withRows entrySize b (map entryRow (set es i x))
 unfolding putEntry entryRow widthOf
 leaf-set b p es o h e i x m =
-    let d = length-written 20 entryRow length-entryRow o es (omega arith) (omega arith) in
+    let d = length-written entrySize entryRow length-entryRow o es (omega arith) (omega arith) in
     ap (λ v. putEntry v i x) e
-    ∙ put-row entryWidths (withRows 20 b (map entryRow es)) (16 + 20 * i) (entryFields x) 20 refl (omega arith)
-    ∙ set-written 20 entryRow length-entryRow o es (omega arith) (omega arith) i x m
+    ∙ put-row entryWidths (withRows entrySize b (map entryRow es)) (headSize + entrySize * i) (entryFields x) entrySize refl (omega arith)
+    ∙ set-written entrySize entryRow length-entryRow o es (omega arith) (omega arith) i x m

@@ -5,6 +5,7 @@ use mathlib.Core.List.{List, [], _∷_}
 use mathlib.Core.Option.{Option, none, some}
 use lib.Dec.{eqb}
 use lib.ListN.{getD}
+use Rattle.limits.specs.Limits.{keySize, pageSize, headSize, entrySize, childSize}
 use Rattle.lists.specs.Lists.{tab}
 use Rattle.numbers.specs.Numbers.{numberAt, fieldsAt, putFields}
 use Rattle.rules.specs.Kinds.{Entry}
@@ -26,28 +27,28 @@ abbrev pub levelOf : List ℕ → ℕ
 levelOf p = numberAt 2 p 6
 
 unfoldable pub putHead : List ℕ → ℕ → ℕ → ℕ → List ℕ
-putHead p kind count level = putFields headWidths p 0 (512 ∷ kind ∷ count ∷ level ∷ 0 ∷ [])
+putHead p kind count level = putFields headWidths p 0 (pageSize ∷ kind ∷ count ∷ level ∷ 0 ∷ [])
 
 -- "Page 0: kind 1, count and level 0, then at byte 16 root, pages used, height (two bytes each)."
 abbrev pub rootOf : List ℕ → ℕ
-rootOf p = numberAt 2 p 16
+rootOf p = numberAt 2 p headSize
 
 abbrev pub usedOf : List ℕ → ℕ
-usedOf p = numberAt 2 p 18
+usedOf p = numberAt 2 p (headSize + 2)
 
 abbrev pub heightOf : List ℕ → ℕ
-heightOf p = numberAt 2 p 20
+heightOf p = numberAt 2 p (headSize + 4)
 
 abbrev pub rootWidths : List ℕ
 rootWidths = 2 ∷ 2 ∷ 2 ∷ []
 
 unfoldable pub putRoot : List ℕ → ℕ → ℕ → ℕ → List ℕ
-putRoot p root used height = putFields rootWidths p 16 (root ∷ used ∷ height ∷ [])
+putRoot p root used height = putFields rootWidths p headSize (root ∷ used ∷ height ∷ [])
 
 -- "Leaf: .. entries of 20 bytes (key, record now, record before, owner 2, presence 1 with bit 0 now and bit 1 before, one zero)". Presence
 -- and the zero are one number. "An absent record is 0."
 abbrev pub entryWidths : List ℕ
-entryWidths = 8 ∷ 4 ∷ 4 ∷ 2 ∷ 2 ∷ []
+entryWidths = keySize ∷ 4 ∷ 4 ∷ 2 ∷ 2 ∷ []
 
 abbrev pub ifBit : ℕ → ℕ → Option ℕ
 ifBit b r = cond (eqb (b % 2) 1) (some r) none
@@ -76,17 +77,17 @@ pub record EntryFits (e : Entry ℕ ℕ) : Type 0 where
   pub before : orZero (e .before) < 4294967296
 
 unfoldable pub entryAt : List ℕ → ℕ → Entry ℕ ℕ
-entryAt p i = entryIn (fieldsAt entryWidths p (16 + 20 * i))
+entryAt p i = entryIn (fieldsAt entryWidths p (headSize + entrySize * i))
 
 unfoldable pub putEntry : List ℕ → ℕ → Entry ℕ ℕ → List ℕ
-putEntry p i e = putFields entryWidths p (16 + 20 * i) (entryFields e)
+putEntry p i e = putFields entryWidths p (headSize + entrySize * i) (entryFields e)
 
 unfoldable pub entriesOf : List ℕ → List (Entry ℕ ℕ)
 entriesOf p = tab (countOf p) 0 (entryAt p)
 
 -- "Inner: .. children of 16 bytes (separator 8, page 2, six zeros)"
 abbrev pub childWidths : List ℕ
-childWidths = 8 ∷ 2 ∷ 2 ∷ 4 ∷ []
+childWidths = keySize ∷ 2 ∷ 2 ∷ 4 ∷ []
 
 unfoldable pub childIn : List ℕ → Child
 childIn vs = record { low = record { 0 = getD vs 0 0 }; page = getD vs 1 0 }
@@ -99,10 +100,10 @@ pub record ChildFits (c : Child) : Type 0 where
   pub page : c .page < 65536
 
 unfoldable pub childAt : List ℕ → ℕ → Child
-childAt p i = childIn (fieldsAt childWidths p (16 + 16 * i))
+childAt p i = childIn (fieldsAt childWidths p (headSize + childSize * i))
 
 unfoldable pub putChild : List ℕ → ℕ → Child → List ℕ
-putChild p i c = putFields childWidths p (16 + 16 * i) (childFields c)
+putChild p i c = putFields childWidths p (headSize + childSize * i) (childFields c)
 
 unfoldable pub childrenOf : List ℕ → List Child
 childrenOf p = tab (countOf p) 0 (childAt p)

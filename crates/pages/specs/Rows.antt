@@ -6,6 +6,7 @@ use mathlib.Core.Bool.{Bool, cond}
 use mathlib.Core.List.{List, [], _∷_, _++_, map}
 use lib.Dec.{eqb}
 use lib.ListN.{length, replicate, take, drop}
+use Rattle.limits.specs.Limits.{keySize, headSize, entrySize, childSize}
 use Rattle.lists.specs.Lists.{tab, join, insertAt, removeAt}
 use Rattle.numbers.specs.Numbers.{numberAt, putNumber, part, putPart, fieldsAt, putFields}
 use Rattle.rules.specs.Kinds.{Entry}
@@ -14,7 +15,7 @@ use Rattle.pages.specs.declared.Child.{Child}
 use Rattle.pages.specs.Layout.{countOf, entryWidths, entryIn, entryFields, childWidths, childFields}
 
 unfoldable pub rowAt : ℕ → List ℕ → ℕ → List ℕ
-rowAt z p i = part (16 + z * i) z p
+rowAt z p i = part (headSize + z * i) z p
 
 unfoldable pub rowsOf : ℕ → List ℕ → List (List ℕ)
 rowsOf z p = tab (countOf p) 0 (rowAt z p)
@@ -22,24 +23,24 @@ rowsOf z p = tab (countOf p) 0 (rowAt z p)
 -- the page with these rows in place of its own: its count is theirs, and what its own rows had beyond them is zero
 unfoldable pub withRows : ℕ → List ℕ → List (List ℕ) → List ℕ
 withRows z p rs =
-    putNumber 2 (putPart 16 (join (λ r. r) rs ++ replicate (z * (countOf p - length rs)) 0) p) 4 (length rs)
+    putNumber 2 (putPart headSize (join (λ r. r) rs ++ replicate (z * (countOf p - length rs)) 0) p) 4 (length rs)
 
 -- an entry and a child as rows
 unfoldable pub entryRow : Entry ℕ ℕ → List ℕ
-entryRow e = putFields entryWidths (replicate 20 0) 0 (entryFields e)
+entryRow e = putFields entryWidths (replicate entrySize 0) 0 (entryFields e)
 
 unfoldable pub childRow : Child → List ℕ
-childRow c = putFields childWidths (replicate 16 0) 0 (childFields c)
+childRow c = putFields childWidths (replicate childSize 0) 0 (childFields c)
 
 -- an entry put in and taken out; a child put in
 unfoldable pub entryPut : List ℕ → ℕ → Entry ℕ ℕ → List ℕ
-entryPut p i e = withRows 20 p (insertAt i (entryRow e) (rowsOf 20 p))
+entryPut p i e = withRows entrySize p (insertAt i (entryRow e) (rowsOf entrySize p))
 
 unfoldable pub entryTaken : List ℕ → ℕ → List ℕ
-entryTaken p i = withRows 20 p (removeAt i (rowsOf 20 p))
+entryTaken p i = withRows entrySize p (removeAt i (rowsOf entrySize p))
 
 unfoldable pub childPut : List ℕ → ℕ → Child → List ℕ
-childPut p i c = withRows 16 p (insertAt i (childRow c) (rowsOf 16 p))
+childPut p i c = withRows childSize p (insertAt i (childRow c) (rowsOf childSize p))
 
 -- the leaf when transaction t has ended, committed or rolled back: its own rows settled or gone, the others as they are
 abbrev pub endOf : Bool → Entry ℕ ℕ → Entry ℕ ℕ
@@ -51,7 +52,7 @@ rowLeft commits t r =
     cond (eqb (e .owner) t) (map entryRow (left (endOf commits) t e)) (r ∷ [])
 
 unfoldable pub leafSettled : Bool → ℕ → List ℕ → List ℕ
-leafSettled commits t p = withRows 20 p (join (rowLeft commits t) (rowsOf 20 p))
+leafSettled commits t p = withRows entrySize p (join (rowLeft commits t) (rowsOf entrySize p))
 
 -- "A full leaf with one more (25): the lowest 13 stay, 12 move to a new page. Inner (31): 16 stay, 15 move." The new page has its head and
 -- no row yet. In a new inner page "the first separator is 0"; the one that it had goes up.
@@ -64,8 +65,8 @@ asTheyAre rs = rs
 
 abbrev pub fromZero : List (List ℕ) → List (List ℕ)
 fromZero [] = []
-fromZero (r ∷ rs) = putNumber 8 r 0 0 ∷ rs
+fromZero (r ∷ rs) = putNumber keySize r 0 0 ∷ rs
 
 abbrev pub firstLow : List (List ℕ) → ℕ
 firstLow [] = 0
-firstLow (r ∷ rs) = numberAt 8 r 0
+firstLow (r ∷ rs) = numberAt keySize r 0

@@ -1,11 +1,10 @@
-// A leaf: up to 24 entries, by their keys.
+// A leaf: its entries, by their keys.
 ghost use mathlib.Core.Path.{_≡_};
-ghost use Prim.Native.Nat.{_+_, _*_, _/_, _≤_, _<_};
+ghost use Prim.Native.Nat.{_≤_, _<_};
 ghost use lib.ListN.{length};
+ghost use Rattle.limits.specs.Limits.{pageSize, entrySize, leafMost, leafStay};
 ghost use Rattle.lists.specs.Lists.{insertAt};
-ghost use Rattle.numbers.specs.Numbers.{moved};
 ghost use Rattle.entries.specs.Meaning.{bookEntry, bookValue};
-ghost use Rattle.entries.specs.Records.{orZero};
 ghost use Rattle.pages.specs.Layout.{countOf, ifBit, bit, EntryFits, entryAt, putEntry};
 ghost use Rattle.pages.specs.Rows.{rowsOf, entryRow, entryPut, entryTaken, endOf, leafSettled, Divided, asTheyAre};
 ghost use Rattle.pages.specs.Steps.{RowSettled, PackedAs};
@@ -14,18 +13,23 @@ use super::head;
 use entries::Entry;
 use entries::Key;
 use entries::Value;
+use limits::ENTRY_SIZE;
+use limits::HEAD_SIZE;
+use limits::KEY_SIZE;
+use limits::LEAF_GO;
+use limits::LEAF_STAY;
 
 // The entry at a place.
 pub fn entry_at(p: &[u8], i: usize) -> Entry
-    requires { ⌜ length (now p) ≡ 512 ⌝ }
-    requires { ⌜ i < 24 ⌝ }
+    requires { ⌜ length (now p) ≡ pageSize ⌝ }
+    requires { ⌜ i < leafMost ⌝ }
     ensures { λ r. ⌜ bookEntry r ≡ entryAt (now (p .entry)) i ⌝ }
 {
-    let key_at = 16 + 20 * i;
-    let now_at = key_at + 8;
+    let key_at = HEAD_SIZE + ENTRY_SIZE * i;
+    let now_at = key_at + KEY_SIZE;
     let before_at = now_at + 4;
     let owner_at = before_at + 4;
-    let key = Key(numbers::read_u64(p, key_at));
+    let key = Key::read(p, key_at);
     let now = numbers::read_u32(p, now_at);
     let before = numbers::read_u32(p, before_at);
     let owner = numbers::read_u16(p, owner_at);
@@ -40,17 +44,17 @@ pub fn entry_at(p: &[u8], i: usize) -> Entry
 
 // The key of the entry at a place.
 pub fn key_at(p: &[u8], i: usize) -> Key
-    requires { ⌜ length (now p) ≡ 512 ⌝ }
-    requires { ⌜ i < 24 ⌝ }
+    requires { ⌜ length (now p) ≡ pageSize ⌝ }
+    requires { ⌜ i < leafMost ⌝ }
     ensures { λ r. ⌜ r .0 ≡ entryAt (now (p .entry)) i .key ⌝ }
 {
-    Key(numbers::read_u64(p, 16 + 20 * i))
+    Key::read(p, HEAD_SIZE + ENTRY_SIZE * i)
 }
 
 // The place of the first entry at or above a key, or how many entries there are.
 pub fn first_at_or_above(p: &[u8], key: Key) -> usize
-    requires { ⌜ length (now p) ≡ 512 ⌝ }
-    requires { ⌜ countOf (now p) ≤ 24 ⌝ }
+    requires { ⌜ length (now p) ≡ pageSize ⌝ }
+    requires { ⌜ countOf (now p) ≤ leafMost ⌝ }
     ensures { λ r. ⌜ EntryPlace (now (p .entry)) (key .0) r ⌝ }
 {
     let n = head::count_of(p);
@@ -66,18 +70,18 @@ pub fn first_at_or_above(p: &[u8], key: Key) -> usize
 
 // Writes an entry at a place.
 pub fn put_entry(p: &mut [u8], i: usize, e: Entry)
-    requires { ⌜ length (now p) ≡ 512 ⌝ }
-    requires { ⌜ i < 24 ⌝ }
+    requires { ⌜ length (now p) ≡ pageSize ⌝ }
+    requires { ⌜ i < leafMost ⌝ }
     ensures { λ _. ⌜ now (p .exit) ≡ putEntry (now (p .entry)) i (bookEntry e) ⌝ }
     ensures { λ _. ⌜ EntryFits (bookEntry e) ⌝ }
 {
-    let key_at = 16 + 20 * i;
-    let now_at = key_at + 8;
+    let key_at = HEAD_SIZE + ENTRY_SIZE * i;
+    let now_at = key_at + KEY_SIZE;
     let before_at = now_at + 4;
     let owner_at = before_at + 4;
     let key = e.key;
     let row = pack(e);
-    numbers::write_u64(p, key_at, key.0);
+    key.write(p, key_at);
     numbers::write_u32(p, now_at, row.now);
     numbers::write_u32(p, before_at, row.before);
     numbers::write_u16(p, owner_at, e.owner);
@@ -86,56 +90,54 @@ pub fn put_entry(p: &mut [u8], i: usize, e: Entry)
 
 // Puts an entry in at a place. Those from there on move up by one.
 pub fn insert_entry(p: &mut [u8], i: usize, e: Entry)
-    requires { ⌜ length (now p) ≡ 512 ⌝ }
-    requires { ⌜ countOf (now p) ≤ 23 ⌝ }
+    requires { ⌜ length (now p) ≡ pageSize ⌝ }
+    requires { ⌜ countOf (now p) < leafMost ⌝ }
     requires { ⌜ i ≤ countOf (now p) ⌝ }
     ensures { λ _. ⌜ now (p .exit) ≡ entryPut (now (p .entry)) i (bookEntry e) ⌝ }
     ensures { λ _. ⌜ EntryFits (bookEntry e) ⌝ }
 {
     let n = head::count_of(p);
-    let at = 16 + 20 * i;
-    numbers::move_up(p, at, at + 20, 20 * (n - i));
+    numbers::rows::open_row(p, HEAD_SIZE, ENTRY_SIZE, i, n);
     put_entry(p, i, e);
     head::put_count(p, n + 1);
 }
 
 // Takes the entry at a place out. Those behind it move down by one, and the last one's bytes are zero.
 pub fn take_entry(p: &mut [u8], i: usize)
-    requires { ⌜ length (now p) ≡ 512 ⌝ }
-    requires { ⌜ countOf (now p) ≤ 24 ⌝ }
+    requires { ⌜ length (now p) ≡ pageSize ⌝ }
+    requires { ⌜ countOf (now p) ≤ leafMost ⌝ }
     requires { ⌜ i < countOf (now p) ⌝ }
     ensures { λ _. ⌜ now (p .exit) ≡ entryTaken (now (p .entry)) i ⌝ }
 {
-    let last = head::count_of(p) - 1;
-    let at = 16 + 20 * i;
-    numbers::move_down(p, at + 20, at, 20 * (last - i));
-    super::cut_rows(p, 20 * last, 20, last);
+    let n = head::count_of(p);
+    numbers::rows::close_row(p, HEAD_SIZE, ENTRY_SIZE, i, n);
+    head::put_count(p, n - 1);
 }
 
-// Puts an entry in at a place of a full leaf. The lowest 13 stay, the others go to a leaf that has none yet.
+// Puts an entry in at a place of a full leaf. The lowest LEAF_STAY stay, the others go to a leaf that has none yet.
 pub fn split_leaf(left: &mut [u8], right: &mut [u8], i: usize, e: Entry)
-    requires { ⌜ length (now left) ≡ 512 ⌝ }
-    requires { ⌜ length (now right) ≡ 512 ⌝ }
-    requires { ⌜ countOf (now left) ≡ 24 ⌝ }
+    requires { ⌜ length (now left) ≡ pageSize ⌝ }
+    requires { ⌜ length (now right) ≡ pageSize ⌝ }
+    requires { ⌜ countOf (now left) ≡ leafMost ⌝ }
     requires { ⌜ countOf (now right) ≡ 0 ⌝ }
-    requires { ⌜ i ≤ 24 ⌝ }
-    ensures { λ _. ⌜ Divided 20 13 asTheyAre (insertAt i (entryRow (bookEntry e)) (rowsOf 20 (now (left .entry)))) (now (left .entry)) (now (right .entry)) (now (left .exit)) (now (right .exit)) ⌝ }
+    requires { ⌜ i ≤ leafMost ⌝ }
+    ensures { λ _. ⌜ Divided entrySize leafStay asTheyAre (insertAt i (entryRow (bookEntry e)) (rowsOf entrySize (now (left .entry)))) (now (left .entry)) (now (right .entry)) (now (left .exit)) (now (right .exit)) ⌝ }
     ensures { λ _. ⌜ EntryFits (bookEntry e) ⌝ }
 {
-    if i < 13 {
-        super::part_rows(left, right, 240, 240, 12, 12);
+    if i < LEAF_STAY {
+        super::part_rows(left, right, ENTRY_SIZE, LEAF_STAY - 1, LEAF_GO);
         insert_entry(left, i, e);
         return;
     }
-    super::part_rows(left, right, 260, 220, 13, 11);
-    insert_entry(right, i - 13, e);
+    super::part_rows(left, right, ENTRY_SIZE, LEAF_STAY, LEAF_GO - 1);
+    insert_entry(right, i - LEAF_STAY, e);
 }
 
 // What a transaction that has ended leaves in a leaf: its own entries as they are then, without those left absent, and the others as
 // they are. The rows that are freed become zero.
 pub fn settle_leaf(p: &mut [u8], owner: u16, commits: bool)
-    requires { ⌜ length (now p) ≡ 512 ⌝ }
-    requires { ⌜ countOf (now p) ≤ 24 ⌝ }
+    requires { ⌜ length (now p) ≡ pageSize ⌝ }
+    requires { ⌜ countOf (now p) ≤ leafMost ⌝ }
     ensures { λ _. ⌜ now (p .exit) ≡ leafSettled commits owner (now (p .entry)) ⌝ }
 {
     let n = head::count_of(p);
@@ -145,27 +147,27 @@ pub fn settle_leaf(p: &mut [u8], owner: u16, commits: bool)
         j = settle_row(p, i, j, owner, commits);
         i += 1;
     }
-    super::cut_rows(p, 20 * j, 20 * (n - j), j);
+    super::keep_rows(p, ENTRY_SIZE, j, n);
 }
 
 // Puts what is left of the entry at i to place j, and gives the place behind it.
 fn settle_row(p: &mut [u8], i: usize, j: usize, owner: u16, commits: bool) -> usize
-    requires { ⌜ length (now p) ≡ 512 ⌝ }
-    requires { ⌜ i < 24 ⌝ }
+    requires { ⌜ length (now p) ≡ pageSize ⌝ }
+    requires { ⌜ i < leafMost ⌝ }
     requires { ⌜ j ≤ i ⌝ }
     ensures { λ r. ⌜ RowSettled commits owner i j (now (p .entry)) (now (p .exit)) r ⌝ }
 {
     if owner_at(p, i) == owner {
         return settle_own(p, i, j, owner, commits);
     }
-    move_row(p, i, j);
+    numbers::rows::move_row(p, HEAD_SIZE, ENTRY_SIZE, i, j);
     j + 1
 }
 
 // The same, where the entry is the owner's.
 fn settle_own(p: &mut [u8], i: usize, j: usize, owner: u16, commits: bool) -> usize
-    requires { ⌜ length (now p) ≡ 512 ⌝ }
-    requires { ⌜ i < 24 ⌝ }
+    requires { ⌜ length (now p) ≡ pageSize ⌝ }
+    requires { ⌜ i < leafMost ⌝ }
     requires { ⌜ j ≤ i ⌝ }
     requires { ⌜ entryAt (now p) i .owner ≡ owner ⌝ }
     ensures { λ r. ⌜ RowSettled commits owner i j (now (p .entry)) (now (p .exit)) r ⌝ }
@@ -190,24 +192,11 @@ pub fn settled(e: Entry, commits: bool) -> Entry
 
 // The owner of the entry at a place.
 fn owner_at(p: &[u8], i: usize) -> u16
-    requires { ⌜ length (now p) ≡ 512 ⌝ }
-    requires { ⌜ i < 24 ⌝ }
+    requires { ⌜ length (now p) ≡ pageSize ⌝ }
+    requires { ⌜ i < leafMost ⌝ }
     ensures { λ r. ⌜ r ≡ entryAt (now (p .entry)) i .owner ⌝ }
 {
-    numbers::read_u16(p, 16 + 20 * i + 8 + 4 + 4)
-}
-
-// Moves the bytes of the row at i down to place j.
-fn move_row(p: &mut [u8], i: usize, j: usize)
-    requires { ⌜ length (now p) ≡ 512 ⌝ }
-    requires { ⌜ i < 24 ⌝ }
-    requires { ⌜ j ≤ i ⌝ }
-    ensures { λ _. ⌜ now (p .exit) ≡ moved 20 (16 + 20 * i) (16 + 20 * j) (now (p .entry)) ⌝ }
-{
-    if i == j {
-        return;
-    }
-    numbers::move_down(p, 16 + 20 * i, 16 + 20 * j, 20);
+    numbers::read_u16(p, HEAD_SIZE + ENTRY_SIZE * i + KEY_SIZE + 4 + 4)
 }
 
 // A record that is there if its bit, the lowest, is set.

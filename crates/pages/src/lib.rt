@@ -1,14 +1,17 @@
-// One page: the 512 bytes that are lent to it. A head, then the entries of a leaf or the children of an inner page.
+// One page: the bytes that are lent to it. A head, then the entries of a leaf or the children of an inner page.
 // (Document 01, "Records and pages".)
 pub mod head;
 pub mod inner;
 pub mod leaf;
 
 ghost use mathlib.Core.Path.{_≡_};
-ghost use Prim.Native.Nat.{_+_, _≤_, _<_};
+ghost use Prim.Native.Nat.{_+_, _*_, _≤_, _<_};
 ghost use lib.ListN.{length};
-ghost use Rattle.numbers.specs.Numbers.{putNumber, zeroed};
+ghost use Rattle.limits.specs.Limits.{pageSize, headSize, bodySize};
+ghost use Rattle.numbers.specs.Numbers.{putNumber};
+ghost use Rattle.numbers.specs.Rows.{cut};
 ghost use Rattle.pages.specs.Steps.{Parted};
+use limits::HEAD_SIZE;
 
 // A child of an inner page: its separator and its page.
 pub struct Child {
@@ -16,27 +19,27 @@ pub struct Child {
     pub page: u16,
 }
 
-// The first rows of a page stay, and the others go to a page that has none. Those that stay take `from` bytes, those that go `n`;
-// `stay` and `go` say how many they are.
-fn part_rows(left: &mut [u8], right: &mut [u8], from: usize, n: usize, stay: usize, go: usize)
-    requires { ⌜ length (now left) ≡ 512 ⌝ }
-    requires { ⌜ length (now right) ≡ 512 ⌝ }
-    requires { ⌜ from + n ≤ 496 ⌝ }
+// The first rows of a page stay, and the others go to a page that has none: of rows of one width, `stay` and `go` of them.
+fn part_rows(left: &mut [u8], right: &mut [u8], width: usize, stay: usize, go: usize)
+    requires { ⌜ length (now left) ≡ pageSize ⌝ }
+    requires { ⌜ length (now right) ≡ pageSize ⌝ }
+    requires { ⌜ width * (stay + go) ≤ bodySize ⌝ }
     requires { ⌜ stay < 65536 ⌝ }
     requires { ⌜ go < 65536 ⌝ }
-    ensures { λ _. ⌜ Parted from n stay go (now (left .entry)) (now (right .entry)) (now (left .exit)) (now (right .exit)) ⌝ }
+    ensures { λ _. ⌜ Parted width stay go (now (left .entry)) (now (right .entry)) (now (left .exit)) (now (right .exit)) ⌝ }
 {
-    numbers::copy_bytes(right, 16, left, 16 + from, n);
+    numbers::rows::copy_rows(right, left, HEAD_SIZE, width, stay, go);
     head::put_count(right, go);
-    cut_rows(left, from, n, stay);
+    keep_rows(left, width, stay, stay + go);
 }
 
-// The n bytes behind `from` bytes of rows become zero, and the page then has `stay` rows.
-fn cut_rows(p: &mut [u8], from: usize, n: usize, stay: usize)
-    requires { ⌜ length (now p) ≡ 512 ⌝ }
-    requires { ⌜ from + n ≤ 496 ⌝ }
-    ensures { λ _. ⌜ now (p .exit) ≡ putNumber 2 (zeroed n (16 + from) (now (p .entry))) 4 stay ⌝ }
+// Of n rows of one width the first `stay` are kept. The others become zero, and the page then has `stay` rows.
+fn keep_rows(p: &mut [u8], width: usize, stay: usize, n: usize)
+    requires { ⌜ length (now p) ≡ pageSize ⌝ }
+    requires { ⌜ stay ≤ n ⌝ }
+    requires { ⌜ width * n ≤ bodySize ⌝ }
+    ensures { λ _. ⌜ now (p .exit) ≡ putNumber 2 (cut headSize width stay n (now (p .entry))) 4 stay ⌝ }
 {
-    numbers::zero_bytes(p, 16 + from, n);
+    numbers::rows::cut_rows(p, HEAD_SIZE, width, stay, n);
     head::put_count(p, stay);
 }

@@ -11,12 +11,13 @@ use native.Mathlib.Omega.{arith}
 use borrow.Author.Tests.{eqb-true, eqb-false, eq-eqb, ne-eqb, lt-ltb, le-ltb, not-true}
 use lib.Dec.{eqb, ltb}
 use lib.ListN.{length, getD, set}
-use Rattle.limits.specs.Limits.{transactionsMost, deskSize}
+use Rattle.limits.specs.Limits.{transactionsMost, deskHeadSize, deskSize}
 use Rattle.lists.specs.Lists.{all, any, keep, pairs, tab, removeAt}
 use Rattle.lists.proofs.Tests.{and-left, and-right, all-at, all-each, keep-all, not-any}
 use Rattle.lists.proofs.Tables.{length-tab, getD-tab, tab-remove}
 use Rattle.lists.proofs.Scans.{place-any, place-passes}
 use Rattle.numbers.specs.Numbers.{numberAt, putNumber, fieldsAt, moved, zeroed}
+use Rattle.numbers.specs.Rows as R
 use Rattle.numbers.proofs.Agree.{Touches, agree-within, touches-wider, touches-then}
 use Rattle.numbers.proofs.Numbers.{numberAt-ext, number-same, touches-putNumber}
 use Rattle.numbers.proofs.Moves.{touches-copied, agree-copied, touches-zeroed, agree-zeroed}
@@ -75,6 +76,14 @@ module _ (d : List ℕ) (t : ℕ) (a : Ask ℕ ℕ) (size : length d ≡ deskSiz
   length-joined = touches-joined .len ∙ touches-asked .len
 
 -- ---- a request leaves
+-- its record cleared, its place closed among all, and the count
+pub queue-closed : (d d₁ d₂ d₃ : List ℕ) (q n t : ℕ) → n ≡ queued d → t ≡ inPlace d q → d₁ ≡ putAsk d t (0 ∷ 0 ∷ 0 ∷ 0 ∷ [])
+    → d₂ ≡ R.closed deskHeadSize 2 q transactionsMost d₁ → d₃ ≡ putNumber 2 d₂ 4 (n - 1) → d₃ ≡ queueLeft d q
+unfolding queueLeft
+queue-closed d d₁ d₂ d₃ q n t a b c e f =
+    let k : queuePlace q + 2 ≡ queuePlace (q + 1) = omega arith in
+    rw (f, e, c, b, a, k)
+
 -- where askers differ throughout, leaving out one place leaves out its asker
 module _ (P : Paging ℕ) where
   abbrev apart : Queued ℕ ℕ → Queued ℕ ℕ → Bool

@@ -13,7 +13,7 @@ use Rattle.limits.specs.Limits.{locksMost, slotSize, slotsPlace, deskSize}
 use Rattle.lists.proofs.Tables.{length-tab, getD-tab, tab-set}
 use Rattle.numbers.specs.Numbers.{widthOf, Fits}
 use Rattle.numbers.proofs.Fields.{fields-same, fields-other}
-use Rattle.numbers.proofs.Rows.{rows-distinct}
+use Rattle.numbers.proofs.Tables.{rows-distinct}
 use Rattle.rules.specs.Kinds.{Mode, S, X, Lock}
 use Rattle.tables.specs.Layout.{lockWidths, lockPlace, nameIn, modeNumber, slotIn, slotFields, slotAt, putSlot, slotsOf}
 use Rattle.tables.proofs.Values.{name-back}

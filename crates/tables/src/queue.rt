@@ -93,12 +93,6 @@ pub fn leave_queue(d: &mut [u8], q: usize)
     let n = queued(d);
     let t = in_place(d, q);
     transactions::clear_ask(d, t);
-    numbers::move_down(
-        d,
-        PLACES + 2 * (q + 1),
-        PLACES + 2 * q,
-        2 * (TRANSACTIONS - 1 - q),
-    );
-    numbers::zero_bytes(d, PLACES + 2 * (TRANSACTIONS - 1), 2);
+    numbers::rows::close_row(d, PLACES, 2, q, TRANSACTIONS);
     numbers::write_u16(d, COUNT, (n - 1) as u16);
 }

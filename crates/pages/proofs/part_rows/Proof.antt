@@ -5,17 +5,17 @@ use Rattle.pages.proofs.Divisions.{parted}
 use Rattle.pages.proofs.part_rows.Statement.{statement}
 use Rattle.pages.proofs.part_rows.Tie as tie
 
-add-copy-bytes : tie.Need-add-copy-bytes
-add-copy-bytes c = search needs
-
-copy-bytes-requires : tie.Need-copy-bytes-requires
-copy-bytes-requires c κs = search needs
+copy-rows-requires : tie.Need-copy-rows-requires
+copy-rows-requires c κs = search needs
 
 put-count-requires : tie.Need-put-count-requires
 put-count-requires c κs = search needs
 
-cut-rows-requires : tie.Need-cut-rows-requires
-cut-rows-requires c κs = search needs
+add-keep-rows : tie.Need-add-keep-rows
+add-keep-rows c = search needs
+
+keep-rows-requires : tie.Need-keep-rows-requires
+keep-rows-requires c κs = search needs
 
 same-length : tie.Need-same-length
 same-length c = search needs
@@ -30,10 +30,10 @@ pub part-rows-spec : {M : Type 1} → statement M
 part-rows-spec =
     tie.close
     (tie.spec
-    add-copy-bytes
-    copy-bytes-requires
+    copy-rows-requires
     put-count-requires
-    cut-rows-requires
+    add-keep-rows
+    keep-rows-requires
     same-length
     same-length-2
     returns)

@@ -6,9 +6,6 @@ use Rattle.pages.specs.Layout.{putHead}
 use Rattle.pages.proofs.head.put_head.Statement.{statement}
 use Rattle.pages.proofs.head.put_head.Tie as tie
 
-write-u16-requires : tie.Need-write-u16-requires
-write-u16-requires c κs = search needs
-
 put-number-requires : tie.Need-put-number-requires
 put-number-requires c κs = search needs
 
@@ -17,6 +14,9 @@ put-number-requires-2 c κs = search needs
 
 put-number-requires-3 : tie.Need-put-number-requires-3
 put-number-requires-3 c κs = search needs
+
+put-number-requires-4 : tie.Need-put-number-requires-4
+put-number-requires-4 c κs = search needs
 
 write-u64-requires : tie.Need-write-u64-requires
 write-u64-requires c κs = search needs
@@ -32,10 +32,10 @@ pub put-head-spec : {M : Type 1} → statement M
 put-head-spec =
     tie.close
     (tie.spec
-    write-u16-requires
     put-number-requires
     put-number-requires-2
     put-number-requires-3
+    put-number-requires-4
     write-u64-requires
     same-length
     returns)

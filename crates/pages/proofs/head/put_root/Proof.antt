@@ -9,8 +9,14 @@ use Rattle.pages.proofs.head.put_root.Tie as tie
 put-number-requires : tie.Need-put-number-requires
 put-number-requires c κs = search needs
 
+add-put-number : tie.Need-add-put-number
+add-put-number c = search needs
+
 put-number-requires-2 : tie.Need-put-number-requires-2
 put-number-requires-2 c κs = search needs
+
+add-put-number-2 : tie.Need-add-put-number-2
+add-put-number-2 c = search needs
 
 put-number-requires-3 : tie.Need-put-number-requires-3
 put-number-requires-3 c κs = search needs
@@ -25,4 +31,11 @@ returns c = cc
 pub put-root-spec : {M : Type 1} → statement M
 put-root-spec =
     tie.close
-    (tie.spec put-number-requires put-number-requires-2 put-number-requires-3 same-length returns)
+    (tie.spec
+    put-number-requires
+    add-put-number
+    put-number-requires-2
+    add-put-number-2
+    put-number-requires-3
+    same-length
+    returns)

@@ -1,8 +1,7 @@
 -- `pages::inner::child_at` meets its contract: the fields are read in their order.
 -- Assumes nothing.
 use borrow.Author.Needs.{needs}
-use Rattle.numbers.specs.Numbers.{fieldsAt}
-use Rattle.pages.specs.Layout.{childIn, childAt}
+use Rattle.pages.proofs.Children.{child-read}
 use Rattle.pages.proofs.inner.child_at.Statement.{statement}
 use Rattle.pages.proofs.inner.child_at.Tie as tie
 
@@ -12,8 +11,8 @@ mul-at c = search needs
 add-at : tie.Need-add-at
 add-at c = search needs
 
-read-u64-requires : tie.Need-read-u64-requires
-read-u64-requires c κs = search needs
+read-requires : tie.Need-read-requires
+read-requires c κs = search needs
 
 add-read-u16 : tie.Need-add-read-u16
 add-read-u16 c = search needs
@@ -22,9 +21,8 @@ read-u16-requires : tie.Need-read-u16-requires
 read-u16-requires c κs = search needs
 
 returns : tie.Need-returns
-unfolding childAt childIn fieldsAt
-returns c = cc
+returns c = search (needs, child-read)
 
 pub child-at-spec : {M : Type 1} → statement M
 child-at-spec =
-    tie.close (tie.spec mul-at add-at read-u64-requires add-read-u16 read-u16-requires returns)
+    tie.close (tie.spec mul-at add-at read-requires add-read-u16 read-u16-requires returns)

@@ -8,23 +8,8 @@ use Rattle.pages.proofs.inner.insert_child.Tie as tie
 count-of-requires : tie.Need-count-of-requires
 count-of-requires c κs = search needs
 
-mul-at : tie.Need-mul-at
-mul-at c = search needs
-
-add-at : tie.Need-add-at
-add-at c = search needs
-
-add-move-up : tie.Need-add-move-up
-add-move-up c = search needs
-
-sub-move-up : tie.Need-sub-move-up
-sub-move-up c = search needs
-
-mul-move-up : tie.Need-mul-move-up
-mul-move-up c = search needs
-
-move-up-requires : tie.Need-move-up-requires
-move-up-requires c κs = search needs
+open-row-requires : tie.Need-open-row-requires
+open-row-requires c κs = search needs
 
 put-child-requires : tie.Need-put-child-requires
 put-child-requires c κs = search needs
@@ -46,12 +31,7 @@ insert-child-spec =
     tie.close
     (tie.spec
     count-of-requires
-    mul-at
-    add-at
-    add-move-up
-    sub-move-up
-    mul-move-up
-    move-up-requires
+    open-row-requires
     put-child-requires
     add-put-count
     put-count-requires

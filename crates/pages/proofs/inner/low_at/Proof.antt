@@ -6,18 +6,18 @@ use Rattle.pages.specs.Layout.{childIn, childAt}
 use Rattle.pages.proofs.inner.low_at.Statement.{statement}
 use Rattle.pages.proofs.inner.low_at.Tie as tie
 
-mul-read-u64 : tie.Need-mul-read-u64
-mul-read-u64 c = search needs
+mul-read : tie.Need-mul-read
+mul-read c = search needs
 
-add-read-u64 : tie.Need-add-read-u64
-add-read-u64 c = search needs
+add-read : tie.Need-add-read
+add-read c = search needs
 
-read-u64-requires : tie.Need-read-u64-requires
-read-u64-requires c κs = search needs
+read-requires : tie.Need-read-requires
+read-requires c κs = search needs
 
 returns : tie.Need-returns
 unfolding childAt childIn fieldsAt
 returns c = search needs
 
 pub low-at-spec : {M : Type 1} → statement M
-low-at-spec = tie.close (tie.spec mul-read-u64 add-read-u64 read-u64-requires returns)
+low-at-spec = tie.close (tie.spec mul-read add-read read-requires returns)

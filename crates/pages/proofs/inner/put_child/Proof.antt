@@ -18,8 +18,8 @@ add-page-at c = search needs
 add-rest-at : tie.Need-add-rest-at
 add-rest-at c = search needs
 
-write-u64-requires : tie.Need-write-u64-requires
-write-u64-requires c κs = search needs
+write-requires : tie.Need-write-requires
+write-requires c κs = search needs
 
 write-u16-requires : tie.Need-write-u16-requires
 write-u16-requires c κs = search needs
@@ -48,7 +48,7 @@ put-child-spec =
     add-low-at
     add-page-at
     add-rest-at
-    write-u64-requires
+    write-requires
     write-u16-requires
     write-u16-requires-2
     add-write-u32

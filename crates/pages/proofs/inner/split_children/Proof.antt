@@ -5,6 +5,9 @@ use Rattle.pages.proofs.Changes.{children-low, low-low, children-high, 
 use Rattle.pages.proofs.inner.split_children.Statement.{statement}
 use Rattle.pages.proofs.inner.split_children.Tie as tie
 
+sub-part-rows : tie.Need-sub-part-rows
+sub-part-rows c = search needs
+
 part-rows-requires : tie.Need-part-rows-requires
 part-rows-requires c κs = search needs
 
@@ -22,6 +25,9 @@ same-length-2 c = search needs
 
 returns : tie.Need-returns
 returns c = (search (needs, children-low), search (needs, low-low))
+
+sub-part-rows-2 : tie.Need-sub-part-rows-2
+sub-part-rows-2 c = search needs
 
 part-rows-requires-2 : tie.Need-part-rows-requires-2
 part-rows-requires-2 c κs = search needs
@@ -45,12 +51,14 @@ pub split-children-spec : {M : Type 1} → statement M
 split-children-spec =
     tie.close
     (tie.spec
+    sub-part-rows
     part-rows-requires
     insert-child-requires
     take-first-low-requires
     same-length
     same-length-2
     returns
+    sub-part-rows-2
     part-rows-requires-2
     insert-child-requires-2
     take-first-low-requires-2

@@ -21,8 +21,8 @@ add-before-at c = search needs
 add-owner-at : tie.Need-add-owner-at
 add-owner-at c = search needs
 
-read-u64-requires : tie.Need-read-u64-requires
-read-u64-requires c κs = search needs
+read-requires : tie.Need-read-requires
+read-requires c κs = search needs
 
 read-u32-requires : tie.Need-read-u32-requires
 read-u32-requires c κs = search needs
@@ -58,7 +58,7 @@ entry-at-spec =
     add-now-at
     add-before-at
     add-owner-at
-    read-u64-requires
+    read-requires
     read-u32-requires
     read-u32-requires-2
     read-u16-requires

@@ -24,8 +24,8 @@ add-owner-at c = search needs
 pack-requires : tie.Need-pack-requires
 pack-requires c κs = search needs
 
-write-u64-requires : tie.Need-write-u64-requires
-write-u64-requires c κs = search needs
+write-requires : tie.Need-write-requires
+write-requires c κs = search needs
 
 write-u32-requires : tie.Need-write-u32-requires
 write-u32-requires c κs = search needs
@@ -59,7 +59,7 @@ put-entry-spec =
     add-before-at
     add-owner-at
     pack-requires
-    write-u64-requires
+    write-requires
     write-u32-requires
     write-u32-requires-2
     write-u16-requires

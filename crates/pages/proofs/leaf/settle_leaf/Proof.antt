@@ -4,12 +4,13 @@ use borrow.Author.Needs.{needs}
 use mathlib.Core.Path.{_≡_}
 use Prim.Native.Nat.{_-_, _≤_}
 use lib.ListN.{length}
+use Rattle.limits.specs.Limits.{pageSize}
 use Rattle.pages.proofs.Settling.{SettledTo, settled-none, settled-turn, settled-all}
 use Rattle.pages.proofs.leaf.settle_leaf.Statement.{statement}
 use Rattle.pages.proofs.leaf.settle_leaf.Tie as tie
 
 abbrev Inv-loop : tie.InvT-loop
-Inv-loop p₀ owner commits n i₀ j₀ p i j = (i ≤ n) × ((j ≤ i) × ((length p ≡ 512) × SettledTo commits owner p₀ i p j))
+Inv-loop p₀ owner commits n i₀ j₀ p i j = (i ≤ n) × ((j ≤ i) × ((length p ≡ pageSize) × SettledTo commits owner p₀ i p j))
 
 abbrev μ-loop : tie.MeasureT-loop
 μ-loop p₀ owner commits n i₀ j₀ p i j = n - i
@@ -32,17 +33,8 @@ loop-less c = search needs
 loop-again : tie.Need-loop-again Inv-loop μ-loop
 loop-again c = (search needs, (search needs, (search needs, search (needs, settled-turn))))
 
-mul-cut-rows : tie.Need-mul-cut-rows Inv-loop μ-loop
-mul-cut-rows c = search needs
-
-sub-cut-rows : tie.Need-sub-cut-rows Inv-loop μ-loop
-sub-cut-rows c = search needs
-
-mul-cut-rows-2 : tie.Need-mul-cut-rows-2 Inv-loop μ-loop
-mul-cut-rows-2 c = search needs
-
-cut-rows-requires : tie.Need-cut-rows-requires Inv-loop μ-loop
-cut-rows-requires c κs = search needs
+keep-rows-requires : tie.Need-keep-rows-requires Inv-loop μ-loop
+keep-rows-requires c κs = search needs
 
 same-length : tie.Need-same-length Inv-loop μ-loop
 same-length c = search needs
@@ -62,9 +54,6 @@ settle-leaf-spec =
     add-i
     loop-less
     loop-again
-    mul-cut-rows
-    sub-cut-rows
-    mul-cut-rows-2
-    cut-rows-requires
+    keep-rows-requires
     same-length
     returns)

@@ -5,6 +5,9 @@ use Rattle.pages.proofs.Changes.{leaf-low, leaf-high}
 use Rattle.pages.proofs.leaf.split_leaf.Statement.{statement}
 use Rattle.pages.proofs.leaf.split_leaf.Tie as tie
 
+sub-part-rows : tie.Need-sub-part-rows
+sub-part-rows c = search needs
+
 part-rows-requires : tie.Need-part-rows-requires
 part-rows-requires c κs = search needs
 
@@ -19,6 +22,9 @@ same-length-2 c = search needs
 
 returns : tie.Need-returns
 returns c = (search (needs, leaf-low), search needs)
+
+sub-part-rows-2 : tie.Need-sub-part-rows-2
+sub-part-rows-2 c = search needs
 
 part-rows-requires-2 : tie.Need-part-rows-requires-2
 part-rows-requires-2 c κs = search needs
@@ -39,11 +45,13 @@ pub split-leaf-spec : {M : Type 1} → statement M
 split-leaf-spec =
     tie.close
     (tie.spec
+    sub-part-rows
     part-rows-requires
     insert-entry-requires
     same-length
     same-length-2
     returns
+    sub-part-rows-2
     part-rows-requires-2
     insert-entry-requires-2
     same-length-3

@@ -8,32 +8,14 @@ use Rattle.pages.proofs.leaf.take_entry.Tie as tie
 count-of-requires : tie.Need-count-of-requires
 count-of-requires c κs = search needs
 
-sub-last : tie.Need-sub-last
-sub-last c = search needs
+close-row-requires : tie.Need-close-row-requires
+close-row-requires c κs = search needs
 
-mul-at : tie.Need-mul-at
-mul-at c = search needs
+sub-put-count : tie.Need-sub-put-count
+sub-put-count c = search needs
 
-add-at : tie.Need-add-at
-add-at c = search needs
-
-add-move-down : tie.Need-add-move-down
-add-move-down c = search needs
-
-sub-move-down : tie.Need-sub-move-down
-sub-move-down c = search needs
-
-mul-move-down : tie.Need-mul-move-down
-mul-move-down c = search needs
-
-move-down-requires : tie.Need-move-down-requires
-move-down-requires c κs = search needs
-
-mul-cut-rows : tie.Need-mul-cut-rows
-mul-cut-rows c = search needs
-
-cut-rows-requires : tie.Need-cut-rows-requires
-cut-rows-requires c κs = search needs
+put-count-requires : tie.Need-put-count-requires
+put-count-requires c κs = search needs
 
 same-length : tie.Need-same-length
 same-length c = search needs
@@ -46,14 +28,8 @@ take-entry-spec =
     tie.close
     (tie.spec
     count-of-requires
-    sub-last
-    mul-at
-    add-at
-    add-move-down
-    sub-move-down
-    mul-move-down
-    move-down-requires
-    mul-cut-rows
-    cut-rows-requires
+    close-row-requires
+    sub-put-count
+    put-count-requires
     same-length
     returns)
