@@ -18,13 +18,13 @@ use Rattle.entries.specs.Records.{answerWidths, answerFields, putAnswer}
 -- ---- six numbers written one after the other are the record
 pub answer-written : (s t₁ t₂ t₃ t₄ t₅ t₆ : List ℕ) (at : ℕ) (a : Answer) (p : Paper) → OnPaper (R.paper (bookSays (a .says))) p
     → t₁ ≡ putNumber 2 s at answerSize → t₂ ≡ putNumber 2 t₁ (at + 2) 7 → t₃ ≡ putNumber 2 t₂ (at + 4) (a .asker) → t₄ ≡ putNumber 2 t₃ (at + 6) (p .number)
-    → t₅ ≡ putNumber 8 t₄ (at + 8) (p .key .0) → t₆ ≡ putNumber 4 t₅ (at + (8 + keySize)) (p .rec) → t₆ ≡ putAnswer s at (bookAnswer a)
+    → t₅ ≡ putNumber keySize t₄ (at + 8) (p .key .0) → t₆ ≡ putNumber 4 t₅ (at + (8 + keySize)) (p .rec) → t₆ ≡ putAnswer s at (bookAnswer a)
 unfolding putAnswer answerFields putFields
 answer-written s t₁ t₂ t₃ t₄ t₅ t₆ at a p o e₁ e₂ e₃ e₄ e₅ e₆ =
     let q₃ : at + 2 + 2 ≡ at + 4 = omega arith in
     let q₄ : at + 4 + 2 ≡ at + 6 = omega arith in
     let q₅ : at + 6 + 2 ≡ at + 8 = omega arith in
-    let q₆ : at + 8 + 8 ≡ at + (8 + keySize) = omega arith in
+    let q₆ : at + 8 + keySize ≡ at + (8 + keySize) = omega arith in
     rw (q₃, q₄, q₅, q₆, ← (o .number), ← (o .key), ← (o .rec), ← e₁, ← e₂, ← e₃, ← e₄, ← e₅) e₆
 
 -- ---- what is written

@@ -8,7 +8,7 @@ use mathlib.Core.List.{List}
 use mathlib.Core.Option.{none, some, Option·none-ne-some, Option·some-injective}
 use lib.Dec.{leb, ltb}
 use borrow.Author.Tests.{ltb-true, leb-true, lt-leb, not-false}
-use Rattle.limits.specs.Limits.{transactionsMost}
+use Rattle.limits.specs.Limits.{transactionsMost, keySize}
 use Rattle.lists.proofs.Tests.{and-left, and-right, either, or-left, or-right, neither}
 use Rattle.numbers.specs.Numbers.{numberAt, fieldsAt, Bytes}
 use Rattle.numbers.proofs.Numbers.{number-below}
@@ -83,23 +83,23 @@ module _ (s : List ℕ) where
       let t = isTransaction (document endless) (callIn s .asker) in
       ap (λ b. not (t && b)) (ap (legalRequest (document endless)) (sym (asked n s (kindIn s) refl k)) ∙ e) ∙ ap not (and-false t)
 
-  pub end-lo-illegal : kindIn s ≡ 4 → numberAt 8 s firstPlace ≡ endMark → illegal s ≡ true
+  pub end-lo-illegal : kindIn s ≡ 4 → numberAt keySize s firstPlace ≡ endMark → illegal s ≡ true
   unfolding legalRequest legalAsk requests forms fieldsAt
   end-lo-illegal k e = by-kind 4 k (rw e)
 
-  pub end-hi-illegal : kindIn s ≡ 4 → numberAt 8 s secondPlace ≡ endMark → illegal s ≡ true
+  pub end-hi-illegal : kindIn s ≡ 4 → numberAt keySize s secondPlace ≡ endMark → illegal s ≡ true
   unfolding legalRequest legalAsk requests forms fieldsAt
   end-hi-illegal k e = by-kind 4 k (rw (e, and-false))
 
-  pub lo-above-hi-illegal : kindIn s ≡ 4 → numberAt 8 s secondPlace < numberAt 8 s firstPlace → illegal s ≡ true
+  pub lo-above-hi-illegal : kindIn s ≡ 4 → numberAt keySize s secondPlace < numberAt keySize s firstPlace → illegal s ≡ true
   unfolding legalRequest legalAsk requests forms fieldsAt
-  lo-above-hi-illegal k h = by-kind 4 k (rw (lt-leb (numberAt 8 s firstPlace) (numberAt 8 s secondPlace) h, and-false))
+  lo-above-hi-illegal k h = by-kind 4 k (rw (lt-leb (numberAt keySize s firstPlace) (numberAt keySize s secondPlace) h, and-false))
 
-  pub end-insert-illegal : kindIn s ≡ 5 → numberAt 8 s firstPlace ≡ endMark → illegal s ≡ true
+  pub end-insert-illegal : kindIn s ≡ 5 → numberAt keySize s firstPlace ≡ endMark → illegal s ≡ true
   unfolding legalRequest legalAsk requests forms fieldsAt
   end-insert-illegal k e = by-kind 5 k (rw e)
 
-  pub end-delete-illegal : kindIn s ≡ 6 → numberAt 8 s firstPlace ≡ endMark → illegal s ≡ true
+  pub end-delete-illegal : kindIn s ≡ 6 → numberAt keySize s firstPlace ≡ endMark → illegal s ≡ true
   unfolding legalRequest legalAsk requests forms fieldsAt
   end-delete-illegal k e = by-kind 6 k (rw e)
 
@@ -151,10 +151,10 @@ request-fits s f =
     (λ h. (ltb-true lo endMark h, number-below 4 s secondPlace f)) (λ h. ltb-true lo endMark h)
   where
     lo : ℕ
-    lo = numberAt 8 s firstPlace
+    lo = numberAt keySize s firstPlace
 
     hi : ℕ
-    hi = numberAt 8 s secondPlace
+    hi = numberAt keySize s secondPlace
 
 good-fits : (s : List ℕ) → Bytes s → isBad s ≡ false → CallFits (callIn s)
 unfolding isBad

@@ -9,7 +9,7 @@ use native.Mathlib.Omega.{arith}
 use lib.Dec.{eqb, leb}
 use lib.ListN.{length, getD, List·getD-map}
 use borrow.Author.Tests.{lt-ltb, le-ltb, ltb-false, eqb-true, leb-true, not-false}
-use Rattle.limits.specs.Limits.{requestHeadSize, readSize, insertSize, deleteSize}
+use Rattle.limits.specs.Limits.{keySize, requestHeadSize, readSize, insertSize, deleteSize}
 use Rattle.lists.proofs.Tests.{and-right, neither}
 use Rattle.numbers.specs.Numbers.{numberAt, widthOf, fieldsAt}
 use Rattle.rules.specs.Kinds as K
@@ -26,8 +26,8 @@ by-kind : (k : ℕ) → getD (0 ∷ requestHeadSize ∷ requestHeadSize ∷ requ
 unfolding forms widthOf
 by-kind k = List·getD-map widthOf forms k []
 
-pub misshapen-short : (s : List ℕ) → length s < 8 → true ≡ misshapen s
-misshapen-short s h = rw (lt-ltb (length s) 8 h)
+pub misshapen-short : (s : List ℕ) → length s < requestHeadSize → true ≡ misshapen s
+misshapen-short s h = rw (lt-ltb (length s) requestHeadSize h)
 
 pub misshapen-kind : (s : List ℕ) (k : ℕ) → k ≡ kindIn s → not (leb 1 k && leb k 6) ≡ true → true ≡ misshapen s
 misshapen-kind s k e h =
@@ -37,11 +37,11 @@ misshapen-kind s k e h =
 pub known-below : (k : ℕ) → not (leb 1 k && leb k 6) ≡ false → k < 7
 known-below k h = omega (arith, leb-true k 6 (and-right (leb 1 k) (leb k 6) (not-false (leb 1 k && leb k 6) h)))
 
-pub misshapen-length : (s : List ℕ) (k n : ℕ) → 8 ≤ length s → k ≡ kindIn s → not (leb 1 k && leb k 6) ≡ false → n ≡ numberAt 2 s 0
+pub misshapen-length : (s : List ℕ) (k n : ℕ) → requestHeadSize ≤ length s → k ≡ kindIn s → not (leb 1 k && leb k 6) ≡ false → n ≡ numberAt 2 s 0
     → (not (eqb n (length s)) || not (eqb n (getD (0 ∷ requestHeadSize ∷ requestHeadSize ∷ requestHeadSize ∷ readSize ∷ insertSize ∷ deleteSize ∷ []) k 0))) ≡ misshapen s
 misshapen-length s k n l e h q =
     let u : unknownKind s ≡ false = rw e at h in
-    let p : short s ≡ false = le-ltb (length s) 8 l in
+    let p : short s ≡ false = le-ltb (length s) requestHeadSize l in
     rw (by-kind k, e, q, p, u) (sym (or-false (unlikeSlice s || unlikeKind s)))
 
 -- ---- a record of a kind that there is
@@ -51,7 +51,7 @@ shaped s b e f =
     let three = neither (short s || unlikeSlice s) (unlikeKind s) (all .0) in
     let two = neither (short s) (unlikeSlice s) (three .0) in
     record {
-      head = ltb-false (length s) 8 (two .0);
+      head = ltb-false (length s) requestHeadSize (two .0);
       slice = same (numberAt 2 s 0) (length s) (two .1);
       kind = same (numberAt 2 s 0) (widthOf (formOf (kindIn s))) (three .1);
       known = not-false (leb 1 (kindIn s) && leb (kindIn s) 6) (all .1);
@@ -103,12 +103,12 @@ pub asked : (n : ℕ) (s : List ℕ) (k : ℕ) → k ≡ kindIn s → k ≡ n �
 unfolding callIn
 asked n s k e f = rw (sym f ∙ e)
 
-pub asked-read : (s : List ℕ) (k : ℕ) (a : Ask) → k ≡ kindIn s → k ≡ 4 → bookAsk a ≡ K.read (numberAt 8 s firstPlace) (numberAt 8 s secondPlace)
+pub asked-read : (s : List ℕ) (k : ℕ) (a : Ask) → k ≡ kindIn s → k ≡ 4 → bookAsk a ≡ K.read (numberAt keySize s firstPlace) (numberAt keySize s secondPlace)
     → K.ask (bookAsk a) ≡ callIn s .request
 unfolding requests forms fieldsAt
 asked-read s k a e f p = ap K.ask p ∙ asked 4 s k e f
 
-pub asked-insert : (s : List ℕ) (k : ℕ) (a : Ask) → k ≡ kindIn s → k ≡ 5 → bookAsk a ≡ K.insert (numberAt 8 s firstPlace) (numberAt 4 s secondPlace)
+pub asked-insert : (s : List ℕ) (k : ℕ) (a : Ask) → k ≡ kindIn s → k ≡ 5 → bookAsk a ≡ K.insert (numberAt keySize s firstPlace) (numberAt 4 s secondPlace)
     → K.ask (bookAsk a) ≡ callIn s .request
 unfolding requests forms fieldsAt
 asked-insert s k a e f p = ap K.ask p ∙ asked 5 s k e f
@@ -117,12 +117,12 @@ last-kind : (s : List ℕ) (k : ℕ) → Shaped s → k ≡ kindIn s → (k ≡ 
 last-kind s k h e f₁ f₂ f₃ f₄ f₅ =
     each-kind (λ n. k ≡ n → k ≡ 6) (λ q. absurd (f₁ q)) (λ q. absurd (f₂ q)) (λ q. absurd (f₃ q)) (λ q. absurd (f₄ q)) (λ q. absurd (f₅ q)) (λ q. q) (kindIn s) (h .known) e
 
-pub room-delete : (s : List ℕ) (k : ℕ) → Shaped s → k ≡ kindIn s → (k ≡ 1 → ⊥) → (k ≡ 2 → ⊥) → (k ≡ 3 → ⊥) → (k ≡ 4 → ⊥) → (k ≡ 5 → ⊥) → 16 ≤ length s
+pub room-delete : (s : List ℕ) (k : ℕ) → Shaped s → k ≡ kindIn s → (k ≡ 1 → ⊥) → (k ≡ 2 → ⊥) → (k ≡ 3 → ⊥) → (k ≡ 4 → ⊥) → (k ≡ 5 → ⊥) → deleteSize ≤ length s
 unfolding forms widthOf
 room-delete s k h e f₁ f₂ f₃ f₄ f₅ = room 6 s k h e (last-kind s k h e f₁ f₂ f₃ f₄ f₅)
 
 pub asked-delete : (s : List ℕ) (k : ℕ) (a : Ask) → Shaped s → k ≡ kindIn s → (k ≡ 1 → ⊥) → (k ≡ 2 → ⊥) → (k ≡ 3 → ⊥) → (k ≡ 4 → ⊥) → (k ≡ 5 → ⊥)
-    → bookAsk a ≡ K.delete (numberAt 8 s firstPlace) → K.ask (bookAsk a) ≡ callIn s .request
+    → bookAsk a ≡ K.delete (numberAt keySize s firstPlace) → K.ask (bookAsk a) ≡ callIn s .request
 unfolding requests forms fieldsAt
 asked-delete s k a h e f₁ f₂ f₃ f₄ f₅ p = ap K.ask p ∙ asked 6 s k e (last-kind s k h e f₁ f₂ f₃ f₄ f₅)
 

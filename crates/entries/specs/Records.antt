@@ -21,9 +21,9 @@ forms =
     ∷ (2 ∷ 2 ∷ 2 ∷ 2 ∷ [])
     ∷ (2 ∷ 2 ∷ 2 ∷ 2 ∷ [])
     ∷ (2 ∷ 2 ∷ 2 ∷ 2 ∷ [])
-    ∷ (2 ∷ 2 ∷ 2 ∷ 2 ∷ 8 ∷ 8 ∷ [])
-    ∷ (2 ∷ 2 ∷ 2 ∷ 2 ∷ 8 ∷ 4 ∷ 4 ∷ [])
-    ∷ (2 ∷ 2 ∷ 2 ∷ 2 ∷ 8 ∷ [])
+    ∷ (2 ∷ 2 ∷ 2 ∷ 2 ∷ keySize ∷ keySize ∷ [])
+    ∷ (2 ∷ 2 ∷ 2 ∷ 2 ∷ keySize ∷ 4 ∷ 4 ∷ [])
+    ∷ (2 ∷ 2 ∷ 2 ∷ 2 ∷ keySize ∷ [])
     ∷ []
 
 -- where the fields behind the head stand: the key, or lo; then hi, or the record; then the filler of an insert
@@ -59,7 +59,7 @@ callIn s =
 -- "Number 12 is given for a slice under 8 bytes, a length unlike slice or kind, an unknown kind, nonzero filler, a transaction outside
 -- 1..16, the end as key, lo or hi, or lo above hi."
 abbrev pub short : List ℕ → Bool
-short s = ltb (length s) 8
+short s = ltb (length s) requestHeadSize
 
 abbrev pub unlikeSlice : List ℕ → Bool
 unlikeSlice s = not (eqb (numberAt 2 s 0) (length s))
@@ -82,7 +82,7 @@ misshapen s = ((short s || unlikeSlice s) || unlikeKind s) || unknownKind s
 
 -- one that is not misshapen: it has a head, its length is that of the slice and of its kind, and its kind is one of the six
 pub record Shaped (s : List ℕ) : Type 0 where
-  pub head : 8 ≤ length s
+  pub head : requestHeadSize ≤ length s
   pub slice : numberAt 2 s 0 ≡ length s
   pub kind : numberAt 2 s 0 ≡ widthOf (formOf (kindIn s))
   pub known : (leb 1 (kindIn s) && leb (kindIn s) 6) ≡ true
@@ -96,7 +96,7 @@ heard s = cond (isBad s) none (some (callIn s))
 
 -- "Answer: length 20, kind 7, transaction, number, key, record; key and record are zero except in 1 and 16."
 abbrev pub answerWidths : List ℕ
-answerWidths = 2 ∷ 2 ∷ 2 ∷ 2 ∷ 8 ∷ 4 ∷ []
+answerWidths = 2 ∷ 2 ∷ 2 ∷ 2 ∷ keySize ∷ 4 ∷ []
 
 abbrev pub orZero : Option ℕ → ℕ
 orZero none = 0

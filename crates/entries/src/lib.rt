@@ -302,7 +302,7 @@ const LENGTHS: [usize; 7] = [
 fn is_misshapen(s: &[u8]) -> bool
     ensures { λ r. ⌜ r ≡ misshapen (now (s .entry)) ⌝ }
 {
-    if s.len() < 8 {
+    if s.len() < REQUEST_HEAD_SIZE {
         return true;
     }
     let kind = numbers::number_at(s, 2);
@@ -329,31 +329,25 @@ fn is_filled(s: &[u8]) -> bool
 // The bounds of a read.
 fn read_in(s: &[u8]) -> Ask
     requires { do ⌜ readSize ≤ (← ⟦s.len()⟧) ⌝ }
-    ensures { λ r. ⌜ bookAsk r ≡ read (numberAt 8 (now (s .entry)) firstPlace) (numberAt 8 (now (s .entry)) secondPlace) ⌝ }
+    ensures { λ r. ⌜ bookAsk r ≡ read (numberAt keySize (now (s .entry)) firstPlace) (numberAt keySize (now (s .entry)) secondPlace) ⌝ }
 {
-    Ask::Read(
-        Key(numbers::read_u64(s, FIRST)),
-        Key(numbers::read_u64(s, SECOND)),
-    )
+    Ask::Read(Key::read(s, FIRST), Key::read(s, SECOND))
 }
 
 // The key and record of an insert.
 fn insert_in(s: &[u8]) -> Ask
     requires { do ⌜ readSize ≤ (← ⟦s.len()⟧) ⌝ }
-    ensures { λ r. ⌜ bookAsk r ≡ insert (numberAt 8 (now (s .entry)) firstPlace) (numberAt 4 (now (s .entry)) secondPlace) ⌝ }
+    ensures { λ r. ⌜ bookAsk r ≡ insert (numberAt keySize (now (s .entry)) firstPlace) (numberAt 4 (now (s .entry)) secondPlace) ⌝ }
 {
-    Ask::Insert(
-        Key(numbers::read_u64(s, FIRST)),
-        numbers::read_u32(s, SECOND),
-    )
+    Ask::Insert(Key::read(s, FIRST), numbers::read_u32(s, SECOND))
 }
 
 // The key of a delete.
 fn delete_in(s: &[u8]) -> Ask
     requires { do ⌜ deleteSize ≤ (← ⟦s.len()⟧) ⌝ }
-    ensures { λ r. ⌜ bookAsk r ≡ delete (numberAt 8 (now (s .entry)) firstPlace) ⌝ }
+    ensures { λ r. ⌜ bookAsk r ≡ delete (numberAt keySize (now (s .entry)) firstPlace) ⌝ }
 {
-    Ask::Delete(Key(numbers::read_u64(s, FIRST)))
+    Ask::Delete(Key::read(s, FIRST))
 }
 
 // What a record asks.
@@ -477,10 +471,11 @@ pub fn put_answer(out: &mut [u8], at: usize, a: Answer)
 {
     let says = a.says;
     let p = says.paper();
+    let key = p.key;
     numbers::write_u16(out, at, LENGTH);
     numbers::write_u16(out, at + 2, 7);
     numbers::write_u16(out, at + 4, a.asker);
     numbers::write_u16(out, at + 6, p.number);
-    numbers::write_u64(out, at + 8, p.key.0);
+    key.write(out, at + 8);
     numbers::write_u32(out, at + REC, p.rec);
 }

@@ -38,7 +38,7 @@ pub fn put_fields(out: &mut [u8], e: Entry) -> bool {
     let key = e.key;
     let is = e.now;
     let was = e.before;
-    numbers::write_u64(out, 0, key.0);
+    key.write(out, 0);
     numbers::write_u64(out, 8, e.owner as u64);
     numbers::write_u64(out, 16, number_of(is));
     numbers::write_u64(out, 24, number_of(was));

@@ -8,7 +8,7 @@ use mathlib.Core.List.{List, [], _∷_, _++_}
 use native.Mathlib.Omega.{arith}
 use lib.Dec.{lit<}
 use lib.ListN.{length, getD, set}
-use Rattle.limits.specs.Limits.{transactionsMost, recordSize, deskSize}
+use Rattle.limits.specs.Limits.{transactionsMost, keySize, recordSize, deskSize}
 use Rattle.numbers.specs.Numbers.{numberAt, widthOf, fieldsAt, Fits, Apart}
 use Rattle.numbers.proofs.Agree.{Touches}
 use Rattle.numbers.proofs.Numbers.{number-apart, number-same, touches-putNumber}
@@ -34,7 +34,7 @@ module _ (d : List ℕ) (t : ℕ) (b : Bool) where
   unfolding recordAt fieldsAt markPut widthOf
   record-marked size h =
       ap₂ (λ v vs. v ∷ vs) (number-same 2 d (recordPlace t) (markNumber b) (mark-fits b) (omega arith))
-      (fields-apart (2 ∷ 4 ∷ 8 ∷ 8 ∷ 8 ∷ []) (recordPlace t + 2) (touches-putNumber 2 d (recordPlace t) (markNumber b)) (omega arith))
+      (fields-apart (2 ∷ 4 ∷ keySize ∷ keySize ∷ 8 ∷ []) (recordPlace t + 2) (touches-putNumber 2 d (recordPlace t) (markNumber b)) (omega arith))
 
   pub record-unmarked : (s : ℕ) → s ≢ t → recordAt (markPut d t b) s ≡ recordAt d s
   unfolding markPut
@@ -50,7 +50,7 @@ unfolding recordAt fieldsAt putAsk widthOf
 record-asked d t vs size h fit =
     ap (λ v. v ∷ (fieldsAt askWidths u p ++ (filler u ∷ []))) (number-apart 2 (recordPlace t) f (omega arith))
     ∙ ap (λ ws. numberAt 2 d (recordPlace t) ∷ (ws ++ (filler u ∷ []))) (fields-same askWidths d p vs fit (omega arith))
-    ∙ ap (λ z. numberAt 2 d (recordPlace t) ∷ (vs ++ (z ∷ []))) (number-apart 8 (p + 2 + 4 + 8 + 8) f (omega arith))
+    ∙ ap (λ z. numberAt 2 d (recordPlace t) ∷ (vs ++ (z ∷ []))) (number-apart 8 (p + 2 + 4 + keySize + keySize) f (omega arith))
   where
     p : ℕ
     p = recordPlace t + 2
@@ -62,7 +62,7 @@ record-asked d t vs size h fit =
     f = touches-ask d t vs
 
     filler : List ℕ → ℕ
-    filler s = numberAt 8 s (p + 2 + 4 + 8 + 8)
+    filler s = numberAt 8 s (p + 2 + 4 + keySize + keySize)
 
 -- ---- a request joins, and leaves
 module _ (d : List ℕ) (t : ℕ) (a : Ask ℕ ℕ) (size : length d ≡ deskSize) (order : InOrder d) (room : queued d < transactionsMost)

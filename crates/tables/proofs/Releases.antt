@@ -9,7 +9,7 @@ use native.Mathlib.Omega.{arith}
 use borrow.Author.Tests.{eq-eqb, ne-eqb}
 use lib.Dec.{eqb}
 use lib.ListN.{length, replicate, length-append, length-replicate}
-use Rattle.limits.specs.Limits.{locksMost, slotSize, slotsPlace, deskSize}
+use Rattle.limits.specs.Limits.{locksMost, keySize, slotSize, slotsPlace, deskSize}
 use Rattle.lists.specs.Lists.{tab, join}
 use Rattle.lists.proofs.Tables.{tab-append}
 use Rattle.lists.proofs.Joins.{join-append}
@@ -21,22 +21,22 @@ use Rattle.tables.specs.Layout.{lockPlace}
 use Rattle.tables.specs.Moves.{rowFreed, rowReleased, locksReleased}
 
 -- ---- one slot, as the code tests and writes it
-module _ (d : List ℕ) (t i h : ℕ) (e : h ≡ numberAt 2 d (slotsPlace + slotSize * i + 8)) where
-  holder-in : numberAt 2 (part (lockPlace i) slotSize d) 8 ≡ h
-  holder-in = numberAt-part 2 (lockPlace i) slotSize d 8 (omega arith) ∙ sym e
+module _ (d : List ℕ) (t i h : ℕ) (e : h ≡ numberAt 2 d (slotsPlace + slotSize * i + keySize)) where
+  holder-in : numberAt 2 (part (lockPlace i) slotSize d) keySize ≡ h
+  holder-in = numberAt-part 2 (lockPlace i) slotSize d keySize (omega arith) ∙ sym e
 
   pub row-freed : (u : List ℕ) (p : ℕ) → h ≡ t → p ≡ lockPlace i → u ≡ zeroed slotSize p d → u ≡ rowReleased t i d
   unfolding rowReleased zeroed
   row-freed u p q l w =
-      let z : eqb (numberAt 2 (part (lockPlace i) slotSize d) 8) t ≡ true = eq-eqb (numberAt 2 (part (lockPlace i) slotSize d) 8) t (holder-in ∙ q) in
+      let z : eqb (numberAt 2 (part (lockPlace i) slotSize d) keySize) t ≡ true = eq-eqb (numberAt 2 (part (lockPlace i) slotSize d) keySize) t (holder-in ∙ q) in
       let v : u ≡ zeroed slotSize (lockPlace i) d = w ∙ ap (λ k. zeroed slotSize k d) l in
       rw z v
 
   pub row-kept : (h ≡ t → ⊥) → i < locksMost → length d ≡ deskSize → d ≡ rowReleased t i d
   unfolding rowReleased
   row-kept q l n =
-      let z : eqb (numberAt 2 (part (lockPlace i) slotSize d) 8) t ≡ false =
-      ne-eqb (numberAt 2 (part (lockPlace i) slotSize d) 8) t (λ x. q (sym holder-in ∙ x)) in
+      let z : eqb (numberAt 2 (part (lockPlace i) slotSize d) keySize) t ≡ false =
+      ne-eqb (numberAt 2 (part (lockPlace i) slotSize d) keySize) t (λ x. q (sym holder-in ∙ x)) in
       rw z (sym (putPart-part (lockPlace i) slotSize d (omega arith)))
 
 -- ---- all of them
@@ -52,7 +52,7 @@ module _ (t : ℕ) (d : List ℕ) (size : length d ≡ deskSize) where
   row k = part (lockPlace k) slotSize d
 
   length-freed : (r : List ℕ) → length r ≡ slotSize → length (rowFreed t r) ≡ slotSize
-  length-freed r e = go (eqb (numberAt 2 r 8) t)
+  length-freed r e = go (eqb (numberAt 2 r keySize) t)
     where
       go : (b : Bool) → length (cond b (replicate slotSize 0) r) ≡ slotSize
       go true = length-replicate {A = ℕ} slotSize 0

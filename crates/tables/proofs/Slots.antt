@@ -9,7 +9,7 @@ use native.Mathlib.Nat.{zero-add}
 use native.Mathlib.Omega.{arith}
 use lib.Dec.{lit<, lit≤}
 use lib.ListN.{length, getD, set}
-use Rattle.limits.specs.Limits.{locksMost, slotSize, slotsPlace, deskSize}
+use Rattle.limits.specs.Limits.{locksMost, keySize, slotSize, slotsPlace, deskSize}
 use Rattle.lists.proofs.Tables.{length-tab, getD-tab, tab-set}
 use Rattle.numbers.specs.Numbers.{widthOf, Fits}
 use Rattle.numbers.proofs.Fields.{fields-same, fields-other}
@@ -28,9 +28,9 @@ module _ (k t : ℕ) (m : Mode) where
   abbrev pub lock : Option (Lock ℕ)
   lock = some (record { name = nameIn k; holder = t; mode = m })
 
-  pub lock-fits : k < 256 ^ 8 → t < 256 ^ 2 → Fits lockWidths (slotFields lock)
+  pub lock-fits : k < 256 ^ keySize → t < 256 ^ 2 → Fits lockWidths (slotFields lock)
   unfolding slotFields
-  lock-fits h l = (subst (λ v. v < 256 ^ 8) (sym (name-back k)) h, (l, (mode-fits m, (lit< tt, tt))))
+  lock-fits h l = (subst (λ v. v < 256 ^ keySize) (sym (name-back k)) h, (l, (mode-fits m, (lit< tt, tt))))
 
   pub lock-back : t ≢ 0 → slotIn (slotFields lock) ≡ lock
   lock-back h = slot-there (record { name = nameIn k; holder = t; mode = m }) h (ap nameIn (name-back k))

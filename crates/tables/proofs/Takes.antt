@@ -10,7 +10,7 @@ use mathlib.Core.Option.{Option, none, some}
 use borrow.Author.Tests.{eqb-true, eq-eqb, lt-ltb, le-ltb, ltb-true}
 use lib.Dec.{eqb, ltb}
 use lib.ListN.{length, getD, set}
-use Rattle.limits.specs.Limits.{locksMost, deskSize}
+use Rattle.limits.specs.Limits.{locksMost, keySize, deskSize}
 use Rattle.lists.specs.Lists.{all, any, pairs, place}
 use Rattle.lists.proofs.Tests.{and-left, and-right}
 use Rattle.lists.proofs.Scans.{place-any, place-passes, place-none}
@@ -172,7 +172,7 @@ strengthened-of t n m (some l) e =
     let who : l .holder ≡ t = eqb-true (l .holder) t (and-left (eqb (l .holder) t) (sameName (document endless) (l .name) n) e) in
     (stronger (l .mode) m, ap₂ (λ a b. some (record { name = a; holder = b; mode = stronger (l .mode) m })) name who)
 
-module _ (P : Paging ℕ) (d : List ℕ) (t k : ℕ) (m : Mode) (size : length d ≡ deskSize) (name : k < 256 ^ 8) (who : t < 256 ^ 2) (someone : t ≢ 0) where
+module _ (P : Paging ℕ) (d : List ℕ) (t k : ℕ) (m : Mode) (size : length d ≡ deskSize) (name : k < 256 ^ keySize) (who : t < 256 ^ 2) (someone : t ≢ 0) where
   abbrev n : Name ℕ
   n = nameIn k
 

@@ -7,7 +7,7 @@ use mathlib.Core.List.{List, [], _∷_}
 use mathlib.Core.Option.{none}
 use borrow.Author.Tests.{eqb-true, eqb-false, eq-eqb, ne-eqb}
 use lib.Dec.{eqb}
-use Rattle.limits.specs.Limits.{slotSize, slotsPlace}
+use Rattle.limits.specs.Limits.{keySize, slotSize, slotsPlace}
 use Rattle.numbers.specs.Numbers.{numberAt, fieldsAt, putFields}
 use Rattle.rules.specs.Kinds.{Ask, read, insert, delete, Paging, Mode, S, X, Name, on, end}
 use Rattle.rules.specs.Locks.{conflict, stronger, sameName}
@@ -83,12 +83,12 @@ pub held-strengthened : (s : Sl.Slot) (l : L.Lock) (m : Mode) (x : M.Mode) → s
 held-strengthened s l m x e p = rw (e, p)
 
 -- ---- a slot read, and written
-pub read-free : (d : List ℕ) (i holder : ℕ) → holder ≡ numberAt 2 d (slotsPlace + slotSize * i + 8) → holder ≡ 0 → none ≡ slotAt d i
+pub read-free : (d : List ℕ) (i holder : ℕ) → holder ≡ numberAt 2 d (slotsPlace + slotSize * i + keySize) → holder ≡ 0 → none ≡ slotAt d i
 unfolding slotAt slotIn fieldsAt
-read-free d i holder e h = let z : eqb (numberAt 2 d (slotsPlace + slotSize * i + 8)) 0 ≡ true = eq-eqb (numberAt 2 d (slotsPlace + slotSize * i + 8)) 0 (sym e ∙ h) in rw z
+read-free d i holder e h = let z : eqb (numberAt 2 d (slotsPlace + slotSize * i + keySize)) 0 ≡ true = eq-eqb (numberAt 2 d (slotsPlace + slotSize * i + keySize)) 0 (sym e ∙ h) in rw z
 
-pub read-held : (d : List ℕ) (i : ℕ) (k : Key) (holder number : ℕ) (x : M.Mode) → holder ≡ numberAt 2 d (slotsPlace + slotSize * i + 8) → (holder ≡ 0 → ⊥)
-    → k .0 ≡ numberAt 8 d (slotsPlace + slotSize * i) → number ≡ numberAt 2 d (slotsPlace + slotSize * i + 8 + 2) → bookMode x ≡ modeIn number
+pub read-held : (d : List ℕ) (i : ℕ) (k : Key) (holder number : ℕ) (x : M.Mode) → holder ≡ numberAt 2 d (slotsPlace + slotSize * i + keySize) → (holder ≡ 0 → ⊥)
+    → k .0 ≡ numberAt keySize d (slotsPlace + slotSize * i) → number ≡ numberAt 2 d (slotsPlace + slotSize * i + keySize + 2) → bookMode x ≡ modeIn number
     → bookSlot (SV.Held (record { name = k; holder = holder; mode = x })) ≡ slotAt d i
 unfolding slotAt slotIn fieldsAt
 read-held d i k holder number x e h p q r =
@@ -105,15 +105,15 @@ put-held d u i s l number e q p = rw (e, name-back, ← q) p
 
 -- ---- a waiting request read, and written
 module _ (d : List ℕ) (t kind : ℕ) (q : kind ≡ numberAt 2 d (recordPlace t + 2)) where
-  pub ask-read : (lo hi : ℕ) → kind ≡ 4 → lo ≡ numberAt 8 d (recordPlace t + 2 + 2 + 4) → hi ≡ numberAt 8 d (recordPlace t + 2 + 2 + 4 + 8) → read lo hi ≡ askAt d t
+  pub ask-read : (lo hi : ℕ) → kind ≡ 4 → lo ≡ numberAt keySize d (recordPlace t + 2 + 2 + 4) → hi ≡ numberAt keySize d (recordPlace t + 2 + 2 + 4 + keySize) → read lo hi ≡ askAt d t
   unfolding askIn recordAt fieldsAt
   ask-read lo hi k r s = rw (← q, k, r, s)
 
-  pub ask-insert : (lo rec : ℕ) → (kind ≡ 4 → ⊥) → kind ≡ 5 → lo ≡ numberAt 8 d (recordPlace t + 2 + 2 + 4) → rec ≡ numberAt 4 d (recordPlace t + 2 + 2) → insert lo rec ≡ askAt d t
+  pub ask-insert : (lo rec : ℕ) → (kind ≡ 4 → ⊥) → kind ≡ 5 → lo ≡ numberAt keySize d (recordPlace t + 2 + 2 + 4) → rec ≡ numberAt 4 d (recordPlace t + 2 + 2) → insert lo rec ≡ askAt d t
   unfolding askIn recordAt fieldsAt
   ask-insert lo rec h k r s = rw (← q, k, r, s)
 
-  pub ask-delete : (lo : ℕ) → (kind ≡ 4 → ⊥) → (kind ≡ 5 → ⊥) → lo ≡ numberAt 8 d (recordPlace t + 2 + 2 + 4) → delete lo ≡ askAt d t
+  pub ask-delete : (lo : ℕ) → (kind ≡ 4 → ⊥) → (kind ≡ 5 → ⊥) → lo ≡ numberAt keySize d (recordPlace t + 2 + 2 + 4) → delete lo ≡ askAt d t
   unfolding askIn recordAt fieldsAt
   ask-delete lo h k r = rw (← q, ne-eqb kind 4 h, ne-eqb kind 5 k, r)
 

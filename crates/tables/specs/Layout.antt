@@ -5,7 +5,7 @@ use mathlib.Core.List.{List, [], _∷_}
 use mathlib.Core.Option.{Option, none, some}
 use lib.Dec.{eqb}
 use lib.ListN.{getD}
-use Rattle.limits.specs.Limits.{transactionsMost, locksMost, deskHeadSize, recordSize, recordsPlace, slotSize, slotsPlace}
+use Rattle.limits.specs.Limits.{transactionsMost, locksMost, keySize, deskHeadSize, recordSize, recordsPlace, slotSize, slotsPlace}
 use Rattle.lists.specs.Lists.{tab}
 use Rattle.numbers.specs.Numbers.{numberAt, fieldsAt, putFields}
 use Rattle.rules.specs.Kinds.{Ask, read, insert, delete, Queued, Mark, idle, running, Mode, S, X, Name, on, end, Lock}
@@ -35,7 +35,7 @@ abbrev pub recordPlace : ℕ → ℕ
 recordPlace t = recordsPlace - recordSize + recordSize * t
 
 abbrev pub recordWidths : List ℕ
-recordWidths = 2 ∷ 2 ∷ 4 ∷ 8 ∷ 8 ∷ 8 ∷ []
+recordWidths = 2 ∷ 2 ∷ 4 ∷ keySize ∷ keySize ∷ 8 ∷ []
 
 unfoldable pub recordAt : List ℕ → ℕ → List ℕ
 recordAt d t = fieldsAt recordWidths d (recordPlace t)
@@ -61,7 +61,7 @@ askAt d t = askIn (recordAt d t)
 
 -- waiting kind, record, lo, hi
 abbrev pub askWidths : List ℕ
-askWidths = 2 ∷ 4 ∷ 8 ∷ 8 ∷ []
+askWidths = 2 ∷ 4 ∷ keySize ∷ keySize ∷ []
 
 unfoldable pub askFields : Ask ℕ ℕ → List ℕ
 askFields (read lo hi) = 4 ∷ 0 ∷ lo ∷ hi ∷ []
@@ -73,7 +73,7 @@ putAsk d t vs = putFields askWidths d (recordPlace t + 2) vs
 
 -- "256 locks of 16 bytes (key 8, transaction 2, mode 2: 1 S, 2 X, four zeros)"; a free slot is zero
 abbrev pub lockWidths : List ℕ
-lockWidths = 8 ∷ 2 ∷ 2 ∷ 4 ∷ []
+lockWidths = keySize ∷ 2 ∷ 2 ∷ 4 ∷ []
 
 abbrev pub lockPlace : ℕ → ℕ
 lockPlace i = slotsPlace + slotSize * i

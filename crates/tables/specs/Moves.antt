@@ -5,7 +5,7 @@ use mathlib.Core.List.{List, [], _∷_}
 use mathlib.Core.Option.{Option, none, some}
 use lib.Dec.{eqb, ltb}
 use lib.ListN.{replicate}
-use Rattle.limits.specs.Limits.{transactionsMost, locksMost, slotSize}
+use Rattle.limits.specs.Limits.{transactionsMost, locksMost, keySize, slotSize}
 use Rattle.lists.specs.Lists.{tab, join, place}
 use Rattle.numbers.specs.Numbers.{numberAt, putNumber, part, putPart, moved, zeroed}
 use Rattle.rules.specs.Kinds.{Ask, Mode, Name, Lock}
@@ -56,7 +56,7 @@ lockGiven d t n = givenAt (heldIn d t n) (freeIn d)
 
 -- "a released one is zeroed": the slots of t zero, the others as they are
 abbrev pub rowFreed : ℕ → List ℕ → List ℕ
-rowFreed t r = cond (eqb (numberAt 2 r 8) t) (replicate slotSize 0) r
+rowFreed t r = cond (eqb (numberAt 2 r keySize) t) (replicate slotSize 0) r
 
 unfoldable pub rowReleased : ℕ → ℕ → List ℕ → List ℕ
 rowReleased t i d = putPart (lockPlace i) (rowFreed t (part (lockPlace i) slotSize d)) d

@@ -3,7 +3,7 @@ ghost use mathlib.Core.Path.{_≡_};
 ghost use mathlib.Core.List.{[], _∷_};
 ghost use Prim.Native.Nat.{_+_, _*_, _<_};
 ghost use lib.ListN.{getD};
-ghost use Rattle.limits.specs.Limits.{locksMost, slotSize, deskSize};
+ghost use Rattle.limits.specs.Limits.{locksMost, keySize, slotSize, deskSize};
 ghost use Rattle.numbers.specs.Numbers.{numberAt, putFields, zeroAt};
 ghost use Rattle.tables.specs.Layout.{lockWidths, lockPlace, nameIn, slotAt, putSlot, bookMode, bookSlot};
 ghost use Rattle.tables.specs.Moves.{takenAt, givenAt, rowReleased, locksReleased};
@@ -20,7 +20,7 @@ const SLOTS: usize = limits::SLOTS_PLACE;
 const WIDTH: usize = limits::SLOT_SIZE;
 
 // Where the holder stands in a slot: the bytes before it are the name's.
-pub const HOLDER: usize = 8;
+pub const HOLDER: usize = limits::KEY_SIZE;
 
 // Where slot i starts.
 fn slot_place(i: usize) -> usize
@@ -34,16 +34,16 @@ fn slot_place(i: usize) -> usize
 pub fn name_at(d: &[u8], i: usize) -> Key
     requires { do ⌜ (← ⟦d.len()⟧) ≡ deskSize ⌝ }
     requires { ⌜ i < locksMost ⌝ }
-    ensures { λ r. ⌜ r .0 ≡ numberAt 8 (now (d .entry)) (lockPlace i) ⌝ }
+    ensures { λ r. ⌜ r .0 ≡ numberAt keySize (now (d .entry)) (lockPlace i) ⌝ }
 {
-    Key(numbers::read_u64(d, slot_place(i)))
+    Key::read(d, slot_place(i))
 }
 
 // the holder,
 pub fn holder_at(d: &[u8], i: usize) -> u16
     requires { do ⌜ (← ⟦d.len()⟧) ≡ deskSize ⌝ }
     requires { ⌜ i < locksMost ⌝ }
-    ensures { λ r. ⌜ r ≡ numberAt 2 (now (d .entry)) (lockPlace i + 8) ⌝ }
+    ensures { λ r. ⌜ r ≡ numberAt 2 (now (d .entry)) (lockPlace i + keySize) ⌝ }
 {
     numbers::read_u16(d, slot_place(i) + HOLDER)
 }
@@ -52,7 +52,7 @@ pub fn holder_at(d: &[u8], i: usize) -> u16
 pub fn mode_at(d: &[u8], i: usize) -> u16
     requires { do ⌜ (← ⟦d.len()⟧) ≡ deskSize ⌝ }
     requires { ⌜ i < locksMost ⌝ }
-    ensures { λ r. ⌜ r ≡ numberAt 2 (now (d .entry)) (lockPlace i + 8 + 2) ⌝ }
+    ensures { λ r. ⌜ r ≡ numberAt 2 (now (d .entry)) (lockPlace i + keySize + 2) ⌝ }
 {
     numbers::read_u16(d, slot_place(i) + HOLDER + 2)
 }
@@ -61,7 +61,7 @@ pub fn mode_at(d: &[u8], i: usize) -> u16
 pub fn filler_at(d: &[u8], i: usize) -> u32
     requires { do ⌜ (← ⟦d.len()⟧) ≡ deskSize ⌝ }
     requires { ⌜ i < locksMost ⌝ }
-    ensures { λ r. ⌜ r ≡ numberAt 4 (now (d .entry)) (lockPlace i + 8 + 2 + 2) ⌝ }
+    ensures { λ r. ⌜ r ≡ numberAt 4 (now (d .entry)) (lockPlace i + keySize + 2 + 2) ⌝ }
 {
     numbers::read_u32(d, slot_place(i) + HOLDER + 2 + 2)
 }
@@ -112,7 +112,7 @@ fn put_row(d: &mut [u8], i: usize, name: Key, holder: u16, mode: u16)
     let p = slot_place(i);
     let q = p + HOLDER;
     let r = q + 2;
-    numbers::write_u64(d, p, name.0);
+    name.write(d, p);
     numbers::write_u16(d, q, holder);
     numbers::write_u16(d, r, mode);
     numbers::write_u32(d, r + 2, 0);

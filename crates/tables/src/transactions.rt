@@ -2,13 +2,14 @@
 ghost use mathlib.Core.Path.{_≡_};
 ghost use mathlib.Core.List.{[], _∷_};
 ghost use Prim.Native.Nat.{_+_, _*_, _≤_};
-ghost use Rattle.limits.specs.Limits.{transactionsMost, deskSize};
+ghost use Rattle.limits.specs.Limits.{transactionsMost, keySize, deskSize};
 ghost use Rattle.numbers.specs.Numbers.{numberAt};
 ghost use Rattle.entries.specs.Meaning.{bookAsk};
 ghost use Rattle.tables.specs.Layout.{recordPlace, isRunning, isWaiting, askAt, askFields, putAsk};
 ghost use Rattle.tables.specs.Moves.{markNumber, markPut};
 use entries::Ask;
 use entries::Key;
+use limits::KEY_SIZE;
 
 // Where the records start, counted from a transaction 0 that there is not.
 const RECORDS: usize = limits::RECORDS_PLACE - limits::RECORD_SIZE;
@@ -54,27 +55,27 @@ pub fn rec_at(d: &[u8], t: u16) -> u32
 pub fn lo_at(d: &[u8], t: u16) -> Key
     requires { do ⌜ (← ⟦d.len()⟧) ≡ deskSize ⌝ }
     requires { ⌜ t ≤ transactionsMost ⌝ }
-    ensures { λ r. ⌜ r .0 ≡ numberAt 8 (now (d .entry)) (recordPlace t + 2 + 2 + 4) ⌝ }
+    ensures { λ r. ⌜ r .0 ≡ numberAt keySize (now (d .entry)) (recordPlace t + 2 + 2 + 4) ⌝ }
 {
-    Key(numbers::read_u64(d, record_place(t) + 2 + 2 + 4))
+    Key::read(d, record_place(t) + 2 + 2 + 4)
 }
 
 // hi,
 pub fn hi_at(d: &[u8], t: u16) -> Key
     requires { do ⌜ (← ⟦d.len()⟧) ≡ deskSize ⌝ }
     requires { ⌜ t ≤ transactionsMost ⌝ }
-    ensures { λ r. ⌜ r .0 ≡ numberAt 8 (now (d .entry)) (recordPlace t + 2 + 2 + 4 + 8) ⌝ }
+    ensures { λ r. ⌜ r .0 ≡ numberAt keySize (now (d .entry)) (recordPlace t + 2 + 2 + 4 + keySize) ⌝ }
 {
-    Key(numbers::read_u64(d, record_place(t) + 2 + 2 + 4 + 8))
+    Key::read(d, record_place(t) + 2 + 2 + 4 + KEY_SIZE)
 }
 
 // and the filler behind them.
 pub fn filler_at(d: &[u8], t: u16) -> u64
     requires { do ⌜ (← ⟦d.len()⟧) ≡ deskSize ⌝ }
     requires { ⌜ t ≤ transactionsMost ⌝ }
-    ensures { λ r. ⌜ r ≡ numberAt 8 (now (d .entry)) (recordPlace t + 2 + 2 + 4 + 8 + 8) ⌝ }
+    ensures { λ r. ⌜ r ≡ numberAt 8 (now (d .entry)) (recordPlace t + 2 + 2 + 4 + keySize + keySize) ⌝ }
 {
-    numbers::read_u64(d, record_place(t) + 2 + 2 + 4 + 8 + 8)
+    numbers::read_u64(d, record_place(t) + 2 + 2 + 4 + KEY_SIZE + KEY_SIZE)
 }
 
 // Whether t runs.
@@ -139,8 +140,8 @@ fn put_request(d: &mut [u8], t: u16, kind: u16, rec: u32, lo: Key, hi: Key)
     let lo_at = rec_at + 4;
     numbers::write_u16(d, kind_at, kind);
     numbers::write_u32(d, rec_at, rec);
-    numbers::write_u64(d, lo_at, lo.0);
-    numbers::write_u64(d, lo_at + 8, hi.0);
+    lo.write(d, lo_at);
+    hi.write(d, lo_at + KEY_SIZE);
 }
 
 // Writes the request that t waits for, and nothing else.

@@ -41,8 +41,8 @@ there s q h e =
 leaf-parts : (lo hi : ℕ) (p : List ℕ) → leafOk lo hi p ≡ true → (headOk 2 0 p ≡ true) × (countOf p ≤ leafMost)
 unfolding leafOk
 leaf-parts lo hi p h =
-    let a = both ((headOk 2 0 p && leb (countOf p) leafMost) && entriesOk lo hi (tab (countOf p) 0 (entryFieldsAt p))) (zeroAt (bodySize - entrySize * countOf p) (headSize + entrySize * countOf p) p) h in
-    let b = both (headOk 2 0 p) (leb (countOf p) leafMost) (both (headOk 2 0 p && leb (countOf p) leafMost) (entriesOk lo hi (tab (countOf p) 0 (entryFieldsAt p))) (a .0) .0) in
+    let a = both ((headOk 2 0 p && leb (countOf p) leafMost) && entriesOk true lo hi (tab (countOf p) 0 (entryFieldsAt p))) (zeroAt (bodySize - entrySize * countOf p) (headSize + entrySize * countOf p) p) h in
+    let b = both (headOk 2 0 p) (leb (countOf p) leafMost) (both (headOk 2 0 p && leb (countOf p) leafMost) (entriesOk true lo hi (tab (countOf p) 0 (entryFieldsAt p))) (a .0) .0) in
     (b .0, leb-true (countOf p) leafMost (b .1))
 
 inner-parts : (level least lo hi : ℕ) (p : List ℕ) → innerOk level least lo hi p ≡ true → (headOk 3 level p ≡ true) × (countOf p ≤ innerMost)

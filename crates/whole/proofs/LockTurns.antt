@@ -98,8 +98,9 @@ module _ (s d : List ℕ) (q i : ℕ) (e : E.Entry) (f : bookEntry e ≡ entryAt
   owned r z g =
       g ∙ sym (ap (entryHeld d) (sym read-there) ∙ ap (λ b. b || any (slotHolds (e .owner) (e .key .0)) (slotsOf d)) (ne-eqb (e .owner) 0 z))
 
-pub key-lent : (s : List ℕ) (q i k r : ℕ) → r ≡ entryAt (take (pageSize * q + pageSize - pageSize * q) (drop (pageSize * q) s)) i .key → eqb r k ≡ hasKey k (entryAt (pageAt s q) i)
-key-lent s q i k r e = ap (λ x. eqb x k) (e ∙ ap (λ p. entryAt p i .key) (page-lent s q))
+pub key-lent : (s : List ℕ) (q i k r : ℕ) (b : Bool) → r ≡ entryAt (take (pageSize * q + pageSize - pageSize * q) (drop (pageSize * q) s)) i .key → b ≡ eqb r k
+    → b ≡ hasKey k (entryAt (pageAt s q) i)
+key-lent s q i k r b e f = f ∙ ap (λ x. eqb x k) (e ∙ ap (λ p. entryAt p i .key) (page-lent s q))
 
 -- ---- the entries of a leaf
 pub entries-start : (s : List ℕ) (q n : ℕ) → n ≡ countOf (pageAt s q) → entriesOf (pageAt s q) ≡ tab (n - 0) 0 (entryAt (pageAt s q))

@@ -50,12 +50,12 @@ module _ (a b : Sl.Slot) where
   unfolding comesFirst
   free-after k e f = sym (ap₂ (λ x y. comesFirst (bookSlot x) (bookSlot y)) e f)
 
-  pub held-first : (k l : L.Lock) (c : Bool) → a ≡ SV.Held k → b ≡ SV.Held l → c ≡ conflict (bookMode (k .mode)) (bookMode (l .mode))
-      → (ltb (k .name .0) (l .name .0) || ((eqb (k .name .0) (l .name .0) && ltb (k .holder) (l .holder)) && not c))
-      ≡ comesFirst (bookSlot a) (bookSlot b)
+  pub held-first : (k l : L.Lock) (n s c : Bool) → a ≡ SV.Held k → b ≡ SV.Held l → n ≡ ltb (k .name .0) (l .name .0) → s ≡ eqb (k .name .0) (l .name .0)
+      → c ≡ conflict (bookMode (k .mode)) (bookMode (l .mode)) → (n || ((s && ltb (k .holder) (l .holder)) && not c)) ≡ comesFirst (bookSlot a) (bookSlot b)
   unfolding comesFirst
-  held-first k l c e f g =
-      ap (λ x. ltb (k .name .0) (l .name .0) || ((eqb (k .name .0) (l .name .0) && ltb (k .holder) (l .holder)) && not x)) g
+  held-first k l n s c e f p q g =
+      ap₂ (λ x y. x || ((y && ltb (k .holder) (l .holder)) && not c)) p q
+      ∙ ap (λ x. ltb (k .name .0) (l .name .0) || ((eqb (k .name .0) (l .name .0) && ltb (k .holder) (l .holder)) && not x)) g
       ∙ ap₂ (λ x y. ltb x y || ((eqb x y && ltb (k .holder) (l .holder)) && not (conflict (bookMode (k .mode)) (bookMode (l .mode)))))
       (sym (name-back (k .name .0))) (sym (name-back (l .name .0)))
       ∙ sym (ap₂ (λ x y. comesFirst (bookSlot x) (bookSlot y)) e f)
@@ -113,9 +113,9 @@ pub free-on : (a : Sl.Slot) (x : ℕ) → a ≡ SV.Free → false ≡ slotOn x (
 unfolding slotOn
 free-on a x e = sym (ap (λ y. slotOn x (bookSlot y)) e)
 
-pub held-on : (a : Sl.Slot) (x : ℕ) (l : L.Lock) → a ≡ SV.Held l → eqb (l .name .0) x ≡ slotOn x (bookSlot a)
+pub held-on : (a : Sl.Slot) (x : ℕ) (l : L.Lock) (r : Bool) → a ≡ SV.Held l → r ≡ eqb (l .name .0) x → r ≡ slotOn x (bookSlot a)
 unfolding slotOn
-held-on a x l e = ap (λ y. eqb y x) (sym (name-back (l .name .0))) ∙ sym (ap (λ y. slotOn x (bookSlot y)) e)
+held-on a x l r e f = f ∙ ap (λ y. eqb y x) (sym (name-back (l .name .0))) ∙ sym (ap (λ y. slotOn x (bookSlot y)) e)
 
 pub on-placed : (d o : List ℕ) (a x : ℕ) (s : Sl.Slot) (r : Bool) → bookSlot s ≡ placed d o a → r ≡ slotOn x (bookSlot s)
     → r ≡ slotOn x (placed d o a)

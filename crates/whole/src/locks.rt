@@ -200,7 +200,7 @@ fn is_at(pages: &[u8], q: usize, i: usize, key: Key) -> bool
 {
     let a = PAGE_SIZE * q;
     let k = pages::leaf::key_at(&pages[a..a + PAGE_SIZE], i);
-    k.0 == key.0
+    k.same(key)
 }
 
 // Whether the tree of a level from page q down has an entry with a key.

@@ -47,7 +47,7 @@ fn comes_first(a: Slot, b: Slot) -> bool
     let mode = k.mode;
     let later = l.name;
     let other = l.mode;
-    (name.0 < later.0) | ((name.0 == later.0) & (k.holder < l.holder) & !mode.conflicts(other))
+    name.is_below(later) | (name.same(later) & (k.holder < l.holder) & !mode.conflicts(other))
 }
 
 // The first place, from 1 on, whose slot does not come after the one before it; m or more where the first m places go up.
@@ -132,7 +132,7 @@ fn is_on(a: Slot, name: Key) -> bool
         return false;
     };
     let on = l.name;
-    on.0 == name.0
+    on.same(name)
 }
 
 // Whether the lock at a place is on a name.

@@ -8,7 +8,7 @@ use native.Mathlib.Nat.{sub-zero}
 use native.Mathlib.Omega.{arith}
 use borrow.Author.Tests.{leb-true, not-true, not-false, eq-eqb, ne-eqb, le-leb, lt-leb}
 use lib.Dec.{eqb, leb}
-use Rattle.limits.specs.Limits.{transactionsMost, locksMost, deskHeadSize, queueSize, deskSize}
+use Rattle.limits.specs.Limits.{transactionsMost, locksMost, keySize, deskHeadSize, queueSize, deskSize}
 use Rattle.lists.specs.Lists.{tab, all}
 use Rattle.lists.proofs.Tests.{and-left, and-right}
 use Rattle.lists.proofs.Tables.{tab-next, tab-done}
@@ -77,15 +77,16 @@ module _ (d : List ℕ) (n : ℕ) (c : n ≡ queued d) where
   askers-end m i inv l = sym (inv ∙ ap (λ ts. marks (transactionsMost + 1) ts m) (tab-done n i (inPlace d) l))
 
 -- ---- a slot
-module _ (d : List ℕ) (i name holder mode rest : ℕ) (a : name ≡ numberAt 8 d (lockPlace i)) (b : holder ≡ numberAt 2 d (lockPlace i + 8))
-    (c : mode ≡ numberAt 2 d (lockPlace i + 8 + 2)) (e : rest ≡ numberAt 4 d (lockPlace i + 8 + 2 + 2)) where
+module _ (d : List ℕ) (i name holder mode rest : ℕ) (a : name ≡ numberAt keySize d (lockPlace i)) (b : holder ≡ numberAt 2 d (lockPlace i + keySize))
+    (c : mode ≡ numberAt 2 d (lockPlace i + keySize + 2)) (e : rest ≡ numberAt 4 d (lockPlace i + keySize + 2 + 2)) where
   slot-is : slotOk d i ≡ fieldsOk d name holder mode rest
   unfolding slotOk fieldsAt
   slot-is = rw (a, b, c, e) refl
 
-  pub slot-free : holder ≡ 0 → ((eqb name 0 && eqb mode 0) && eqb rest 0) ≡ slotOk d i
-  slot-free z =
-      sym (slot-is ∙ ap (λ x. cond x ((eqb name 0 && eqb mode 0) && eqb rest 0) (leb holder transactionsMost && ((isRunning d holder && (eqb mode 1 || eqb mode 2)) && eqb rest 0))) (eq-eqb holder 0 z))
+  pub slot-free : (n : Bool) → holder ≡ 0 → n ≡ eqb name 0 → ((n && eqb mode 0) && eqb rest 0) ≡ slotOk d i
+  slot-free n z f =
+      ap (λ x. (x && eqb mode 0) && eqb rest 0) f
+      ∙ sym (slot-is ∙ ap (λ x. cond x ((eqb name 0 && eqb mode 0) && eqb rest 0) (leb holder transactionsMost && ((isRunning d holder && (eqb mode 1 || eqb mode 2)) && eqb rest 0))) (eq-eqb holder 0 z))
 
   module _ (z : holder ≡ 0 → ⊥) where
     held : slotOk d i ≡ (leb holder transactionsMost && ((isRunning d holder && (eqb mode 1 || eqb mode 2)) && eqb rest 0))

@@ -11,7 +11,7 @@ use native.Mathlib.Omega.{arith}
 use borrow.Author.Tests.{eqb-true, eq-eqb, ne-eqb, eqb-false, leb-true, le-leb, not-true}
 use lib.Dec.{eqb, leb, lit≤}
 use lib.ListN.{getD, List·getD-eq-default}
-use Rattle.limits.specs.Limits.{transactionsMost}
+use Rattle.limits.specs.Limits.{transactionsMost, keySize}
 use Rattle.lists.specs.Lists.{tab, first, times}
 use Rattle.lists.proofs.Tests.{both, and-both, either, or-left, or-right}
 use Rattle.lists.proofs.Tables.{getD-tab}
@@ -148,27 +148,27 @@ module _ (d : List ℕ) (t : ℕ) (low : 1 ≤ t) (high : t ≤ transactionsMost
   unfolding recordOk plainOk recordAt fieldsAt askIn
   record-told m h yes′ no′ =
       let a = both (plainOk (recordAt d t)) ((((listed m t && isWaiting d t) && isRunning d t) && D.legalAsk (document endless) (askAt d t)) || (not (listed m t) && not (isWaiting d t))) h in
-      let b = both (leb (numberAt 2 d at) 1 && formOk (numberAt 2 d (at + 2)) (numberAt 4 d (at + 2 + 2)) (numberAt 8 d (at + 2 + 2 + 4)) (numberAt 8 d (at + 2 + 2 + 4 + 8))) (eqb (numberAt 8 d (at + 2 + 2 + 4 + 8 + 8)) 0) (a .0) in
-      let c = both (leb (numberAt 2 d at) 1) (formOk (numberAt 2 d (at + 2)) (numberAt 4 d (at + 2 + 2)) (numberAt 8 d (at + 2 + 2 + 4)) (numberAt 8 d (at + 2 + 2 + 4 + 8))) (b .0) in
-      let f : numberAt 8 d (at + 2 + 2 + 4 + 8 + 8) ≡ 0 = eqb-true (numberAt 8 d (at + 2 + 2 + 4 + 8 + 8)) 0 (b .1) in
+      let b = both (leb (numberAt 2 d at) 1 && formOk (numberAt 2 d (at + 2)) (numberAt 4 d (at + 2 + 2)) (numberAt keySize d (at + 2 + 2 + 4)) (numberAt keySize d (at + 2 + 2 + 4 + keySize))) (eqb (numberAt 8 d (at + 2 + 2 + 4 + keySize + keySize)) 0) (a .0) in
+      let c = both (leb (numberAt 2 d at) 1) (formOk (numberAt 2 d (at + 2)) (numberAt 4 d (at + 2 + 2)) (numberAt keySize d (at + 2 + 2 + 4)) (numberAt keySize d (at + 2 + 2 + 4 + keySize))) (b .0) in
+      let f : numberAt 8 d (at + 2 + 2 + 4 + keySize + keySize) ≡ 0 = eqb-true (numberAt 8 d (at + 2 + 2 + 4 + keySize + keySize)) 0 (b .1) in
       let q : markNumber (getD (marksOf d) t idle) ≡ numberAt 2 d at = ap markNumber (mark-at d t low high) ∙ number-back (numberAt 2 d at) (c .0) in
-      let w : waitingFields own ≡ numberAt 2 d (at + 2) ∷ numberAt 4 d (at + 2 + 2) ∷ numberAt 8 d (at + 2 + 2 + 4) ∷ numberAt 8 d (at + 2 + 2 + 4 + 8) ∷ [] =
+      let w : waitingFields own ≡ numberAt 2 d (at + 2) ∷ numberAt 4 d (at + 2 + 2) ∷ numberAt keySize d (at + 2 + 2 + 4) ∷ numberAt keySize d (at + 2 + 2 + 4 + keySize) ∷ [] =
       ⊎-elim
       (λ x.
       let y = both ((listed m t && isWaiting d t) && isRunning d t) (D.legalAsk (document endless) (askAt d t)) x in
       let z = both (listed m t) (isWaiting d t) (both (listed m t && isWaiting d t) (isRunning d t) (y .0) .0) in
       let k : numberAt 2 d (at + 2) ≡ 0 → ⊥ = eqb-false (numberAt 2 d (at + 2)) 0 (not-true (eqb (numberAt 2 d (at + 2)) 0) (z .1)) in
       ap waitingFields (own-some (yes′ (z .0)))
-      ∙ ask-back (numberAt 2 d (at + 2)) (numberAt 4 d (at + 2 + 2)) (numberAt 8 d (at + 2 + 2 + 4)) (numberAt 8 d (at + 2 + 2 + 4 + 8))
-      (form-ask (numberAt 2 d (at + 2)) (numberAt 4 d (at + 2 + 2)) (numberAt 8 d (at + 2 + 2 + 4)) (numberAt 8 d (at + 2 + 2 + 4 + 8)) (c .1) k))
+      ∙ ask-back (numberAt 2 d (at + 2)) (numberAt 4 d (at + 2 + 2)) (numberAt keySize d (at + 2 + 2 + 4)) (numberAt keySize d (at + 2 + 2 + 4 + keySize))
+      (form-ask (numberAt 2 d (at + 2)) (numberAt 4 d (at + 2 + 2)) (numberAt keySize d (at + 2 + 2 + 4)) (numberAt keySize d (at + 2 + 2 + 4 + keySize)) (c .1) k))
       (λ x.
       let y = both (not (listed m t)) (not (isWaiting d t)) x in
       let k : numberAt 2 d (at + 2) ≡ 0 = eqb-true (numberAt 2 d (at + 2)) 0 (twice (eqb (numberAt 2 d (at + 2)) 0) (y .1)) in
-      let z = form-none (numberAt 2 d (at + 2)) (numberAt 4 d (at + 2 + 2)) (numberAt 8 d (at + 2 + 2 + 4)) (numberAt 8 d (at + 2 + 2 + 4 + 8)) (c .1) k in
+      let z = form-none (numberAt 2 d (at + 2)) (numberAt 4 d (at + 2 + 2)) (numberAt keySize d (at + 2 + 2 + 4)) (numberAt keySize d (at + 2 + 2 + 4 + keySize)) (c .1) k in
       ap waitingFields (own-none (no′ (not-true (listed m t) (y .0))))
       ∙ rw (k, z .0, z .1, z .2) refl)
       (either (((listed m t && isWaiting d t) && isRunning d t) && D.legalAsk (document endless) (askAt d t)) (not (listed m t) && not (isWaiting d t)) (a .1)) in
-      ap (λ z. numberAt 2 d at ∷ numberAt 2 d (at + 2) ∷ numberAt 4 d (at + 2 + 2) ∷ numberAt 8 d (at + 2 + 2 + 4) ∷ numberAt 8 d (at + 2 + 2 + 4 + 8) ∷ z ∷ []) f
+      ap (λ z. numberAt 2 d at ∷ numberAt 2 d (at + 2) ∷ numberAt 4 d (at + 2 + 2) ∷ numberAt keySize d (at + 2 + 2 + 4) ∷ numberAt keySize d (at + 2 + 2 + 4 + keySize) ∷ z ∷ []) f
       ∙ sym (ap₂ (λ x ys. x ∷ (ys ++ (0 ∷ []))) q w)
     where
       twice : (b : Bool) → not (not b) ≡ true → b ≡ true
@@ -190,29 +190,29 @@ module _ (d : List ℕ) (t : ℕ) (low : 1 ≤ t) (high : t ≤ transactionsMost
   list-tail a b xs ys e = cc
 
   abbrev rest : List ℕ
-  rest = numberAt 2 d (at + 2) ∷ numberAt 4 d (at + 2 + 2) ∷ numberAt 8 d (at + 2 + 2 + 4) ∷ numberAt 8 d (at + 2 + 2 + 4 + 8) ∷ numberAt 8 d (at + 2 + 2 + 4 + 8 + 8) ∷ []
+  rest = numberAt 2 d (at + 2) ∷ numberAt 4 d (at + 2 + 2) ∷ numberAt keySize d (at + 2 + 2 + 4) ∷ numberAt keySize d (at + 2 + 2 + 4 + keySize) ∷ numberAt 8 d (at + 2 + 2 + 4 + keySize + keySize) ∷ []
 
   told-rest : recordAt d t ≡ told → rest ≡ waitingFields own ++ (0 ∷ [])
   unfolding recordAt fieldsAt
   told-rest e = list-tail (numberAt 2 d at) (markNumber (getD (marksOf d) t idle)) rest (waitingFields own ++ (0 ∷ [])) e
 
-  told-plain : recordAt d t ≡ told → formOk (numberAt 2 d (at + 2)) (numberAt 4 d (at + 2 + 2)) (numberAt 8 d (at + 2 + 2 + 4)) (numberAt 8 d (at + 2 + 2 + 4 + 8)) ≡ true
-      → numberAt 8 d (at + 2 + 2 + 4 + 8 + 8) ≡ 0 → plainOk (recordAt d t) ≡ true
+  told-plain : recordAt d t ≡ told → formOk (numberAt 2 d (at + 2)) (numberAt 4 d (at + 2 + 2)) (numberAt keySize d (at + 2 + 2 + 4)) (numberAt keySize d (at + 2 + 2 + 4 + keySize)) ≡ true
+      → numberAt 8 d (at + 2 + 2 + 4 + keySize + keySize) ≡ 0 → plainOk (recordAt d t) ≡ true
   unfolding plainOk recordAt fieldsAt
   told-plain e f z =
       let r : numberAt 2 d at ≡ markNumber (getD (marksOf d) t idle) = ap (λ vs. getD vs 0 0) e in
-      and-both (leb (numberAt 2 d at) 1 && formOk (numberAt 2 d (at + 2)) (numberAt 4 d (at + 2 + 2)) (numberAt 8 d (at + 2 + 2 + 4)) (numberAt 8 d (at + 2 + 2 + 4 + 8))) (eqb (numberAt 8 d (at + 2 + 2 + 4 + 8 + 8)) 0)
-      (and-both (leb (numberAt 2 d at) 1) (formOk (numberAt 2 d (at + 2)) (numberAt 4 d (at + 2 + 2)) (numberAt 8 d (at + 2 + 2 + 4)) (numberAt 8 d (at + 2 + 2 + 4 + 8)))
-      (le-leb (numberAt 2 d at) 1 (omega (arith, number-small (getD (marksOf d) t idle)))) f) (eq-eqb (numberAt 8 d (at + 2 + 2 + 4 + 8 + 8)) 0 z)
+      and-both (leb (numberAt 2 d at) 1 && formOk (numberAt 2 d (at + 2)) (numberAt 4 d (at + 2 + 2)) (numberAt keySize d (at + 2 + 2 + 4)) (numberAt keySize d (at + 2 + 2 + 4 + keySize))) (eqb (numberAt 8 d (at + 2 + 2 + 4 + keySize + keySize)) 0)
+      (and-both (leb (numberAt 2 d at) 1) (formOk (numberAt 2 d (at + 2)) (numberAt 4 d (at + 2 + 2)) (numberAt keySize d (at + 2 + 2 + 4)) (numberAt keySize d (at + 2 + 2 + 4 + keySize)))
+      (le-leb (numberAt 2 d at) 1 (omega (arith, number-small (getD (marksOf d) t idle)))) f) (eq-eqb (numberAt 8 d (at + 2 + 2 + 4 + keySize + keySize)) 0 z)
 
   pub told-record : (m : Set) → recordAt d t ≡ told
       → ((listed m t ≡ true) × (0 < times t (tab (queued d) 0 (inPlace d))) × (isRunning d t ≡ true) × (D.legalAsk (document endless) (askAt d t) ≡ true))
       ⊎ ((listed m t ≡ false) × (times t (tab (queued d) 0 (inPlace d)) ≡ 0)) → recordOk d m t ≡ true
   unfolding recordOk recordAt fieldsAt askIn
   told-record m e (inl x) =
-      let y = fields-split (askAt d t) (numberAt 2 d (at + 2)) (numberAt 4 d (at + 2 + 2)) (numberAt 8 d (at + 2 + 2 + 4)) (numberAt 8 d (at + 2 + 2 + 4 + 8)) (numberAt 8 d (at + 2 + 2 + 4 + 8 + 8))
+      let y = fields-split (askAt d t) (numberAt 2 d (at + 2)) (numberAt 4 d (at + 2 + 2)) (numberAt keySize d (at + 2 + 2 + 4)) (numberAt keySize d (at + 2 + 2 + 4 + keySize)) (numberAt 8 d (at + 2 + 2 + 4 + keySize + keySize))
       (told-rest e ∙ ap (λ o. waitingFields o ++ (0 ∷ [])) (own-some (x .1))) in
-      let f = ask-form (numberAt 2 d (at + 2)) (numberAt 4 d (at + 2 + 2)) (numberAt 8 d (at + 2 + 2 + 4)) (numberAt 8 d (at + 2 + 2 + 4 + 8)) (y .0) in
+      let f = ask-form (numberAt 2 d (at + 2)) (numberAt 4 d (at + 2 + 2)) (numberAt keySize d (at + 2 + 2 + 4)) (numberAt keySize d (at + 2 + 2 + 4 + keySize)) (y .0) in
       and-both (plainOk (recordAt d t)) ((((listed m t && isWaiting d t) && isRunning d t) && D.legalAsk (document endless) (askAt d t)) || (not (listed m t) && not (isWaiting d t)))
       (told-plain e (f .0) (y .1))
       (or-left (((listed m t && isWaiting d t) && isRunning d t) && D.legalAsk (document endless) (askAt d t)) (not (listed m t) && not (isWaiting d t))
@@ -222,6 +222,6 @@ module _ (d : List ℕ) (t : ℕ) (low : 1 ≤ t) (high : t ≤ transactionsMost
       let z : rest ≡ 0 ∷ 0 ∷ 0 ∷ 0 ∷ 0 ∷ [] = told-rest e ∙ ap (λ o. waitingFields o ++ (0 ∷ [])) (own-none (x .1)) in
       let k : numberAt 2 d (at + 2) ≡ 0 = ap (λ vs. getD vs 0 0) z in
       and-both (plainOk (recordAt d t)) ((((listed m t && isWaiting d t) && isRunning d t) && D.legalAsk (document endless) (askAt d t)) || (not (listed m t) && not (isWaiting d t)))
-      (told-plain e (none-form (numberAt 2 d (at + 2)) (numberAt 4 d (at + 2 + 2)) (numberAt 8 d (at + 2 + 2 + 4)) (numberAt 8 d (at + 2 + 2 + 4 + 8)) k (ap (λ vs. getD vs 1 0) z) (ap (λ vs. getD vs 2 0) z) (ap (λ vs. getD vs 3 0) z)) (ap (λ vs. getD vs 4 0) z))
+      (told-plain e (none-form (numberAt 2 d (at + 2)) (numberAt 4 d (at + 2 + 2)) (numberAt keySize d (at + 2 + 2 + 4)) (numberAt keySize d (at + 2 + 2 + 4 + keySize)) k (ap (λ vs. getD vs 1 0) z) (ap (λ vs. getD vs 2 0) z) (ap (λ vs. getD vs 3 0) z)) (ap (λ vs. getD vs 4 0) z))
       (or-right (((listed m t && isWaiting d t) && isRunning d t) && D.legalAsk (document endless) (askAt d t)) (not (listed m t) && not (isWaiting d t))
       (and-both (not (listed m t)) (not (isWaiting d t)) (ap not (x .0)) (ap (λ b. not (not b)) (eq-eqb (numberAt 2 d (at + 2)) 0 k))))

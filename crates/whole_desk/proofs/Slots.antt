@@ -10,7 +10,7 @@ use native.Mathlib.Omega.{arith}
 use borrow.Author.Tests.{eqb-true, eq-eqb, leb-true, le-leb, eqb-false, ne-eqb}
 use lib.Dec.{eqb, leb}
 use lib.ListN.{getD}
-use Rattle.limits.specs.Limits.{transactionsMost, locksMost}
+use Rattle.limits.specs.Limits.{transactionsMost, locksMost, keySize}
 use Rattle.lists.specs.Lists.{tab, all, In}
 use Rattle.lists.proofs.Tests.{both, and-both, or-left, or-right}
 use Rattle.lists.proofs.Tables.{all-tab}
@@ -102,25 +102,25 @@ module _ (d : List ℕ) where
   pub slot-back-at : (i : ℕ) → slotOk d i ≡ true → at i ≡ slotFields (slotAt d i)
   unfolding slotOk slotAt fieldsAt
   slot-back-at i e =
-      sym (slot-back (numberAt 8 d (lockPlace i)) (numberAt 2 d (lockPlace i + 8)) (numberAt 2 d (lockPlace i + 8 + 2)) (numberAt 4 d (lockPlace i + 8 + 2 + 2))
-      (fields-row d (numberAt 8 d (lockPlace i)) (numberAt 2 d (lockPlace i + 8)) (numberAt 2 d (lockPlace i + 8 + 2)) (numberAt 4 d (lockPlace i + 8 + 2 + 2)) e))
+      sym (slot-back (numberAt keySize d (lockPlace i)) (numberAt 2 d (lockPlace i + keySize)) (numberAt 2 d (lockPlace i + keySize + 2)) (numberAt 4 d (lockPlace i + keySize + 2 + 2))
+      (fields-row d (numberAt keySize d (lockPlace i)) (numberAt 2 d (lockPlace i + keySize)) (numberAt 2 d (lockPlace i + keySize + 2)) (numberAt 4 d (lockPlace i + keySize + 2 + 2)) e))
 
   pub slot-runs : (i : ℕ) (l : Lock ℕ) → slotOk d i ≡ true → slotAt d i ≡ some l → (1 ≤ l .holder) × (l .holder ≤ transactionsMost) × (isRunning d (l .holder) ≡ true)
   unfolding slotOk slotAt fieldsAt
   slot-runs i l e q =
-      let a = held-fields d (numberAt 8 d (lockPlace i)) (numberAt 2 d (lockPlace i + 8)) (numberAt 2 d (lockPlace i + 8 + 2)) (numberAt 4 d (lockPlace i + 8 + 2 + 2)) l q in
-      let b = fields-runs d (numberAt 8 d (lockPlace i)) (numberAt 2 d (lockPlace i + 8)) (numberAt 2 d (lockPlace i + 8 + 2)) (numberAt 4 d (lockPlace i + 8 + 2 + 2)) e (a .0) in
-      let z : numberAt 2 d (lockPlace i + 8) ≡ 0 → ⊥ = a .0 in
-      let c : l .holder ≡ numberAt 2 d (lockPlace i + 8) = a .1 in
-      let w : numberAt 2 d (lockPlace i + 8) ≤ transactionsMost = b .0 in
+      let a = held-fields d (numberAt keySize d (lockPlace i)) (numberAt 2 d (lockPlace i + keySize)) (numberAt 2 d (lockPlace i + keySize + 2)) (numberAt 4 d (lockPlace i + keySize + 2 + 2)) l q in
+      let b = fields-runs d (numberAt keySize d (lockPlace i)) (numberAt 2 d (lockPlace i + keySize)) (numberAt 2 d (lockPlace i + keySize + 2)) (numberAt 4 d (lockPlace i + keySize + 2 + 2)) e (a .0) in
+      let z : numberAt 2 d (lockPlace i + keySize) ≡ 0 → ⊥ = a .0 in
+      let c : l .holder ≡ numberAt 2 d (lockPlace i + keySize) = a .1 in
+      let w : numberAt 2 d (lockPlace i + keySize) ≤ transactionsMost = b .0 in
       (omega arith, omega arith, subst (λ x. isRunning d x ≡ true) (sym c) (b .1))
 
   pub slot-there-at : (i : ℕ) → at i ≡ slotFields (slotAt d i) → ((l : Lock ℕ) → slotAt d i ≡ some l → (l .holder ≤ transactionsMost) × (isRunning d (l .holder) ≡ true)) → slotOk d i ≡ true
   unfolding slotOk slotAt fieldsAt slotIn
   slot-there-at i e r =
-      row-fields d (numberAt 8 d (lockPlace i)) (numberAt 2 d (lockPlace i + 8)) (numberAt 2 d (lockPlace i + 8 + 2)) (numberAt 4 d (lockPlace i + 8 + 2 + 2)) e
-      (λ z. r (record { name = nameIn (numberAt 8 d (lockPlace i)); holder = numberAt 2 d (lockPlace i + 8); mode = modeIn (numberAt 2 d (lockPlace i + 8 + 2)) })
-      (ap (λ b. cond b none (some (record { name = nameIn (numberAt 8 d (lockPlace i)); holder = numberAt 2 d (lockPlace i + 8); mode = modeIn (numberAt 2 d (lockPlace i + 8 + 2)) }))) (ne-eqb (numberAt 2 d (lockPlace i + 8)) 0 z)))
+      row-fields d (numberAt keySize d (lockPlace i)) (numberAt 2 d (lockPlace i + keySize)) (numberAt 2 d (lockPlace i + keySize + 2)) (numberAt 4 d (lockPlace i + keySize + 2 + 2)) e
+      (λ z. r (record { name = nameIn (numberAt keySize d (lockPlace i)); holder = numberAt 2 d (lockPlace i + keySize); mode = modeIn (numberAt 2 d (lockPlace i + keySize + 2)) })
+      (ap (λ b. cond b none (some (record { name = nameIn (numberAt keySize d (lockPlace i)); holder = numberAt 2 d (lockPlace i + keySize); mode = modeIn (numberAt 2 d (lockPlace i + keySize + 2)) }))) (ne-eqb (numberAt 2 d (lockPlace i + keySize)) 0 z)))
 
   -- all of them
   pub slots-run : all (slotOk d) (tab locksMost 0 (λ i. i)) ≡ true → (l : Lock ℕ) → In l (inUse (slotsOf d)) → (1 ≤ l .holder) × (l .holder ≤ transactionsMost) × (isRunning d (l .holder) ≡ true)

@@ -64,10 +64,12 @@ fn askers(d: &[u8]) -> Trail
 fn is_form(kind: u16, rec: u32, lo: Key, hi: Key) -> bool
     ensures { λ r. ⌜ r ≡ formOk kind rec (lo .0) (hi .0) ⌝ }
 {
-    ((kind == 0) & (rec == 0) & (lo.0 == Key::LOWEST.0) & (hi.0 == Key::LOWEST.0))
+    let no_lo = lo.same(Key::LOWEST);
+    let no_hi = hi.same(Key::LOWEST);
+    ((kind == 0) & (rec == 0) & no_lo & no_hi)
         | ((kind == Ask::READ) & (rec == 0))
-        | ((kind == Ask::INSERT) & (hi.0 == Key::LOWEST.0))
-        | ((kind == Ask::DELETE) & (rec == 0) & (hi.0 == Key::LOWEST.0))
+        | ((kind == Ask::INSERT) & no_hi)
+        | ((kind == Ask::DELETE) & (rec == 0) & no_hi)
 }
 
 // Whether the fields of a transaction's record are in order by themselves.
@@ -125,7 +127,7 @@ fn is_slot(d: &[u8], i: usize) -> bool
     let mode = locks::mode_at(d, i);
     let filler = locks::filler_at(d, i);
     if holder == 0 {
-        return (name.0 == Key::LOWEST.0) & (mode == 0) & (filler == 0);
+        return name.same(Key::LOWEST) & (mode == 0) & (filler == 0);
     }
     if holder > limits::LAST_TRANSACTION {
         return false;

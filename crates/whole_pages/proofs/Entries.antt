@@ -9,6 +9,7 @@ use native.Mathlib.Omega.{arith}
 use borrow.Author.Tests.{eqb-true, eq-eqb, ltb-true}
 use lib.Dec.{eqb, ltb, lit<}
 use lib.ListN.{getD}
+use Rattle.limits.specs.Limits.{keySize}
 use Rattle.lists.proofs.Tests.{both, and-both}
 use Rattle.numbers.specs.Numbers.{Fits}
 use Rattle.rules.specs.Kinds.{Entry}
@@ -97,7 +98,7 @@ module _ (k n b o : ℕ) where
       go false q = refl
       go true q = three t h (g (eqb-true o 0 q))
 
-  pub entry-fits : (t : ℕ) → k < 256 ^ 8 → n < 256 ^ 4 → b < 256 ^ 4 → o < 256 ^ 2 → Fits entryWidths (entryFields (entryIn (fives t)))
+  pub entry-fits : (t : ℕ) → k < 256 ^ keySize → n < 256 ^ 4 → b < 256 ^ 4 → o < 256 ^ 2 → Fits entryWidths (entryFields (entryIn (fives t)))
   unfolding entryFields entryIn
   entry-fits t hk hn hb ho = (
     hk,
@@ -129,6 +130,6 @@ module _ (l q f g : ℕ) where
   back-child e =
       and-both (eqb f 0) (eqb g 0) (eq-eqb f 0 (sym (ap (λ vs. getD vs 2 0) e))) (eq-eqb g 0 (sym (ap (λ vs. getD vs 3 0) e)))
 
-  pub child-fits : l < 256 ^ 8 → q < 256 ^ 2 → Fits childWidths (childFields (childIn fours))
+  pub child-fits : l < 256 ^ keySize → q < 256 ^ 2 → Fits childWidths (childFields (childIn fours))
   unfolding childFields childIn
   child-fits hl hq = (hl, (hq, (lit< tt, (lit< tt, tt))))

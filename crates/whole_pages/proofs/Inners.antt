@@ -9,7 +9,7 @@ use native.Mathlib.Omega.{arith}
 use borrow.Author.Tests.{leb-true, le-leb, eqb-true, eq-eqb}
 use lib.Dec.{leb, eqb, lit<, lit≤}
 use lib.ListN.{length, getD}
-use Rattle.limits.specs.Limits.{pageSize, headSize, bodySize, childSize, innerMost}
+use Rattle.limits.specs.Limits.{keySize, pageSize, headSize, bodySize, childSize, innerMost}
 use Rattle.lists.specs.Lists.{tab, all}
 use Rattle.lists.proofs.Tests.{both, and-both}
 use Rattle.lists.proofs.Tables.{map-tab, all-tab, all-of-tab}
@@ -68,18 +68,18 @@ module _ (p : List ℕ) (g : Bytes p) where
   plain-at : (i : ℕ) → fillersOk (childFieldsAt p i) ≡ true → childFields (childIn (fieldsAt childWidths p (headSize + childSize * i))) ≡ fieldsAt childWidths p (headSize + childSize * i)
   unfolding childFieldsAt fieldsAt
   plain-at i h =
-      child-back (numberAt 8 p (headSize + childSize * i)) (numberAt 2 p (headSize + childSize * i + 8)) (numberAt 2 p (headSize + childSize * i + 8 + 2)) (numberAt 4 p (headSize + childSize * i + 8 + 2 + 2)) h
+      child-back (numberAt keySize p (headSize + childSize * i)) (numberAt 2 p (headSize + childSize * i + keySize)) (numberAt 2 p (headSize + childSize * i + keySize + 2)) (numberAt 4 p (headSize + childSize * i + keySize + 2 + 2)) h
 
   at-plain : (i : ℕ) → childFields (childIn (fieldsAt childWidths p (headSize + childSize * i))) ≡ fieldsAt childWidths p (headSize + childSize * i) → fillersOk (childFieldsAt p i) ≡ true
   unfolding childFieldsAt fieldsAt
   at-plain i e =
-      back-child (numberAt 8 p (headSize + childSize * i)) (numberAt 2 p (headSize + childSize * i + 8)) (numberAt 2 p (headSize + childSize * i + 8 + 2)) (numberAt 4 p (headSize + childSize * i + 8 + 2 + 2)) e
+      back-child (numberAt keySize p (headSize + childSize * i)) (numberAt 2 p (headSize + childSize * i + keySize)) (numberAt 2 p (headSize + childSize * i + keySize + 2)) (numberAt 4 p (headSize + childSize * i + keySize + 2 + 2)) e
 
   fits-at : (i : ℕ) → Fits childWidths (childFields (childIn (fieldsAt childWidths p (headSize + childSize * i))))
   unfolding fieldsAt
   fits-at i =
-      child-fits (numberAt 8 p (headSize + childSize * i)) (numberAt 2 p (headSize + childSize * i + 8)) (numberAt 2 p (headSize + childSize * i + 8 + 2)) (numberAt 4 p (headSize + childSize * i + 8 + 2 + 2))
-      (number-below 8 p (headSize + childSize * i) g) (number-below 2 p (headSize + childSize * i + 8) g)
+      child-fits (numberAt keySize p (headSize + childSize * i)) (numberAt 2 p (headSize + childSize * i + keySize)) (numberAt 2 p (headSize + childSize * i + keySize + 2)) (numberAt 4 p (headSize + childSize * i + keySize + 2 + 2))
+      (number-below keySize p (headSize + childSize * i) g) (number-below 2 p (headSize + childSize * i + keySize) g)
 
   module _ (level least lo hi : ℕ) where
     abbrev front : Bool

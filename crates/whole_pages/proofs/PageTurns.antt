@@ -5,17 +5,15 @@ use mathlib.Core.Bool.{Bool, true, false, not, _&&_}
 use mathlib.Core.List.{List}
 use Prim.Native.Nat.{ℕ, _+_, _*_, _-_, _≤_, _<_}
 use native.Mathlib.Omega.{arith}
-use borrow.Author.Tests.{ltb-true, leb-true, not-true, not-false}
-use lib.Dec.{leb, ltb}
-use mir.Val.{Fits}
-use mir.Syntax.{w64}
+use borrow.Author.Tests.{leb-true, ne-eqb, not-true, not-false}
+use lib.Dec.{eqb, leb}
 use Rattle.limits.specs.Limits.{headSize, bodySize, entrySize, leafMost, childSize, innerMost}
 use Rattle.lists.specs.Lists.{tab}
 use Rattle.lists.proofs.Tests.{and-left, and-right}
 use Rattle.lists.proofs.Tables.{tab-next, tab-done}
-use Rattle.numbers.specs.Numbers.{numberAt, fieldsAt, zeroAt}
-use Rattle.pages.specs.Layout.{countOf}
-use Rattle.whole_pages.specs.Checks.{headOk, inRange, entryOk, entryFieldsAt, entriesOk, leafOk, between, fillersOk, firstOk, childFieldsAt, childrenOk, innerOk}
+use Rattle.numbers.specs.Numbers.{zeroAt}
+use Rattle.pages.specs.Layout.{countOf, entryIn, entryAt, childIn, childAt}
+use Rattle.whole_pages.specs.Checks.{headOk, nextOk, entryOk, entryFieldsAt, entriesOk, leafOk, between, fillersOk, firstOk, childFieldsAt, childrenOk, innerOk}
 
 and-false : (a : Bool) → (a && false) ≡ false
 and-false true = refl
@@ -25,50 +23,47 @@ and-false false = refl
 pub leaf-few : (h : Bool) (n : ℕ) → not (h && leb n leafMost) ≡ false → n ≤ leafMost
 leaf-few h n e = leb-true n leafMost (and-right h (leb n leafMost) (not-false (h && leb n leafMost) e))
 
-pub next-fits : (low hi k : ℕ) (a b : Bool) → a ≡ inRange low hi k → not (a && b) ≡ false → Fits w64 hi → Fits w64 (k + 1)
-next-fits low hi k a b e t f =
-    let q : a ≡ true = and-left a b (not-false (a && b) t) in
-    let l : k < hi = ltb-true k hi (and-right (leb low k) (ltb k hi) (sym e ∙ q)) in
-    record { fits = omega (arith, f .fits) }
-
 module _ (p : List ℕ) (lo hi n : ℕ) where
   pub leaf-headless : (h : Bool) → n ≡ countOf p → h ≡ headOk 2 0 p → not (h && leb n leafMost) ≡ true → false ≡ leafOk lo hi p
   unfolding leafOk
   leaf-headless h c e t =
       let q : (headOk 2 0 p && leb (countOf p) leafMost) ≡ false = ap₂ (λ x y. x && leb y leafMost) (sym e) (sym c) ∙ not-true (h && leb n leafMost) t in
-      sym (ap (λ x. (x && entriesOk lo hi (tab (countOf p) 0 (entryFieldsAt p))) && zeroAt (bodySize - entrySize * countOf p) (headSize + entrySize * countOf p) p) q)
+      sym (ap (λ x. (x && entriesOk true lo hi (tab (countOf p) 0 (entryFieldsAt p))) && zeroAt (bodySize - entrySize * countOf p) (headSize + entrySize * countOf p) p) q)
 
-  leaf-left : (low i : ℕ) → i < n → entriesOk low hi (tab (n - i) i (entryFieldsAt p))
-      ≡ ((inRange low hi (numberAt 8 p (headSize + entrySize * i)) && entryOk (entryFieldsAt p i)) && entriesOk (numberAt 8 p (headSize + entrySize * i) + 1) hi (tab (n - (i + 1)) (i + 1) (entryFieldsAt p)))
-  unfolding entriesOk entryFieldsAt fieldsAt
-  leaf-left low i h = ap (entriesOk low hi) (tab-next n i (entryFieldsAt p) h)
+  leaf-left : (first : Bool) (low i : ℕ) → i < n → entriesOk first low hi (tab (n - i) i (entryFieldsAt p))
+      ≡ ((nextOk first low hi (entryAt p i .key) && entryOk (entryFieldsAt p i)) && entriesOk false (entryAt p i .key) hi (tab (n - (i + 1)) (i + 1) (entryFieldsAt p)))
+  unfolding entriesOk entryFieldsAt entryAt entryIn
+  leaf-left first low i h = ap (entriesOk first low hi) (tab-next n i (entryFieldsAt p) h)
 
-  module _ (low i k : ℕ) (a b : Bool) (l : i < n) (e : k ≡ numberAt 8 p (headSize + entrySize * i)) (f : a ≡ inRange low hi k) (g : b ≡ entryOk (entryFieldsAt p i))
-      (w : entriesOk lo hi (tab n 0 (entryFieldsAt p)) ≡ entriesOk low hi (tab (n - i) i (entryFieldsAt p))) where
-    turn : entriesOk lo hi (tab n 0 (entryFieldsAt p)) ≡ ((a && b) && entriesOk (k + 1) hi (tab (n - (i + 1)) (i + 1) (entryFieldsAt p)))
-    turn = rw (f, g, e) (w ∙ leaf-left low i l)
+  module _ (low i k : ℕ) (a b : Bool) (l : i < n) (e : k ≡ entryAt p i .key) (f : a ≡ nextOk (eqb i 0) low hi k) (g : b ≡ entryOk (entryFieldsAt p i))
+      (w : entriesOk true lo hi (tab n 0 (entryFieldsAt p)) ≡ entriesOk (eqb i 0) low hi (tab (n - i) i (entryFieldsAt p))) where
+    turn : entriesOk true lo hi (tab n 0 (entryFieldsAt p)) ≡ ((a && b) && entriesOk false k hi (tab (n - (i + 1)) (i + 1) (entryFieldsAt p)))
+    turn = rw (f, g, e) (w ∙ leaf-left (eqb i 0) low i l)
 
     pub leaf-bad : n ≡ countOf p → not (a && b) ≡ true → false ≡ leafOk lo hi p
     unfolding leafOk
     leaf-bad c t =
-        let q : entriesOk lo hi (tab (countOf p) 0 (entryFieldsAt p)) ≡ false =
-        ap (λ x. entriesOk lo hi (tab x 0 (entryFieldsAt p))) (sym c)
+        let q : entriesOk true lo hi (tab (countOf p) 0 (entryFieldsAt p)) ≡ false =
+        ap (λ x. entriesOk true lo hi (tab x 0 (entryFieldsAt p))) (sym c)
         ∙ turn
-        ∙ ap (λ x. x && entriesOk (k + 1) hi (tab (n - (i + 1)) (i + 1) (entryFieldsAt p))) (not-true (a && b) t) in
+        ∙ ap (λ x. x && entriesOk false k hi (tab (n - (i + 1)) (i + 1) (entryFieldsAt p))) (not-true (a && b) t) in
         sym (ap (λ x. ((headOk 2 0 p && leb (countOf p) leafMost) && x) && zeroAt (bodySize - entrySize * countOf p) (headSize + entrySize * countOf p) p) q
         ∙ ap (λ x. x && zeroAt (bodySize - entrySize * countOf p) (headSize + entrySize * countOf p) p) (and-false (headOk 2 0 p && leb (countOf p) leafMost)))
 
-    pub leaf-next : not (a && b) ≡ false → entriesOk lo hi (tab n 0 (entryFieldsAt p)) ≡ entriesOk (k + 1) hi (tab (n - (i + 1)) (i + 1) (entryFieldsAt p))
-    leaf-next t = turn ∙ ap (λ x. x && entriesOk (k + 1) hi (tab (n - (i + 1)) (i + 1) (entryFieldsAt p))) (not-false (a && b) t)
+    pub leaf-next : not (a && b) ≡ false → entriesOk true lo hi (tab n 0 (entryFieldsAt p)) ≡ entriesOk (eqb (i + 1) 0) k hi (tab (n - (i + 1)) (i + 1) (entryFieldsAt p))
+    leaf-next t =
+        turn
+        ∙ ap (λ x. x && entriesOk false k hi (tab (n - (i + 1)) (i + 1) (entryFieldsAt p))) (not-false (a && b) t)
+        ∙ ap (λ x. entriesOk x k hi (tab (n - (i + 1)) (i + 1) (entryFieldsAt p))) (sym (ne-eqb (i + 1) 0 (λ z. omega (arith, z))))
 
   pub leaf-done : (h z : Bool) (low i : ℕ) → n ≡ countOf p → h ≡ headOk 2 0 p → not (h && leb n leafMost) ≡ false → n ≤ i
-      → entriesOk lo hi (tab n 0 (entryFieldsAt p)) ≡ entriesOk low hi (tab (n - i) i (entryFieldsAt p)) → z ≡ zeroAt (bodySize - entrySize * n) (headSize + entrySize * n) p
+      → entriesOk true lo hi (tab n 0 (entryFieldsAt p)) ≡ entriesOk (eqb i 0) low hi (tab (n - i) i (entryFieldsAt p)) → z ≡ zeroAt (bodySize - entrySize * n) (headSize + entrySize * n) p
       → z ≡ leafOk lo hi p
   unfolding leafOk entriesOk
   leaf-done h z low i c e t l w f =
       let q : (headOk 2 0 p && leb (countOf p) leafMost) ≡ true = ap₂ (λ x y. x && leb y leafMost) (sym e) (sym c) ∙ not-false (h && leb n leafMost) t in
-      let r : entriesOk lo hi (tab (countOf p) 0 (entryFieldsAt p)) ≡ true =
-      ap (λ x. entriesOk lo hi (tab x 0 (entryFieldsAt p))) (sym c) ∙ w ∙ ap (entriesOk low hi) (tab-done n i (entryFieldsAt p) l) in
+      let r : entriesOk true lo hi (tab (countOf p) 0 (entryFieldsAt p)) ≡ true =
+      ap (λ x. entriesOk true lo hi (tab x 0 (entryFieldsAt p))) (sym c) ∙ w ∙ ap (entriesOk (eqb i 0) low hi) (tab-done n i (entryFieldsAt p) l) in
       f
       ∙ ap (λ x. zeroAt (bodySize - entrySize * x) (headSize + entrySize * x) p) c
       ∙ sym (ap₂ (λ x y. (x && y) && zeroAt (bodySize - entrySize * countOf p) (headSize + entrySize * countOf p) p) q r)
@@ -94,11 +89,11 @@ module _ (p : List ℕ) (level least lo hi n : ℕ) where
       sym (ap (λ x. (x && childrenOk lo hi (tab (countOf p - 1) 1 (childFieldsAt p))) && zeroAt (bodySize - childSize * countOf p) (headSize + childSize * countOf p) p) q)
 
   inner-left : (low i : ℕ) → i < n → childrenOk low hi (tab (n - i) i (childFieldsAt p))
-      ≡ ((between low hi (numberAt 8 p (headSize + childSize * i)) && fillersOk (childFieldsAt p i)) && childrenOk (numberAt 8 p (headSize + childSize * i)) hi (tab (n - (i + 1)) (i + 1) (childFieldsAt p)))
-  unfolding childrenOk childFieldsAt fieldsAt
+      ≡ ((between low hi (childAt p i .low .0) && fillersOk (childFieldsAt p i)) && childrenOk (childAt p i .low .0) hi (tab (n - (i + 1)) (i + 1) (childFieldsAt p)))
+  unfolding childrenOk childFieldsAt childAt childIn
   inner-left low i h = ap (childrenOk low hi) (tab-next n i (childFieldsAt p) h)
 
-  module _ (low i k : ℕ) (a b : Bool) (l : i < n) (e : k ≡ numberAt 8 p (headSize + childSize * i)) (f : a ≡ between low hi k) (g : b ≡ fillersOk (childFieldsAt p i))
+  module _ (low i k : ℕ) (a b : Bool) (l : i < n) (e : k ≡ childAt p i .low .0) (f : a ≡ between low hi k) (g : b ≡ fillersOk (childFieldsAt p i))
       (w : childrenOk lo hi (tab (n - 1) 1 (childFieldsAt p)) ≡ childrenOk low hi (tab (n - i) i (childFieldsAt p))) where
     passed : childrenOk lo hi (tab (n - 1) 1 (childFieldsAt p)) ≡ ((a && b) && childrenOk k hi (tab (n - (i + 1)) (i + 1) (childFieldsAt p)))
     passed = rw (f, g, e) (w ∙ inner-left low i l)

@@ -161,7 +161,7 @@ leaf-length : (lo hi : ℕ) (p : List ℕ) → leafOk lo hi p ≡ true → numbe
 unfolding leafOk
 leaf-length lo hi p h =
     head-length 2 0 p (both (headOk 2 0 p) (leb (countOf p) leafMost)
-    (both (headOk 2 0 p && leb (countOf p) leafMost) (entriesOk lo hi (tab (countOf p) 0 (entryFieldsAt p))) (both ((headOk 2 0 p && leb (countOf p) leafMost) && entriesOk lo hi (tab (countOf p) 0 (entryFieldsAt p))) _ h .0) .0) .0)
+    (both (headOk 2 0 p && leb (countOf p) leafMost) (entriesOk true lo hi (tab (countOf p) 0 (entryFieldsAt p))) (both ((headOk 2 0 p && leb (countOf p) leafMost) && entriesOk true lo hi (tab (countOf p) 0 (entryFieldsAt p))) _ h .0) .0) .0)
 
 inner-length : (level least lo hi : ℕ) (p : List ℕ) → innerOk level least lo hi p ≡ true → numberAt 2 p 0 ≡ pageSize
 unfolding innerOk

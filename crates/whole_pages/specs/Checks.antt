@@ -1,7 +1,7 @@
 -- The tests that the code makes of the bytes of one page, in the order in which it makes them. They are not for readers: what they come to
 -- is shown in ../proofs. Assumes nothing.
 use Prim.Native.Nat.{ℕ, _+_, _*_, _-_, _/_, _%_}
-use mathlib.Core.Bool.{Bool, true, not, _&&_, _||_}
+use mathlib.Core.Bool.{Bool, true, false, cond, not, _&&_, _||_}
 use mathlib.Core.List.{List, [], _∷_}
 use lib.Dec.{eqb, leb, ltb}
 use lib.ListN.{getD}
@@ -29,25 +29,29 @@ entryOk vs =
 abbrev pub inRange : ℕ → ℕ → ℕ → Bool
 inRange lo hi k = leb lo k && ltb k hi
 
+abbrev pub between : ℕ → ℕ → ℕ → Bool
+between lo hi k = ltb lo k && ltb k hi
+
+-- an entry's key that may come next: the first lies from lo on, each other one above the last; all below hi
+abbrev pub nextOk : Bool → ℕ → ℕ → ℕ → Bool
+nextOk first lo hi k = cond first (inRange lo hi k) (between lo hi k)
+
 unfoldable pub entryFieldsAt : List ℕ → ℕ → List ℕ
 entryFieldsAt p i = fieldsAt entryWidths p (headSize + entrySize * i)
 
--- entries with keys from lo on and below hi, strictly ascending
-unfoldable pub entriesOk : ℕ → ℕ → List (List ℕ) → Bool
-entriesOk lo hi [] = true
-entriesOk lo hi (vs ∷ vss) = (inRange lo hi (getD vs 0 0) && entryOk vs) && entriesOk (getD vs 0 0 + 1) hi vss
+-- entries with keys from lo on, or above it if they are not the first, and below hi, strictly ascending
+unfoldable pub entriesOk : Bool → ℕ → ℕ → List (List ℕ) → Bool
+entriesOk first lo hi [] = true
+entriesOk first lo hi (vs ∷ vss) = (nextOk first lo hi (getD vs 0 0) && entryOk vs) && entriesOk false (getD vs 0 0) hi vss
 
 unfoldable pub leafOk : ℕ → ℕ → List ℕ → Bool
 leafOk lo hi p =
-    ((headOk 2 0 p && leb (countOf p) leafMost) && entriesOk lo hi (tab (countOf p) 0 (entryFieldsAt p)))
+    ((headOk 2 0 p && leb (countOf p) leafMost) && entriesOk true lo hi (tab (countOf p) 0 (entryFieldsAt p)))
     && zeroAt (bodySize - entrySize * countOf p) (headSize + entrySize * countOf p) p
 
 -- a child by its fields: the six zeros
 unfoldable pub fillersOk : List ℕ → Bool
 fillersOk vs = eqb (getD vs 2 0) 0 && eqb (getD vs 3 0) 0
-
-abbrev pub between : ℕ → ℕ → ℕ → Bool
-between lo hi k = ltb lo k && ltb k hi
 
 unfoldable pub childFieldsAt : List ℕ → ℕ → List ℕ
 childFieldsAt p i = fieldsAt childWidths p (headSize + childSize * i)

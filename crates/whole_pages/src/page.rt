@@ -4,13 +4,16 @@ ghost use mathlib.Core.Path.{_≡_};
 ghost use Prim.Native.Nat.{_<_, _≤_, _+_, _*_};
 ghost use lib.ListN.{length};
 ghost use Rattle.limits.specs.Limits.{pageSize, leafMost, innerMost};
-ghost use Rattle.whole_pages.specs.Checks.{headOk, firstPageOk, inRange, entryOk, entryFieldsAt, leafOk, between, fillersOk, firstOk, childFieldsAt, innerOk};
+ghost use Rattle.whole_pages.specs.Checks.{headOk, firstPageOk, inRange, between, nextOk, entryOk, entryFieldsAt, leafOk, fillersOk, firstOk, childFieldsAt, innerOk};
 use entries::Key;
 use limits::CHILD_SIZE;
 use limits::ENTRY_SIZE;
 use limits::HEAD_SIZE;
+use limits::KEY_SIZE;
 use limits::PAGE_SIZE;
 use pages::head;
+use pages::inner;
+use pages::leaf;
 
 // Whether the head has the length of a page, this kind and this level, and its eight zeros.
 fn has_head(p: &[u8], kind: usize, level: usize) -> bool
@@ -41,7 +44,7 @@ fn is_entry(p: &[u8], i: usize) -> bool
     requires { ⌜ i < leafMost ⌝ }
     ensures { λ r. ⌜ r ≡ entryOk (entryFieldsAt (now (p .entry)) i) ⌝ }
 {
-    let now_at = HEAD_SIZE + ENTRY_SIZE * i + 8;
+    let now_at = HEAD_SIZE + ENTRY_SIZE * i + KEY_SIZE;
     let before_at = now_at + 4;
     let owner_at = before_at + 4;
     let now = numbers::read_u32(p, now_at);
@@ -58,7 +61,24 @@ fn is_entry(p: &[u8], i: usize) -> bool
 fn is_in(low: Key, high: Key, key: Key) -> bool
     ensures { λ r. ⌜ r ≡ inRange (low .0) (high .0) (key .0) ⌝ }
 {
-    (low.0 <= key.0) & (key.0 < high.0)
+    low.at_most(key) & key.is_below(high)
+}
+
+// Whether a key lies above low and below high.
+fn is_between(low: Key, high: Key, key: Key) -> bool
+    ensures { λ r. ⌜ r ≡ between (low .0) (high .0) (key .0) ⌝ }
+{
+    low.is_below(key) & key.is_below(high)
+}
+
+// Whether an entry's key may come next: the first lies from low on, each other one above the last, and all below high.
+fn is_next(first: bool, low: Key, high: Key, key: Key) -> bool
+    ensures { λ r. ⌜ r ≡ nextOk first (low .0) (high .0) (key .0) ⌝ }
+{
+    if first {
+        return is_in(low, high, key);
+    }
+    is_between(low, high, key)
 }
 
 // Whether it is a leaf with keys from low on and below high.
@@ -70,14 +90,14 @@ pub fn is_leaf(p: &[u8], low: Key, high: Key) -> bool
     if !(has_head(p, 2, 0) & (n <= limits::LEAF_MOST)) {
         return false;
     }
-    let mut least = low;
+    let mut last = low;
     let mut i: usize = 0;
     while i < n {
-        let key = Key(numbers::read_u64(p, HEAD_SIZE + ENTRY_SIZE * i));
-        if !(is_in(least, high, key) & is_entry(p, i)) {
+        let key = leaf::key_at(p, i);
+        if !(is_next(i == 0, last, high, key) & is_entry(p, i)) {
             return false;
         }
-        least = Key(key.0 + 1);
+        last = key;
         i += 1;
     }
     numbers::is_zero(
@@ -93,17 +113,10 @@ fn is_child(p: &[u8], i: usize) -> bool
     requires { ⌜ i < innerMost ⌝ }
     ensures { λ r. ⌜ r ≡ fillersOk (childFieldsAt (now (p .entry)) i) ⌝ }
 {
-    let filler_at = HEAD_SIZE + CHILD_SIZE * i + 8 + 2;
+    let filler_at = HEAD_SIZE + CHILD_SIZE * i + KEY_SIZE + 2;
     let filler = numbers::read_u16(p, filler_at);
     let rest = numbers::read_u32(p, filler_at + 2);
     (filler == 0) & (rest == 0)
-}
-
-// Whether a key lies above low and below high.
-fn is_between(low: Key, high: Key, key: Key) -> bool
-    ensures { λ r. ⌜ r ≡ between (low .0) (high .0) (key .0) ⌝ }
-{
-    (low.0 < key.0) & (key.0 < high.0)
 }
 
 // Whether the first child is one: "the first separator is 0".
@@ -111,8 +124,8 @@ fn is_first_child(p: &[u8]) -> bool
     requires { ⌜ length (now p) ≡ pageSize ⌝ }
     ensures { λ r. ⌜ r ≡ firstOk (childFieldsAt (now (p .entry)) 0) ⌝ }
 {
-    let low = Key(numbers::read_u64(p, HEAD_SIZE));
-    (low.0 == Key::LOWEST.0) & is_child(p, 0)
+    let low = inner::low_at(p, 0);
+    low.same(Key::LOWEST) & is_child(p, 0)
 }
 
 // Whether it is an inner page of a level, with at least so many children, and separators above low and below high.
@@ -128,7 +141,7 @@ pub fn is_inner(p: &[u8], level: usize, least: usize, low: Key, high: Key) -> bo
     let mut above = low;
     let mut i: usize = 1;
     while i < n {
-        let key = Key(numbers::read_u64(p, HEAD_SIZE + CHILD_SIZE * i));
+        let key = inner::low_at(p, i);
         if !(is_between(above, high, key) & is_child(p, i)) {
             return false;
         }

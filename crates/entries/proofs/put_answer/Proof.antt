@@ -29,11 +29,11 @@ add-write-u16-3 c = search needs
 write-u16-requires-4 : tie.Need-write-u16-requires-4
 write-u16-requires-4 c κs = search needs
 
-add-write-u64 : tie.Need-add-write-u64
-add-write-u64 c = search needs
+add-write : tie.Need-add-write
+add-write c = search needs
 
-write-u64-requires : tie.Need-write-u64-requires
-write-u64-requires c κs = search needs
+write-requires : tie.Need-write-requires
+write-requires c κs = search needs
 
 add-write-u32 : tie.Need-add-write-u32
 add-write-u32 c = search needs
@@ -52,13 +52,13 @@ returns c =
     let asker = number .before .before .before .before in
     let kind = asker .before .before .before .before in
     let size = kind .before .before .before .before in
-    let said = size .before .before in
+    let said = size .before .before .before in
     answer-written _ _ _ _ _ _ _ _ (said .before .before .args .a) _ (said .paper .ensures)
     (size .write-u16 .ensures)
     (kind .write-u162 .ensures)
     (asker .write-u163 .ensures)
     (number .write-u164 .ensures)
-    (key .write-u64 .ensures)
+    (key .write .ensures)
     (rec .write-u32 .ensures)
 
 pub put-answer-spec : {M : Type 1} → statement M
@@ -73,8 +73,8 @@ put-answer-spec =
     write-u16-requires-3
     add-write-u16-3
     write-u16-requires-4
-    add-write-u64
-    write-u64-requires
+    add-write
+    write-requires
     add-write-u32
     write-u32-requires
     same-length

@@ -17,6 +17,9 @@ mode-at-requires c κs = search needs
 filler-at-requires : tie.Need-filler-at-requires
 filler-at-requires c κs = search needs
 
+same-requires : tie.Need-same-requires
+same-requires c κs = search needs
+
 returns : tie.Need-returns
 returns c = search (needs, slot-free)
 
@@ -37,6 +40,7 @@ is-slot-spec =
     holder-at-requires
     mode-at-requires
     filler-at-requires
+    same-requires
     returns
     returns-2
     is-running-requires

@@ -7,11 +7,11 @@ use Rattle.tables.proofs.locks.name_at.Tie as tie
 slot-place-requires : tie.Need-slot-place-requires
 slot-place-requires c κs = search needs
 
-read-u64-requires : tie.Need-read-u64-requires
-read-u64-requires c κs = search needs
+read-requires : tie.Need-read-requires
+read-requires c κs = search needs
 
 returns : tie.Need-returns
 returns c = cc
 
 pub name-at-spec : {M : Type 1} → statement M
-name-at-spec = tie.close (tie.spec slot-place-requires read-u64-requires returns)
+name-at-spec = tie.close (tie.spec slot-place-requires read-requires returns)

@@ -14,8 +14,8 @@ add-q c = search needs
 add-r : tie.Need-add-r
 add-r c = search needs
 
-write-u64-requires : tie.Need-write-u64-requires
-write-u64-requires c κs = search needs
+write-requires : tie.Need-write-requires
+write-requires c κs = search needs
 
 write-u16-requires : tie.Need-write-u16-requires
 write-u16-requires c κs = search needs
@@ -43,7 +43,7 @@ put-row-spec =
     slot-place-requires
     add-q
     add-r
-    write-u64-requires
+    write-requires
     write-u16-requires
     write-u16-requires-2
     add-write-u32

@@ -7,17 +7,17 @@ use Rattle.tables.proofs.transactions.lo_at.Tie as tie
 record-place-requires : tie.Need-record-place-requires
 record-place-requires c κs = search needs
 
-add-read-u64 : tie.Need-add-read-u64
-add-read-u64 c = search needs
+add-read : tie.Need-add-read
+add-read c = search needs
 
-add-read-u64-2 : tie.Need-add-read-u64-2
-add-read-u64-2 c = search needs
+add-read-2 : tie.Need-add-read-2
+add-read-2 c = search needs
 
-add-read-u64-3 : tie.Need-add-read-u64-3
-add-read-u64-3 c = search needs
+add-read-3 : tie.Need-add-read-3
+add-read-3 c = search needs
 
-read-u64-requires : tie.Need-read-u64-requires
-read-u64-requires c κs = search needs
+read-requires : tie.Need-read-requires
+read-requires c κs = search needs
 
 returns : tie.Need-returns
 returns c = cc
@@ -27,8 +27,8 @@ lo-at-spec =
     tie.close
     (tie.spec
     record-place-requires
-    add-read-u64
-    add-read-u64-2
-    add-read-u64-3
-    read-u64-requires
+    add-read
+    add-read-2
+    add-read-3
+    read-requires
     returns)

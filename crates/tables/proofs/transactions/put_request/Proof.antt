@@ -24,14 +24,14 @@ write-u16-requires c κs = search needs
 write-u32-requires : tie.Need-write-u32-requires
 write-u32-requires c κs = search needs
 
-write-u64-requires : tie.Need-write-u64-requires
-write-u64-requires c κs = search needs
+write-requires : tie.Need-write-requires
+write-requires c κs = search needs
 
-add-write-u64 : tie.Need-add-write-u64
-add-write-u64 c = search needs
+add-write : tie.Need-add-write
+add-write c = search needs
 
-write-u64-requires-2 : tie.Need-write-u64-requires-2
-write-u64-requires-2 c κs = search needs
+write-requires-2 : tie.Need-write-requires-2
+write-requires-2 c κs = search needs
 
 same-length : tie.Need-same-length
 same-length c = search needs
@@ -50,8 +50,8 @@ put-request-spec =
     add-lo-at
     write-u16-requires
     write-u32-requires
-    write-u64-requires
-    add-write-u64
-    write-u64-requires-2
+    write-requires
+    add-write
+    write-requires-2
     same-length
     returns)

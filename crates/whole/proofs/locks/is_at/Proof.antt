@@ -25,6 +25,9 @@ part-key-at-end c = search needs
 key-at-requires : tie.Need-key-at-requires
 key-at-requires c κs = (search (needs, lent-size), search needs)
 
+same-requires : tie.Need-same-requires
+same-requires c κs = search needs
+
 returns : tie.Need-returns
 returns c = search (needs, key-lent)
 
@@ -38,4 +41,5 @@ is-at-spec =
     part-key-at-start
     part-key-at-end
     key-at-requires
+    same-requires
     returns)

@@ -23,6 +23,12 @@ enum-told-2 c = search needs
 returns-2 : tie.Need-returns-2
 returns-2 c = search (needs, free-after)
 
+is-below-requires : tie.Need-is-below-requires
+is-below-requires c κs = search needs
+
+same-requires : tie.Need-same-requires
+same-requires c κs = search needs
+
 conflicts-requires : tie.Need-conflicts-requires
 conflicts-requires c κs = search needs
 
@@ -39,5 +45,7 @@ comes-first-spec =
     enum-known-b
     enum-told-2
     returns-2
+    is-below-requires
+    same-requires
     conflicts-requires
     returns-3)

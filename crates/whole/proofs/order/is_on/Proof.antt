@@ -14,8 +14,11 @@ enum-told c = search needs
 returns : tie.Need-returns
 returns c = search (needs, free-on)
 
+same-requires : tie.Need-same-requires
+same-requires c κs = search needs
+
 returns-2 : tie.Need-returns-2
 returns-2 c = search (needs, held-on)
 
 pub is-on-spec : {M : Type 1} → statement M
-is-on-spec = tie.close (tie.spec enum-known-a enum-told returns returns-2)
+is-on-spec = tie.close (tie.spec enum-known-a enum-told returns same-requires returns-2)

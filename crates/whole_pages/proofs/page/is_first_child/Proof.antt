@@ -2,19 +2,22 @@
 -- Assumes nothing.
 use borrow.Author.Needs.{needs}
 use Rattle.whole_pages.specs.Checks.{firstOk, childFieldsAt}
-use Rattle.numbers.specs.Numbers.{fieldsAt}
+use Rattle.pages.specs.Layout.{childIn, childAt}
 use Rattle.whole_pages.proofs.page.is_first_child.Statement.{statement}
 use Rattle.whole_pages.proofs.page.is_first_child.Tie as tie
 
-read-u64-requires : tie.Need-read-u64-requires
-read-u64-requires c κs = search needs
+low-at-requires : tie.Need-low-at-requires
+low-at-requires c κs = search needs
+
+same-requires : tie.Need-same-requires
+same-requires c κs = search needs
 
 is-child-requires : tie.Need-is-child-requires
 is-child-requires c κs = search needs
 
 returns : tie.Need-returns
-unfolding firstOk childFieldsAt fieldsAt
+unfolding firstOk childFieldsAt childAt childIn
 returns c = cc
 
 pub is-first-child-spec : {M : Type 1} → statement M
-is-first-child-spec = tie.close (tie.spec read-u64-requires is-child-requires returns)
+is-first-child-spec = tie.close (tie.spec low-at-requires same-requires is-child-requires returns)

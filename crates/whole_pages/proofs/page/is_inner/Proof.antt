@@ -31,14 +31,8 @@ returns c = search (needs, inner-headless)
 loop-holds : tie.Need-loop-holds Inv-loop μ-loop
 loop-holds c = (search (needs, inner-few), (search needs, (search (needs, inner-some), search needs)))
 
-mul-read-u64 : tie.Need-mul-read-u64 Inv-loop μ-loop
-mul-read-u64 c = search needs
-
-add-read-u64 : tie.Need-add-read-u64 Inv-loop μ-loop
-add-read-u64 c = search needs
-
-read-u64-requires : tie.Need-read-u64-requires Inv-loop μ-loop
-read-u64-requires c κs = search needs
+low-at-requires : tie.Need-low-at-requires Inv-loop μ-loop
+low-at-requires c κs = search needs
 
 is-between-requires : tie.Need-is-between-requires Inv-loop μ-loop
 is-between-requires c κs = search needs
@@ -87,9 +81,7 @@ is-inner-spec =
     is-first-child-requires
     returns
     loop-holds
-    mul-read-u64
-    add-read-u64
-    read-u64-requires
+    low-at-requires
     is-between-requires
     is-child-requires
     returns-2

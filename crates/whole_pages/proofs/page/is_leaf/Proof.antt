@@ -1,21 +1,23 @@
--- `whole_pages::page::is_leaf` meets its contract. The invariant: the test of all entries is the test of those from i on, from `least` on.
--- The measure is the number of entries left. Assumes nothing.
+-- `whole_pages::page::is_leaf` meets its contract. The invariant: the test of all entries is the test of those from i on, above `last` or
+-- from the low end on. The measure is the number of entries left. Assumes nothing.
 use borrow.Author.Needs.{needs}
+use mathlib.Core.Bool.{true}
 use mathlib.Core.Path.{_≡_}
 use Prim.Native.Nat.{_-_, _≤_}
+use lib.Dec.{eqb}
 use Rattle.limits.specs.Limits.{leafMost}
 use Rattle.lists.specs.Lists.{tab}
 use Rattle.whole_pages.specs.Checks.{entryFieldsAt, entriesOk}
-use Rattle.whole_pages.proofs.PageTurns.{leaf-few, next-fits, leaf-headless, leaf-bad, leaf-next, leaf-done}
+use Rattle.whole_pages.proofs.PageTurns.{leaf-few, leaf-headless, leaf-bad, leaf-next, leaf-done}
 use native.Mathlib.Nat.{sub-zero}
 use Rattle.whole_pages.proofs.page.is_leaf.Statement.{statement}
 use Rattle.whole_pages.proofs.page.is_leaf.Tie as tie
 
 abbrev Inv-loop : tie.InvT-loop
-Inv-loop p high n least₀ i₀ least i = (n ≤ leafMost) × ((i ≤ n) × (entriesOk (least₀ .0) (high .0) (tab n 0 (entryFieldsAt p)) ≡ entriesOk (least .0) (high .0) (tab (n - i) i (entryFieldsAt p))))
+Inv-loop p high n last₀ i₀ last i = (n ≤ leafMost) × ((i ≤ n) × (entriesOk true (last₀ .0) (high .0) (tab n 0 (entryFieldsAt p)) ≡ entriesOk (eqb i 0) (last .0) (high .0) (tab (n - i) i (entryFieldsAt p))))
 
 abbrev μ-loop : tie.MeasureT-loop
-μ-loop p high n least₀ i₀ least i = n - i
+μ-loop p high n last₀ i₀ last i = n - i
 
 count-of-requires : tie.Need-count-of-requires Inv-loop μ-loop
 count-of-requires c κs = search needs
@@ -29,26 +31,17 @@ returns c = search (needs, leaf-headless)
 loop-holds : tie.Need-loop-holds Inv-loop μ-loop
 loop-holds c = (search (needs, leaf-few), (search needs, simp sub-zero))
 
-mul-read-u64 : tie.Need-mul-read-u64 Inv-loop μ-loop
-mul-read-u64 c = search needs
+key-at-requires : tie.Need-key-at-requires Inv-loop μ-loop
+key-at-requires c κs = search needs
 
-add-read-u64 : tie.Need-add-read-u64 Inv-loop μ-loop
-add-read-u64 c = search needs
-
-read-u64-requires : tie.Need-read-u64-requires Inv-loop μ-loop
-read-u64-requires c κs = search needs
-
-is-in-requires : tie.Need-is-in-requires Inv-loop μ-loop
-is-in-requires c κs = search needs
+is-next-requires : tie.Need-is-next-requires Inv-loop μ-loop
+is-next-requires c κs = search needs
 
 is-entry-requires : tie.Need-is-entry-requires Inv-loop μ-loop
 is-entry-requires c κs = search needs
 
 returns-2 : tie.Need-returns-2 Inv-loop μ-loop
 returns-2 c = search (needs, leaf-bad)
-
-add-t13 : tie.Need-add-t13 Inv-loop μ-loop
-add-t13 c = search (needs, next-fits)
 
 add-i : tie.Need-add-i Inv-loop μ-loop
 add-i c = search needs
@@ -87,13 +80,10 @@ is-leaf-spec =
     has-head-requires
     returns
     loop-holds
-    mul-read-u64
-    add-read-u64
-    read-u64-requires
-    is-in-requires
+    key-at-requires
+    is-next-requires
     is-entry-requires
     returns-2
-    add-t13
     add-i
     loop-less
     loop-again
