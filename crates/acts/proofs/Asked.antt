@@ -7,8 +7,8 @@ use Rattle.rules.specs.Kinds.{read, insert, delete}
 use Rattle.entries.specs.declared.Key.{Key}
 use Rattle.entries.specs.declared.Ask.{Ask}
 use Rattle.entries.specs.declared.Ask.the-variants as AV
-use Rattle.entries.specs.Meaning.{bookAsk}
-use Rattle.tables.specs.Layout.{inPlace, askAt, queuedAt}
+use Rattle.entries.specs.RequestMeaning.{bookAsk}
+use Rattle.tables.specs.QueueLayout.{inPlace, askAt, queuedAt}
 
 module _ (d : List ℕ) (q t : ℕ) (a : t ≡ inPlace d q) (ask : Ask) (e : bookAsk ask ≡ askAt d t) where
   asked : (x : Ask) → ask ≡ x → queuedAt d q .asks ≡ bookAsk x

@@ -24,9 +24,12 @@ use Rattle.entries.specs.declared.Key.{Key}
 use Rattle.entries.specs.declared.Entry as E
 use Rattle.entries.specs.declared.Says as D
 use Rattle.entries.specs.declared.Says.the-variants as DV
-use Rattle.entries.specs.Meaning.{bookEntry, bookSays}
-use Rattle.tables.specs.Layout.{queued, inPlace, nameIn}
-use Rattle.tables.specs.Moves.{heldIn, freeIn, takenAt, lockTaken, queueLeft}
+use Rattle.entries.specs.EntryMeaning.{bookEntry}
+use Rattle.entries.specs.AnswerMeaning.{bookSays}
+use Rattle.tables.specs.QueueLayout.{queued, inPlace}
+use Rattle.tables.specs.SlotLayout.{nameIn}
+use Rattle.tables.specs.SlotMoves.{heldIn, freeIn, takenAt, lockTaken}
+use Rattle.tables.specs.QueueMoves.{queueLeft}
 use Rattle.tables.proofs.Takes.{taken-there}
 use Rattle.tables.proofs.Frames.{only-taken, queued-beside, place-beside}
 use Rattle.index.specs.declared.Found.{Found}

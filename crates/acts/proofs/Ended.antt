@@ -22,9 +22,11 @@ use Rattle.rules.proofs.Orders.{numbers-ordered}
 use Rattle.rules.proofs.Sound.{Settles, committed-settles, rolledBack-settles, sound-ended}
 use Rattle.rules.proofs.Unblocked.{good-sound, good-queues}
 use Rattle.rules.proofs.GoodKept.{sound-good}
-use Rattle.pages.specs.Rows.{endOf}
-use Rattle.tables.specs.Layout.{queued, inPlace, queueOf, slotsOf, marksOf}
-use Rattle.tables.specs.Moves.{locksReleased, waitsIn, queueLeft, markPut}
+use Rattle.pages.specs.PageChanges.{endOf}
+use Rattle.tables.specs.QueueLayout.{queued, inPlace, queueOf, marksOf}
+use Rattle.tables.specs.SlotLayout.{slotsOf}
+use Rattle.tables.specs.SlotMoves.{locksReleased}
+use Rattle.tables.specs.QueueMoves.{waitsIn, queueLeft, markPut}
 use Rattle.tables.proofs.Queues.{waits-there}
 use Rattle.index.specs.Pictures.{indexOf}
 use Rattle.index.specs.Changes.{settledIn, Becomes}

@@ -12,9 +12,11 @@ use Rattle.entries.specs.declared.Key.{Key}
 use Rattle.entries.specs.declared.Entry as E
 use Rattle.entries.specs.declared.Says as D
 use Rattle.entries.specs.declared.Says.the-variants as DV
-use Rattle.entries.specs.Meaning.{bookSays}
-use Rattle.tables.specs.Layout.{inPlace, queuedAt, nameIn, nameNumber}
-use Rattle.tables.specs.Moves.{lockTaken, lockGiven, queueLeft}
+use Rattle.entries.specs.AnswerMeaning.{bookSays}
+use Rattle.tables.specs.QueueLayout.{inPlace, queuedAt}
+use Rattle.tables.specs.SlotLayout.{nameIn, nameNumber}
+use Rattle.tables.specs.SlotMoves.{lockTaken, lockGiven}
+use Rattle.tables.specs.QueueMoves.{queueLeft}
 use Rattle.index.specs.declared.Found.{Found}
 use Rattle.index.specs.declared.Found.the-variants as FV
 use Rattle.index.specs.Pictures.{entriesIn}

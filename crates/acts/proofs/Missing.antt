@@ -26,9 +26,11 @@ use Rattle.trees.specs.Shapes.{shape}
 use Rattle.trees.proofs.Shaped.{fits-shape}
 use Rattle.entries.specs.declared.Entry as E
 use Rattle.entries.specs.declared.Says.the-variants as S
-use Rattle.entries.specs.Meaning.{bookEntry}
-use Rattle.tables.specs.Layout.{inPlace, queuedAt, slotsOf, nameIn}
-use Rattle.tables.specs.Moves.{heldIn, freeIn, lockTaken, lockGiven, queueLeft}
+use Rattle.entries.specs.EntryMeaning.{bookEntry}
+use Rattle.tables.specs.QueueLayout.{inPlace, queuedAt}
+use Rattle.tables.specs.SlotLayout.{slotsOf, nameIn}
+use Rattle.tables.specs.SlotMoves.{heldIn, freeIn, lockTaken, lockGiven}
+use Rattle.tables.specs.QueueMoves.{queueLeft}
 use Rattle.tables.proofs.Takes.{holds-is, none-held, refused-same}
 use Rattle.index.specs.declared.Found.{Found}
 use Rattle.index.specs.declared.Found.the-variants as FV

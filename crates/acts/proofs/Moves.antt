@@ -18,8 +18,9 @@ use Rattle.rules.specs.Good.{Good}
 use Rattle.rules.proofs.Orders.{numbers-ordered}
 use Rattle.rules.proofs.GoodKept.{good-kept}
 use Rattle.rules.proofs.Keeps.{Kept, Anyone}
-use Rattle.tables.specs.Layout.{queued, queuedAt, queueOf, slotsOf, marksOf, inPlace}
-use Rattle.tables.specs.Moves.{markPut, queueJoined, queueLeft}
+use Rattle.tables.specs.QueueLayout.{queued, queuedAt, queueOf, marksOf, inPlace}
+use Rattle.tables.specs.SlotLayout.{slotsOf}
+use Rattle.tables.specs.QueueMoves.{markPut, queueJoined, queueLeft}
 use Rattle.tables.proofs.Queues.{length-queue}
 use Rattle.desks.specs.States.{book, stateOf, deskWith}
 use Rattle.desks.specs.Whole.{Whole, Says}

@@ -7,8 +7,9 @@ use Rattle.rules.specs.Kinds.{Ask}
 use Rattle.rules.specs.Locks.{target, named, itself}
 use Rattle.entries.specs.declared.Key.{Key}
 use Rattle.entries.specs.declared.Entry as E
-use Rattle.tables.specs.Layout.{inPlace, queuedAt, nameIn, nameNumber}
-use Rattle.tables.specs.Moves.{heldIn}
+use Rattle.tables.specs.QueueLayout.{inPlace, queuedAt}
+use Rattle.tables.specs.SlotLayout.{nameIn, nameNumber}
+use Rattle.tables.specs.SlotMoves.{heldIn}
 use Rattle.index.specs.declared.Found.{Found}
 use Rattle.index.specs.declared.Found.the-variants as FV
 use Rattle.index.specs.Pictures.{entriesIn}

@@ -23,8 +23,8 @@ use Rattle.trees.specs.Trees.{Index, flat}
 use Rattle.tables.specs.declared.Lock as L
 use Rattle.tables.specs.declared.Slot as Sl
 use Rattle.tables.specs.declared.Slot.the-variants as SV
-use Rattle.tables.specs.Layout.{nameNumber, slotAt, slotsOf, bookMode, bookSlot}
-use Rattle.tables.proofs.Values.{name-back}
+use Rattle.tables.specs.SlotLayout.{nameNumber, slotAt, slotsOf, bookMode, bookSlot}
+use Rattle.tables.proofs.LockValues.{name-back}
 use Rattle.index.specs.Pictures.{Item, indexOf, entriesIn, WholePages}
 use Rattle.index.specs.Changes.{settledIn, settledAt, Becomes}
 use Rattle.index.proofs.Ends.{settled-after, owned-still, settled-none}

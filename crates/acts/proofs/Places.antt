@@ -11,7 +11,8 @@ use Rattle.lists.proofs.Tables.{tab-next, tab-append}
 use Rattle.rules.specs.Entries.{Entries}
 use Rattle.rules.specs.Locks.{Slots, blockers}
 use Rattle.rules.specs.Queue.{Q, Wait, waitsFrom, waits}
-use Rattle.tables.specs.Layout.{queued, queuedAt, queueOf, slotsOf}
+use Rattle.tables.specs.QueueLayout.{queued, queuedAt, queueOf}
+use Rattle.tables.specs.SlotLayout.{slotsOf}
 use Rattle.index.specs.Pictures.{entriesIn}
 use Rattle.desks.specs.States.{book, stateOf}
 

@@ -15,9 +15,11 @@ use Rattle.rules.specs.Queue.{leave}
 use Rattle.rules.specs.Runs.{Sy, locksShort, Ran, unmoved, locked, given, taking, left, run}
 use Rattle.trees.specs.Shapes.{shape}
 use Rattle.entries.specs.declared.Says as S
-use Rattle.entries.specs.Meaning.{bookSays}
-use Rattle.tables.specs.Layout.{queued, inPlace, queuedAt, queueOf, slotsOf, marksOf}
-use Rattle.tables.specs.Moves.{lockTaken, lockGiven, queueLeft}
+use Rattle.entries.specs.AnswerMeaning.{bookSays}
+use Rattle.tables.specs.QueueLayout.{queued, inPlace, queuedAt, queueOf, marksOf}
+use Rattle.tables.specs.SlotLayout.{slotsOf}
+use Rattle.tables.specs.SlotMoves.{lockTaken, lockGiven}
+use Rattle.tables.specs.QueueMoves.{queueLeft}
 use Rattle.tables.proofs.Queues.{length-queue}
 use Rattle.index.specs.Pictures.{keyOf, indexOf, entriesIn, WholePages}
 use Rattle.desks.specs.States.{book, stateOf, deskWith}

@@ -11,7 +11,8 @@ use Rattle.rules.specs.Kinds.{Lock, Queued, Mark}
 use Rattle.rules.specs.Queue.{St}
 use Rattle.rules.specs.Good.{Good}
 use Rattle.trees.specs.Shapes.{shape}
-use Rattle.tables.specs.Layout.{queued, slotsOf, queueOf, marksOf}
+use Rattle.tables.specs.QueueLayout.{queued, queueOf, marksOf}
+use Rattle.tables.specs.SlotLayout.{slotsOf}
 use Rattle.tables.proofs.Queues.{length-queue}
 use Rattle.index.specs.Pictures.{keyOf, indexOf, entriesIn, WholePages}
 use Rattle.desks.specs.States.{book, stateOf, deskWith}

@@ -6,8 +6,9 @@ use Rattle.lists.specs.Lists.{tab}
 use Rattle.rules.specs.Locks.{blockers}
 use Rattle.rules.specs.Runs.{Turn, left, run}
 use Rattle.entries.specs.declared.Answer.{Answer}
-use Rattle.entries.specs.Meaning.{bookAnswer}
-use Rattle.tables.specs.Layout.{queued, queuedAt, slotsOf}
+use Rattle.entries.specs.AnswerMeaning.{bookAnswer}
+use Rattle.tables.specs.QueueLayout.{queued, queuedAt}
+use Rattle.tables.specs.SlotLayout.{slotsOf}
 use Rattle.index.specs.Pictures.{entriesIn}
 use Rattle.desks.specs.States.{book, stateOf}
 use Rattle.desks.specs.Whole.{Says}

@@ -6,7 +6,7 @@ use lib.Dec.{eqb}
 use Rattle.rules.specs.Kinds.{S, Lock}
 use Rattle.rules.specs.Locks.{conflict}
 use Rattle.trees.specs.Trees.{Index}
-use Rattle.tables.specs.Layout.{nameNumber}
+use Rattle.tables.specs.SlotLayout.{nameNumber}
 use Rattle.index.specs.Pictures.{Item}
 use Rattle.index.specs.Changes.{settledAt}
 

@@ -2,8 +2,10 @@
 ghost use mathlib.Core.Path.{_≡_};
 ghost use Prim.Native.Nat.{_<_, _≤_};
 ghost use Rattle.limits.specs.Limits.{transactionsMost, deskSize};
-ghost use Rattle.tables.specs.Layout.{queued, inPlace, nameIn, bookMode};
-ghost use Rattle.tables.specs.Moves.{heldIn, freeIn, lockTaken, lockGiven, queueLeft};
+ghost use Rattle.tables.specs.QueueLayout.{queued, inPlace};
+ghost use Rattle.tables.specs.SlotLayout.{nameIn, bookMode};
+ghost use Rattle.tables.specs.SlotMoves.{heldIn, freeIn, lockTaken, lockGiven};
+ghost use Rattle.tables.specs.QueueMoves.{queueLeft};
 use entries::Key;
 use tables::Mode;
 use tables::locks;

@@ -11,7 +11,7 @@ use Rattle.numbers.specs.Numbers.{widthOf, part}
 use Rattle.numbers.proofs.Parts.{part-same, part-apart}
 use Rattle.numbers.proofs.Splices.{part-append, put-row}
 use Rattle.rules.specs.Runs.{Answer}
-use Rattle.entries.specs.Records.{answerWidths, answerFields, putAnswer, written}
+use Rattle.entries.specs.AnswerRecord.{answerWidths, answerFields, putAnswer, written}
 use Rattle.entries.proofs.Answers.{length-putAnswer}
 use Rattle.entries.proofs.Written.{touches-written}
 use Rattle.calls.specs.Promise.{returned}

@@ -18,7 +18,8 @@ use Rattle.rules.specs.Kinds.{Ask, read, insert, delete, Request, ask, Call}
 use Rattle.rules.specs.Queue.{St}
 use Rattle.rules.specs.Runs.{Answer}
 use Rattle.rules.specs.Desk.{isTransaction, legalRequest}
-use Rattle.entries.specs.Records.{heard, answerWidths, answerFields, putAnswer, written}
+use Rattle.entries.specs.RequestRecord.{heard}
+use Rattle.entries.specs.AnswerRecord.{answerWidths, answerFields, putAnswer, written}
 use Rattle.entries.proofs.Number12.{RequestFits, heard-legal, heard-fits}
 use Rattle.desks.specs.States.{book, stateOf}
 use Rattle.desks.specs.Fitting.{AskFits}

@@ -16,7 +16,7 @@ use Rattle.rules.specs.Queue.{St}
 use Rattle.rules.specs.Good.{Good}
 use Rattle.rules.specs.Desk.{step, fresh, call, stateAfter, after, legalCall}
 use Rattle.rules.proofs.Answers.{few-answers}
-use Rattle.entries.specs.Records.{heard}
+use Rattle.entries.specs.RequestRecord.{heard}
 use Rattle.entries.proofs.Number12.{heard-legal}
 use Rattle.desks.specs.States.{book, stateOf}
 use Rattle.desks.specs.Whole.{Whole}

@@ -14,7 +14,8 @@ use Rattle.rules.specs.Kinds.{Call}
 use Rattle.rules.specs.Queue.{St}
 use Rattle.rules.specs.Runs.{Answer}
 use Rattle.rules.specs.Desk.{step, fresh}
-use Rattle.entries.specs.Records.{heard, putAnswer, written}
+use Rattle.entries.specs.RequestRecord.{heard}
+use Rattle.entries.specs.AnswerRecord.{putAnswer, written}
 use Rattle.desks.specs.States.{book, stateOf}
 use Rattle.desks.specs.Whole.{Whole}
 use Rattle.calls.specs.Promise.{Served, lent, shortSpace, returned}

@@ -13,7 +13,8 @@ use Rattle.numbers.specs.Numbers.{Bytes}
 use Rattle.rules.specs.Kinds.{Call}
 use Rattle.rules.specs.Runs.{Worked}
 use Rattle.rules.specs.Desk.{step, fresh}
-use Rattle.entries.specs.Records.{heard, written}
+use Rattle.entries.specs.RequestRecord.{heard}
+use Rattle.entries.specs.AnswerRecord.{written}
 use Rattle.desks.specs.States.{book, stateOf}
 use Rattle.desks.specs.Whole.{Whole}
 

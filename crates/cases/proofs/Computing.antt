@@ -4,7 +4,8 @@ use Rattle.lists.specs.Lists as L
 use Rattle.numbers.specs.Numbers as N
 use Rattle.rules.proofs.Computing as B
 use Rattle.trees.specs.Growth as G
-use Rattle.entries.specs.Records as W
+use Rattle.entries.specs.RequestRecord as W
+use Rattle.entries.specs.AnswerRecord as An
 use Rattle.cases.specs.Overs as O
 
 -- the rule book
@@ -24,7 +25,7 @@ the-records = tt
 
 -- answers as their bytes
 unfoldable pub the-answers : Unit {0}
-unfolding L.join N.putNumber N.putFields W.answerFields W.putAnswer
+unfolding L.join N.putNumber N.putFields An.answerFields An.putAnswer
 the-answers = tt
 
 -- document 01's cases, as they are stated and scored

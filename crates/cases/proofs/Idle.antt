@@ -21,7 +21,8 @@ use Rattle.rules.specs.Kinds.{read, insert, Request, begin, commit, rollback, a
 use Rattle.rules.specs.Locks as K
 use Rattle.rules.specs.Queue as Q
 use Rattle.rules.specs.Desk as D
-use Rattle.entries.specs.Records as W
+use Rattle.entries.specs.RequestRecord as W
+use Rattle.entries.specs.AnswerRecord as An
 use Rattle.desks.specs.States.{book, stateOf}
 use Rattle.desks.specs.Whole.{Whole}
 use Rattle.desks.specs.Fresh.{freshPages, freshDesk}
@@ -89,7 +90,7 @@ record Known : Type 0 where
   roomy : shortSpace space ≡ false
 
 known : Known
-unfolding the-book the-pages the-records W.answerFields W.putAnswer W.written C.callIn C.callsIn C.backOf
+unfolding the-book the-pages the-records An.answerFields An.putAnswer An.written C.callIn C.callsIn C.backOf
 known =
     record {
       readOne = refl;

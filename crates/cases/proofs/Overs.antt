@@ -20,7 +20,7 @@ use Rattle.rules.specs.Queue.{St}
 use Rattle.rules.specs.Runs.{Answer, Worked}
 use Rattle.rules.specs.Desk as D
 use Rattle.rules.specs.Cases as C
-use Rattle.entries.specs.Records as W
+use Rattle.entries.specs.RequestRecord as W
 use Rattle.trees.specs.Trees.{documentSizes}
 use Rattle.trees.specs.Shapes.{treePaging}
 use Rattle.desks.specs.States.{book}

@@ -12,7 +12,7 @@ use Rattle.numbers.specs.Numbers.{Bytes, widthOf}
 use Rattle.numbers.proofs.Kept.{bytes-zeros, bytes-putFields}
 use Rattle.rules.specs.Kinds.{Call}
 use Rattle.rules.specs.Cases.{Over, Case}
-use Rattle.entries.specs.Records as W
+use Rattle.entries.specs.RequestRecord as W
 use Rattle.calls.specs.Promise.{shortSpace}
 use Rattle.calls.specs.Calls.{Sent, Back, BytesSent}
 use Rattle.calls.proofs.Outcomes.{some-run}

@@ -22,13 +22,14 @@ use Rattle.entries.specs.declared.Request.{Request}
 use Rattle.entries.specs.declared.Request.the-variants.{Begin, Commit, Rollback, Asks}
 use Rattle.entries.specs.declared.Call.{Call}
 use Rattle.entries.specs.declared.Says as D
-use Rattle.entries.specs.Meaning.{bookAsk, bookRequest, bookCall, bookSays, bookAnswer}
-use Rattle.entries.specs.Records.{putAnswer, written}
+use Rattle.entries.specs.RequestMeaning.{bookAsk, bookRequest, bookCall}
+use Rattle.entries.specs.AnswerMeaning.{bookSays, bookAnswer}
+use Rattle.entries.specs.AnswerRecord.{putAnswer, written}
 use Rattle.entries.proofs.Answers.{length-putAnswer}
 use Rattle.entries.proofs.Written.{written-append, length-written}
-use Rattle.pages.specs.Rows.{endOf}
-use Rattle.tables.specs.Layout.{queued, isWaiting}
-use Rattle.tables.specs.Moves.{markPut, queueJoined}
+use Rattle.pages.specs.PageChanges.{endOf}
+use Rattle.tables.specs.QueueLayout.{queued, isWaiting}
+use Rattle.tables.specs.QueueMoves.{markPut, queueJoined}
 use Rattle.desks.specs.States.{book, stateOf}
 use Rattle.desks.specs.Fitting.{AskFits}
 use Rattle.desks.specs.Whole.{Whole, Says}

@@ -11,7 +11,7 @@ use Rattle.rules.specs.Document.{endMark}
 use Rattle.entries.specs.declared.Key.{Key}
 use Rattle.entries.specs.declared.Ask.{Ask}
 use Rattle.entries.specs.declared.Ask.the-variants.{Read, Insert, Delete}
-use Rattle.entries.specs.Meaning.{bookAsk}
+use Rattle.entries.specs.RequestMeaning.{bookAsk}
 use Rattle.desks.specs.States.{book}
 use Rattle.desks.specs.Fitting.{AskFits}
 

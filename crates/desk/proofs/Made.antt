@@ -13,7 +13,7 @@ use Rattle.numbers.specs.Numbers.{putNumber, putFields, zeroed}
 use Rattle.numbers.proofs.Numbers.{getD-putNumber-out}
 use Rattle.numbers.proofs.Moves.{length-zeroed, getD-zeroed-in}
 use Rattle.trees.specs.Shapes.{bare}
-use Rattle.tables.specs.Layout.{headWidths}
+use Rattle.tables.specs.QueueLayout.{headWidths}
 use Rattle.index.specs.Changes.{Becomes}
 use Rattle.desks.specs.States.{stateOf}
 use Rattle.desks.proofs.Says.{headFields}

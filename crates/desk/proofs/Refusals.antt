@@ -12,8 +12,9 @@ use Rattle.rules.specs.Desk.{runs, waitsNow, ifSo, unlessRuns, refusal}
 use Rattle.entries.specs.declared.Ask.{Ask}
 use Rattle.entries.specs.declared.Request.{Request}
 use Rattle.entries.specs.declared.Request.the-variants.{Begin, Commit, Rollback, Asks}
-use Rattle.entries.specs.Meaning.{bookRequest}
-use Rattle.tables.specs.Layout.{isRunning, isWaiting, queueOf, slotsOf, marksOf}
+use Rattle.entries.specs.RequestMeaning.{bookRequest}
+use Rattle.tables.specs.QueueLayout.{isRunning, isWaiting, queueOf, marksOf}
+use Rattle.tables.specs.SlotLayout.{slotsOf}
 use Rattle.tables.proofs.Marks.{running-is}
 use Rattle.desks.specs.States.{book, stateOf}
 use Rattle.desks.proofs.Reading.{desk-waiting}

@@ -13,8 +13,8 @@ use Rattle.rules.specs.Desk.{legalCall}
 use Rattle.entries.specs.declared.Call.{Call}
 use Rattle.entries.specs.declared.Heard.{Heard}
 use Rattle.entries.specs.declared.Heard.the-variants.{Good, Bad}
-use Rattle.entries.specs.Meaning.{bookCall, bookHeard}
-use Rattle.entries.specs.Records.{heard}
+use Rattle.entries.specs.RequestMeaning.{bookCall, bookHeard}
+use Rattle.entries.specs.RequestRecord.{heard}
 use Rattle.entries.proofs.Number12.{heard-legal}
 use Rattle.desks.specs.States.{book}
 use Rattle.desks.specs.Whole.{Whole, Judged}

@@ -8,8 +8,8 @@ use lib.ListN.{length}
 use Rattle.limits.specs.Limits.{answerSize}
 use Rattle.rules.specs.Desk.{waitsNow, says, waitingLast}
 use Rattle.rules.specs.Runs.{Sy, waiting, Worked}
-use Rattle.entries.specs.Meaning.{bookSays}
-use Rattle.tables.specs.Layout.{queued}
+use Rattle.entries.specs.AnswerMeaning.{bookSays}
+use Rattle.tables.specs.QueueLayout.{queued}
 use Rattle.desks.specs.States.{book, stateOf}
 use Rattle.turns.specs.Working.{workedOf}
 use Rattle.desk.specs.declared.Refusal.{Refusal}

@@ -4,7 +4,7 @@ ghost use mathlib.Core.Bool.{true, false};
 ghost use Prim.Native.Nat.{_≤_};
 ghost use Rattle.limits.specs.Limits.{transactionsMost};
 ghost use Rattle.rules.specs.Desk.{runs, waitsNow, joined, legalAsk};
-ghost use Rattle.entries.specs.Meaning.{bookAsk};
+ghost use Rattle.entries.specs.RequestMeaning.{bookAsk};
 ghost use Rattle.desks.specs.States.{book, stateOf};
 ghost use Rattle.desks.specs.Fitting.{AskFits};
 ghost use Rattle.desks.specs.Whole.{Whole, Says};

@@ -4,7 +4,7 @@ ghost use Prim.Native.Nat.{_≤_};
 ghost use Rattle.limits.specs.Limits.{transactionsMost};
 ghost use Rattle.rules.specs.Runs.{runsAlready, waitsAlready};
 ghost use Rattle.rules.specs.Desk.{ifSo, unlessRuns, refusal};
-ghost use Rattle.entries.specs.Meaning.{bookRequest};
+ghost use Rattle.entries.specs.RequestMeaning.{bookRequest};
 ghost use Rattle.desks.specs.States.{book, stateOf};
 ghost use Rattle.desks.specs.Whole.{Whole};
 ghost use Rattle.desk.specs.Answering.{bookRefusal};

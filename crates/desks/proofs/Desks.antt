@@ -21,7 +21,8 @@ use Rattle.numbers.proofs.Fields.{fields-fit}
 use Rattle.numbers.proofs.Splices.{agree-ahead, agree-behind, agree-row}
 use Rattle.numbers.proofs.Kept.{bytes-append, bytes-zeros, bytes-join}
 use Rattle.rules.specs.Kinds.{Lock, Queued, Mark}
-use Rattle.tables.specs.Layout.{headWidths, queuePlace, inPlace, recordWidths, recordPlace, recordAt, lockWidths, lockPlace, slotFields}
+use Rattle.tables.specs.QueueLayout.{headWidths, queuePlace, inPlace, recordWidths, recordPlace, recordAt}
+use Rattle.tables.specs.SlotLayout.{lockWidths, lockPlace, slotFields}
 use Rattle.desks.specs.States.{written, recordOf, deskWith}
 use Rattle.desks.specs.Fitting.{Fitting}
 use Rattle.desks.proofs.Written.{length-written, bytes-written, fields-written}

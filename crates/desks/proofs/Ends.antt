@@ -14,8 +14,9 @@ use Rattle.rules.specs.Kinds.{Queued, Mark, idle, Lock, Paging}
 use Rattle.rules.specs.Locks.{released}
 use Rattle.rules.specs.Queue.{leave}
 use Rattle.rules.specs.Document.{document}
-use Rattle.tables.specs.Layout.{queued, queueOf}
-use Rattle.tables.specs.Moves.{locksReleased, waitsIn, queueLeft, markPut}
+use Rattle.tables.specs.QueueLayout.{queued, queueOf}
+use Rattle.tables.specs.SlotMoves.{locksReleased}
+use Rattle.tables.specs.QueueMoves.{waitsIn, queueLeft, markPut}
 use Rattle.tables.proofs.Queues.{waits-there, leave-none}
 use Rattle.desks.specs.States.{deskWith}
 use Rattle.desks.specs.Fitting.{Fitting}

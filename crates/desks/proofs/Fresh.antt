@@ -16,7 +16,8 @@ use Rattle.numbers.proofs.Fields.{length-putFields, touches-putFields, fields-s
 use Rattle.numbers.proofs.Kept.{bytes-putFields}
 use Rattle.rules.specs.Kinds.{Lock, Mark, idle}
 use Rattle.rules.specs.Locks.{inUse}
-use Rattle.tables.specs.Layout.{headWidths, queuePlace, recordWidths, recordPlace, recordAt, lockWidths, lockPlace, slotFields}
+use Rattle.tables.specs.QueueLayout.{headWidths, queuePlace, recordWidths, recordPlace, recordAt}
+use Rattle.tables.specs.SlotLayout.{lockWidths, lockPlace, slotFields}
 use Rattle.desks.specs.States.{markNumber, deskWith}
 use Rattle.desks.specs.Fitting.{Fitting}
 use Rattle.desks.proofs.Says.{headFields, recordFields, Says}

@@ -20,7 +20,7 @@ use Rattle.trees.specs.Trees.{Index, documentSizes, flat}
 use Rattle.trees.specs.Growth.{inLeaves, leaves}
 use Rattle.trees.specs.Shapes.{bare, shape}
 use Rattle.trees.proofs.Wholes.{bare-whole, document-fair}
-use Rattle.pages.specs.Layout.{entriesOf}
+use Rattle.pages.specs.PageLayout.{entriesOf}
 use Rattle.index.specs.Pictures.{Item, keyOf, pageAt, putPage, treeOf, indexOf, entriesIn, leafPage, headPage}
 use Rattle.index.specs.Changes.{Becomes}
 use Rattle.index.proofs.Buffers.{length-page, length-putPage, page-same, page-other}

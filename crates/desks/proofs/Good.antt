@@ -26,7 +26,8 @@ use Rattle.rules.specs.Document.{document, endMark}
 use Rattle.rules.proofs.Orders.{numbers-ordered}
 use Rattle.rules.proofs.Keys.{same-equal}
 use Rattle.rules.proofs.Waits.{in-everyone, runs-known, queued-runs}
-use Rattle.tables.specs.Layout.{recordPlace, recordAt, askIn, askAt, inPlace, queued, queuedAt, slotsOf, queueOf, marksOf}
+use Rattle.tables.specs.QueueLayout.{recordPlace, recordAt, askIn, askAt, inPlace, queued, queuedAt, queueOf, marksOf}
+use Rattle.tables.specs.SlotLayout.{slotsOf}
 use Rattle.desks.specs.States.{book, stateOf}
 use Rattle.desks.specs.Fitting.{NameFits, AskFits, LockFits, QueuedFits, Fitting}
 

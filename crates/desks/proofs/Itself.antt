@@ -16,7 +16,8 @@ use Rattle.rules.specs.Queue.{St}
 use Rattle.rules.specs.Good.{Good}
 use Rattle.trees.specs.Shapes.{shape}
 use Rattle.index.specs.Pictures.{keyOf, indexOf, entriesIn}
-use Rattle.tables.specs.Layout.{headWidths, queued, inPlace, recordAt, lockWidths, lockPlace, slotFields, slotAt, slotsOf, queuedAt, queueOf, marksOf}
+use Rattle.tables.specs.QueueLayout.{headWidths, queued, inPlace, recordAt, queuedAt, queueOf, marksOf}
+use Rattle.tables.specs.SlotLayout.{lockWidths, lockPlace, slotFields, slotAt, slotsOf}
 use Rattle.tables.proofs.Slots.{length-slots, slot-in}
 use Rattle.tables.proofs.Queues.{length-queue}
 use Rattle.desks.specs.States.{book, stateOf, deskWith}

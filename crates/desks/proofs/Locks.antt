@@ -21,8 +21,8 @@ use Rattle.numbers.proofs.Kept.{bytes-putFields, bytes-part, bytes-zeros}
 use Rattle.rules.specs.Kinds.{Queued, Mark, Lock, Mode, Name, Paging}
 use Rattle.rules.specs.Locks.{freed, released}
 use Rattle.rules.specs.Document.{document}
-use Rattle.tables.specs.Layout.{lockWidths, lockPlace, slotFields, slotAt, putSlot, slotsOf}
-use Rattle.tables.specs.Moves.{heldIn, freeIn, strengthened, lockTaken, rowFreed, locksReleased}
+use Rattle.tables.specs.SlotLayout.{lockWidths, lockPlace, slotFields, slotAt, putSlot, slotsOf}
+use Rattle.tables.specs.SlotMoves.{heldIn, freeIn, strengthened, lockTaken, rowFreed, locksReleased}
 use Rattle.tables.proofs.Slots.{slots-put, slot-in}
 use Rattle.tables.proofs.Releases.{row-released}
 use Rattle.tables.proofs.Frames.{OnlyLocks, only-put, only-released, head-kept, place-beside}

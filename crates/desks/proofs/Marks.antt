@@ -14,9 +14,10 @@ use Rattle.numbers.specs.Numbers.{widthOf}
 use Rattle.numbers.proofs.Fields.{fields-apart}
 use Rattle.numbers.proofs.Kept.{bytes-putNumber}
 use Rattle.rules.specs.Kinds.{Queued, Mark, idle, running, Lock}
-use Rattle.tables.specs.Layout.{recordPlace, recordAt, lockWidths, lockPlace}
-use Rattle.tables.specs.Moves as M
-use Rattle.tables.specs.Moves.{markPut}
+use Rattle.tables.specs.QueueLayout.{recordPlace, recordAt}
+use Rattle.tables.specs.SlotLayout.{lockWidths, lockPlace}
+use Rattle.tables.specs.QueueMoves as M
+use Rattle.tables.specs.QueueMoves.{markPut}
 use Rattle.tables.proofs.Frames.{place-beside, touches-mark, mark-head}
 use Rattle.tables.proofs.Records.{record-marked, record-unmarked}
 use Rattle.desks.specs.States.{markNumber}

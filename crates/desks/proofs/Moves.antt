@@ -17,8 +17,9 @@ use Rattle.rules.specs.Locks.{inUse, taken, released}
 use Rattle.rules.specs.Queue.{leave}
 use Rattle.rules.specs.Good.{together}
 use Rattle.rules.specs.Document.{document}
-use Rattle.tables.specs.Layout.{nameNumber, slotsOf}
-use Rattle.tables.specs.Moves.{lockTaken, lockGiven, locksReleased, queueJoined, queueLeft, markPut}
+use Rattle.tables.specs.SlotLayout.{nameNumber, slotsOf}
+use Rattle.tables.specs.SlotMoves.{lockTaken, lockGiven, locksReleased}
+use Rattle.tables.specs.QueueMoves.{queueJoined, queueLeft, markPut}
 use Rattle.tables.proofs.Takes.{taken-is, refused-same}
 use Rattle.desks.specs.States.{deskWith}
 use Rattle.desks.specs.Fitting.{NameFits, AskFits, Fitting}

@@ -24,8 +24,9 @@ use Rattle.numbers.proofs.Moves.{length-copied}
 use Rattle.rules.specs.Kinds.{Ask, read, insert, delete, Queued, Mark, idle, Lock, Paging}
 use Rattle.rules.specs.Queue.{leave}
 use Rattle.rules.specs.Document.{document}
-use Rattle.tables.specs.Layout.{queued, queuePlace, inPlace, recordPlace, recordAt, askWidths, askFields, putAsk, lockWidths, lockPlace, queuedAt, queueOf}
-use Rattle.tables.specs.Moves.{queueJoined, queueLeft}
+use Rattle.tables.specs.QueueLayout.{queued, queuePlace, inPlace, recordPlace, recordAt, askWidths, askFields, putAsk, queuedAt, queueOf}
+use Rattle.tables.specs.SlotLayout.{lockWidths, lockPlace}
+use Rattle.tables.specs.QueueMoves.{queueJoined, queueLeft}
 use Rattle.tables.proofs.Order.{InOrder}
 use Rattle.tables.proofs.Frames.{touches-ask}
 use Rattle.tables.proofs.Queues.{touches-joined, length-joined, head-joined, place-joined, last-joined, length-queue, touches-left, length-left, head-left, count-left, place-behind, place-last, queue-left}

@@ -15,7 +15,8 @@ use Rattle.lists.proofs.Elements.{any-in, none-first, in-place}
 use Rattle.lists.proofs.Tables.{tab-ext, tab-getD, is-tab}
 use Rattle.numbers.specs.Numbers.{numberAt, fieldsAt}
 use Rattle.rules.specs.Kinds.{Ask, read, insert, delete, Lock, Queued, Mark, idle, running}
-use Rattle.tables.specs.Layout.{queued, inPlace, recordPlace, recordAt, markIn, isWaiting, askIn, askAt, askFields, slotIn, slotAt, slotsOf, queuedAt, queueOf, marksOf}
+use Rattle.tables.specs.QueueLayout.{queued, inPlace, recordPlace, recordAt, markIn, isWaiting, askIn, askAt, askFields, queuedAt, queueOf, marksOf}
+use Rattle.tables.specs.SlotLayout.{slotIn, slotAt, slotsOf}
 use Rattle.tables.proofs.Order.{InOrder}
 use Rattle.desks.specs.States.{waitingFields, markNumber, deskWith}
 use Rattle.desks.specs.Fitting.{Fitting}

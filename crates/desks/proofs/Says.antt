@@ -15,7 +15,8 @@ use Rattle.numbers.proofs.Agree.{Agree, agree-front, agree-join, agree-all}
 use Rattle.numbers.proofs.Fields.{fields-inj}
 use Rattle.numbers.proofs.Tables.{rows-inj}
 use Rattle.rules.specs.Kinds.{Lock, Queued, delete, Mark, idle}
-use Rattle.tables.specs.Layout.{headWidths, inPlace, recordWidths, recordPlace, recordAt, lockWidths, lockPlace, slotFields}
+use Rattle.tables.specs.QueueLayout.{headWidths, inPlace, recordWidths, recordPlace, recordAt}
+use Rattle.tables.specs.SlotLayout.{lockWidths, lockPlace, slotFields}
 use Rattle.desks.specs.States.{waitingFields, markNumber}
 
 -- the numbers of the head, by how many are queued

@@ -6,7 +6,8 @@ use Prim.Native.Nat.{ℕ}
 use Rattle.trees.proofs.Refill.{refill-index}
 use Rattle.index.specs.Pictures.{keyOf, indexOf, entriesIn}
 use Rattle.index.proofs.Same.{pages-inj}
-use Rattle.tables.specs.Layout.{slotsOf, queueOf, marksOf}
+use Rattle.tables.specs.SlotLayout.{slotsOf}
+use Rattle.tables.specs.QueueLayout.{queueOf, marksOf}
 use Rattle.desks.specs.States.{stateOf}
 use Rattle.desks.specs.Whole.{Whole}
 

@@ -17,8 +17,9 @@ use Rattle.lists.proofs.Pairs.{pairs-head, pairs-tail}
 use Rattle.numbers.specs.Numbers.{Fits}
 use Rattle.rules.specs.Kinds.{Ask, read, insert, delete, Queued, Mark, idle, running, Name, on, end, Lock}
 use Rattle.rules.specs.Locks.{inUse}
-use Rattle.tables.specs.Layout.{recordWidths, askWidths, askFields, askIn, lockWidths, nameIn, nameNumber, slotIn, slotFields}
-use Rattle.tables.proofs.Back.{name-there, slot-there}
+use Rattle.tables.specs.QueueLayout.{recordWidths, askWidths, askFields, askIn}
+use Rattle.tables.specs.SlotLayout.{lockWidths, nameIn, nameNumber, slotIn, slotFields}
+use Rattle.tables.proofs.SlotBack.{name-there, slot-there}
 use Rattle.tables.proofs.Slots.{mode-fits}
 use Rattle.desks.specs.States.{waitingFields, markNumber}
 use Rattle.desks.specs.Fitting.{NameFits, AskFits, LockFits, QueuedFits}

@@ -12,7 +12,8 @@ use Rattle.rules.specs.Queue.{St}
 use Rattle.rules.specs.Document.{document}
 use Rattle.trees.specs.Trees.{documentSizes}
 use Rattle.trees.specs.Shapes.{treePaging, shape}
-use Rattle.tables.specs.Layout.{headWidths, recordWidths, askFields, lockWidths, slotFields, slotsOf, queueOf, marksOf}
+use Rattle.tables.specs.QueueLayout.{headWidths, recordWidths, askFields, queueOf, marksOf}
+use Rattle.tables.specs.SlotLayout.{lockWidths, slotFields, slotsOf}
 use Rattle.index.specs.Pictures.{keyOf, indexOf, entriesIn}
 
 -- the rule book of document 01, with its tree of pages

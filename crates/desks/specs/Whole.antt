@@ -9,7 +9,8 @@ use lib.ListN.{length}
 use Rattle.limits.specs.Limits.{deskSize}
 use Rattle.rules.specs.Queue.{St}
 use Rattle.rules.specs.Good.{Good}
-use Rattle.tables.specs.Layout.{slotsOf, queueOf, marksOf}
+use Rattle.tables.specs.SlotLayout.{slotsOf}
+use Rattle.tables.specs.QueueLayout.{queueOf, marksOf}
 use Rattle.index.specs.Pictures.{WholePages}
 use Rattle.desks.specs.States.{book, stateOf, deskWith}
 

@@ -12,8 +12,8 @@ use Rattle.numbers.proofs.Fields.{touches-putFields, fields-same}
 use Rattle.rules.specs.Runs as R
 use Rattle.entries.specs.declared.Paper.{Paper}
 use Rattle.entries.specs.declared.Answer.{Answer}
-use Rattle.entries.specs.Meaning.{bookSays, bookAnswer, OnPaper}
-use Rattle.entries.specs.Records.{answerWidths, answerFields, putAnswer}
+use Rattle.entries.specs.AnswerMeaning.{bookSays, bookAnswer, OnPaper}
+use Rattle.entries.specs.AnswerRecord.{answerWidths, answerFields, putAnswer}
 
 -- ---- six numbers written one after the other are the record
 pub answer-written : (s t₁ t₂ t₃ t₄ t₅ t₆ : List ℕ) (at : ℕ) (a : Answer) (p : Paper) → OnPaper (R.paper (bookSays (a .says))) p

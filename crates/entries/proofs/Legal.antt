@@ -13,7 +13,7 @@ use Rattle.entries.specs.declared.Ask.the-variants.{Read, Insert, Delete
 use Rattle.entries.specs.declared.Request.{Request}
 use Rattle.entries.specs.declared.Request.the-variants.{Asks}
 use Rattle.entries.specs.declared.Call.{Call}
-use Rattle.entries.specs.Meaning.{bookAsk, bookRequest, bookCall}
+use Rattle.entries.specs.RequestMeaning.{bookAsk, bookRequest, bookCall}
 
 -- ---- as the code tests it
 pub legal-read : (a : Ask) (lo hi : Key) (x y z : Bool) → a ≡ Read lo hi → x ≡ ltb (lo .0) endMark → y ≡ ltb (hi .0) endMark → z ≡ leb (lo .0) (hi .0)

@@ -1,5 +1,7 @@
 pub mod Keys
-pub mod OneToOne
+pub mod EntryOneToOne
+pub mod AnswerOneToOne
+pub mod RequestOneToOne
 pub mod Legal
 pub mod Requests
 pub mod Number12

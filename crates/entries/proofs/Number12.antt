@@ -15,7 +15,7 @@ use Rattle.numbers.proofs.Numbers.{number-below}
 use Rattle.rules.specs.Kinds.{Paging, Ask, read, insert, delete, Request, begin, commit, rollback, ask, Call}
 use Rattle.rules.specs.Desk.{isTransaction, legalAsk, legalRequest, legalCall}
 use Rattle.rules.specs.Document.{document, endless, endMark}
-use Rattle.entries.specs.Records.{forms, requests, kindIn, callIn, short, unlikeSlice, unlikeKind, unknownKind, misshapen, filled, illegal, isBad, heard, firstPlace, secondPlace}
+use Rattle.entries.specs.RequestRecord.{forms, requests, kindIn, callIn, short, unlikeSlice, unlikeKind, unknownKind, misshapen, filled, illegal, isBad, heard, firstPlace, secondPlace}
 use Rattle.entries.proofs.Legal.{legal-any}
 use Rattle.entries.proofs.Requests.{shaped, each-kind, requestBy, asked}
 

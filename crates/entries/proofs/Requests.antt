@@ -18,8 +18,8 @@ use Rattle.rules.specs.Document.{document, endless}
 use Rattle.entries.specs.declared.Ask.{Ask}
 use Rattle.entries.specs.declared.Request.{Request}
 use Rattle.entries.specs.declared.Call.{Call}
-use Rattle.entries.specs.Meaning.{bookAsk, bookRequest, bookCall}
-use Rattle.entries.specs.Records.{forms, formOf, kindIn, requests, callIn, short, unlikeSlice, unlikeKind, unknownKind, filled, misshapen, Shaped, isBad, heard, firstPlace, secondPlace, fillerPlace}
+use Rattle.entries.specs.RequestMeaning.{bookAsk, bookRequest, bookCall}
+use Rattle.entries.specs.RequestRecord.{forms, formOf, kindIn, requests, callIn, short, unlikeSlice, unlikeKind, unknownKind, filled, misshapen, Shaped, isBad, heard, firstPlace, secondPlace, fillerPlace}
 
 -- ---- a misshapen record
 by-kind : (k : ℕ) → getD (0 ∷ requestHeadSize ∷ requestHeadSize ∷ requestHeadSize ∷ readSize ∷ insertSize ∷ deleteSize ∷ []) k 0 ≡ widthOf (formOf k)

@@ -17,7 +17,7 @@ use Rattle.numbers.proofs.Agree.{Touches, touches-wider, touches-then}
 use Rattle.numbers.proofs.Fields.{fields-apart}
 use Rattle.rules.specs.Entries.{isThere}
 use Rattle.rules.specs.Runs.{Says, done, found, nothing, waiting, runsAlready, runsNot, waitsAlready, isPresent, locksShort, pagesShort, circle, Answer}
-use Rattle.entries.specs.Records.{answerWidths, answerFields, putAnswer, written}
+use Rattle.entries.specs.AnswerRecord.{answerWidths, answerFields, putAnswer, written}
 use Rattle.entries.proofs.Answers.{touches-answer, length-putAnswer, answer-same}
 
 -- ---- what is written

@@ -1,2 +1,6 @@
-pub mod Meaning
-pub mod Records
+pub mod EntryMeaning
+pub mod AnswerMeaning
+pub mod RequestMeaning
+pub mod AnswerRecord
+pub mod Absent
+pub mod RequestRecord

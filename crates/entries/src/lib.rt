@@ -11,8 +11,12 @@ ghost use Rattle.rules.specs.Entries.{isThere, committed, rolledBack, deleted, 
 ghost use Rattle.rules.specs.Desk.{isTransaction, legalAsk, legalRequest, legalCall};
 ghost use Rattle.rules.specs.Document.{endMark, document, endless};
 ghost use Rattle.rules.specs.Runs.{paper, numbered};
-ghost use Rattle.entries.specs.Meaning.{bookEntry, bookValue, bookAsk, bookRequest, bookCall, bookHeard, bookSays, bookAnswer, OnPaper};
-ghost use Rattle.entries.specs.Records.{misshapen, Shaped, filled, callIn, heard, orZero, putAnswer, firstPlace, secondPlace};
+ghost use Rattle.entries.specs.EntryMeaning.{bookEntry, bookValue};
+ghost use Rattle.entries.specs.RequestMeaning.{bookAsk, bookRequest, bookCall, bookHeard};
+ghost use Rattle.entries.specs.AnswerMeaning.{bookSays, bookAnswer, OnPaper};
+ghost use Rattle.entries.specs.RequestRecord.{misshapen, Shaped, filled, callIn, heard, firstPlace, secondPlace};
+ghost use Rattle.entries.specs.Absent.{orZero};
+ghost use Rattle.entries.specs.AnswerRecord.{putAnswer};
 use limits::REQUEST_HEAD_SIZE;
 
 // A key: its upper half is the pupil, its lower half the delivery. The marks belong to it; the end is never a key, but names a lock.

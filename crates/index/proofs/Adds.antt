@@ -1,7 +1,8 @@
 -- An insert of a missing key, from the root: the tree grown, with a new root if it was divided, and page 0 written, is the index with the
 -- entry, whole again. Page 0 and a new root are pages apart from the tree's. Assumes nothing.
 use Rattle.limits.specs.Limits.{pagesMost, pageSize, pagesSize}
-use Rattle.pages.specs.Layout.{EntryFits, ChildFits, rootOf, usedOf, heightOf, putRoot, childrenOf}
+use Rattle.pages.specs.PageLayout.{EntryFits, ChildFits, childrenOf}
+use Rattle.pages.specs.PageHead.{rootOf, usedOf, heightOf, putRoot}
 use Prim.Native.Nat.{ℕ, suc, _+_, _-_, _≤_, _<_, compare}
 use mathlib.Core.Path.{_≡_, refl, sym, ap, ap₂, subst, _∙_}
 use mathlib.Core.Logic.{_≢_, inl, inr}

@@ -19,7 +19,8 @@ use Rattle.lists.proofs.Tests.{all-weaker}
 use Rattle.lists.proofs.Joins.{map-take, map-drop, all-join}
 use Rattle.rules.proofs.Orders.{numbers-ordered}
 use Rattle.pages.specs.declared.Child as P
-use Rattle.pages.specs.Layout.{kindOf, countOf, entriesOf, childAt, childrenOf}
+use Rattle.pages.specs.PageHead.{kindOf, countOf}
+use Rattle.pages.specs.PageLayout.{entriesOf, childAt, childrenOf}
 use Rattle.pages.proofs.Entries.{length-entries}
 use Rattle.pages.proofs.Children.{length-children}
 use Rattle.trees.specs.Trees.{Child, Tree, isPage, times, flat, atMost, under, inside, ranges, ranged}

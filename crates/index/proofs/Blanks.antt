@@ -16,7 +16,8 @@ use Rattle.rules.proofs.Orders.{numbers-ordered}
 use Rattle.numbers.specs.Numbers.{zeroed}
 use Rattle.numbers.proofs.Parts.{getD-part}
 use Rattle.numbers.proofs.Moves.{length-zeroed, getD-zeroed-in}
-use Rattle.pages.specs.Layout.{putHead, putRoot, entriesOf}
+use Rattle.pages.specs.PageHead.{putHead, putRoot}
+use Rattle.pages.specs.PageLayout.{entriesOf}
 use Rattle.trees.specs.Trees.{documentSizes}
 use Rattle.trees.specs.Shapes.{bare}
 use Rattle.trees.proofs.Wholes.{bare-whole, document-fair}

@@ -1,7 +1,8 @@
 -- A leaf and an inner page with one more, as the code divides them: the new page is built apart and copied in.
 -- The parts that are lent are the pages, and what is copied whole is the page. Assumes nothing.
 use Rattle.limits.specs.Limits.{pagesMost, pageSize, pagesSize, entrySize, leafMost, leafStay, leafGo, childSize, innerMost, innerStay, innerGo}
-use Rattle.pages.specs.Layout.{EntryFits, ChildFits, countOf, putHead, entryAt, entriesOf, childrenOf}
+use Rattle.pages.specs.PageLayout.{EntryFits, ChildFits, entryAt, entriesOf, childrenOf}
+use Rattle.pages.specs.PageHead.{countOf, putHead}
 use Prim.Native.Nat.{ℕ, _+_, _*_, _-_, _≤_, _<_}
 use mathlib.Core.Path.{_≡_, refl, sym, ap, subst, _∙_}
 use mathlib.Core.Logic.{⊎-elim}
@@ -18,7 +19,8 @@ use Rattle.numbers.specs.Numbers.{putPart, copied}
 use Rattle.numbers.proofs.Parts.{length-putPart, part-same, part-all}
 use Rattle.entries.specs.declared.Key.{Key}
 use Rattle.pages.specs.declared.Child as P
-use Rattle.pages.specs.Rows.{rowsOf, entryRow, childRow, childPut, Divided, asTheyAre, fromZero, firstLow}
+use Rattle.pages.specs.PageRows.{rowsOf, Divided, asTheyAre}
+use Rattle.pages.specs.PageChanges.{entryRow, childRow, childPut, fromZero, firstLow}
 use Rattle.pages.proofs.Children.{length-children}
 use Rattle.trees.specs.Growth.{lowKey}
 use Rattle.index.specs.declared.Grown.the-variants.{Same, Split}

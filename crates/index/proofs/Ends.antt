@@ -12,7 +12,7 @@ use Rattle.lists.specs.Lists.{In, join}
 use Rattle.lists.proofs.Elements.{append-in}
 use Rattle.lists.proofs.Joins.{join-append}
 use Rattle.rules.specs.Entries.{present, left, settled}
-use Rattle.pages.specs.Rows.{endOf}
+use Rattle.pages.specs.PageChanges.{endOf}
 use Rattle.trees.specs.Trees.{Index, flat}
 use Rattle.trees.specs.Growth.{leaves, inLeaves}
 use Rattle.trees.proofs.Settling.{leaves-twice, leaves-none}

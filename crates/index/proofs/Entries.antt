@@ -13,7 +13,7 @@ use Rattle.lists.proofs.Joins.{join-append, map-append}
 use Rattle.rules.specs.Document.{endMark}
 use Rattle.rules.specs.Entries.{left, settled, takenOut}
 use Rattle.rules.proofs.Orders.{numbers-ordered}
-use Rattle.pages.specs.Rows.{endOf}
+use Rattle.pages.specs.PageChanges.{endOf}
 use Rattle.trees.specs.Trees.{Index, documentSizes, flat}
 use Rattle.trees.specs.Growth.{withItem, inLeaves, missing}
 use Rattle.trees.specs.Shapes.{shape, without}

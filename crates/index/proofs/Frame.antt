@@ -9,7 +9,7 @@ use borrow.Author.Tests.{eq-eqb}
 use Rattle.lists.specs.Lists.{In}
 use Rattle.lists.proofs.Joins.{map-same}
 use Rattle.pages.specs.declared.Child as P
-use Rattle.pages.specs.Layout.{entriesOf, childrenOf}
+use Rattle.pages.specs.PageLayout.{entriesOf, childrenOf}
 use Rattle.trees.specs.Trees.{Child, Tree, summed, isPage, times}
 use Rattle.trees.proofs.Pages.{summed-map, summed-in}
 use Rattle.index.specs.Pictures.{Item, pageAt, treeOf, leafPage, innerPage, Laid}

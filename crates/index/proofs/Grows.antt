@@ -1,7 +1,8 @@
 -- A tree of pages grows as the tree does. The code's step at a leaf and at an inner page is the tree's step, its new pages are laid, and no
 -- other page is touched: how often a page stands in a tree says that it is another. Assumes nothing.
 use Rattle.limits.specs.Limits.{pagesMost, pageSize, leafMost, leafStay, leafGo}
-use Rattle.pages.specs.Layout.{EntryFits, countOf, entriesOf}
+use Rattle.pages.specs.PageLayout.{EntryFits, entriesOf}
+use Rattle.pages.specs.PageHead.{countOf}
 use Prim.Native.Nat.{ℕ, _+_, _*_, _-_, _≤_, _<_}
 use mathlib.Core.Path.{_≡_, refl, sym, ap, subst, _∙_}
 use mathlib.Core.Logic.{_≢_, inl, inr, ⊎-elim}
@@ -19,7 +20,7 @@ use Rattle.lists.proofs.Elements.{insertAt-in, drop-in, take-in}
 use Rattle.lists.proofs.Places.{length-insertAt, insertBefore-is}
 use Rattle.pages.specs.declared.Child as P
 use Rattle.pages.specs.Places.{EntryPlace}
-use Rattle.pages.specs.Rows.{entryPut}
+use Rattle.pages.specs.PageChanges.{entryPut}
 use Rattle.pages.proofs.Entries.{length-entries}
 use Rattle.trees.specs.Trees.{Child}
 use Rattle.trees.specs.Growth as G

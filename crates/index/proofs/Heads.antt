@@ -18,7 +18,8 @@ use Rattle.numbers.specs.Numbers.{fieldsAt, putFields, widthOf}
 use Rattle.numbers.proofs.Fields.{touches-putFields, length-putFields, fields-same}
 use Rattle.numbers.proofs.Splices.{fields-alike}
 use Rattle.pages.specs.declared.Child as P
-use Rattle.pages.specs.Layout.{rootOf, usedOf, heightOf, rootWidths, putRoot, childrenOf}
+use Rattle.pages.specs.PageHead.{rootOf, usedOf, heightOf, rootWidths, putRoot}
+use Rattle.pages.specs.PageLayout.{childrenOf}
 use Rattle.trees.specs.Trees.{isPage, times}
 use Rattle.trees.proofs.Pages.{summed-in}
 use Rattle.index.specs.Pictures.{pageAt, putPage, treeOf, blankPage, headPage}

@@ -1,7 +1,8 @@
 -- An inner page as it is written from children, and as the inner code changes it: it is then the page written from the children changed.
 -- Its rows are those of its children, and a child that fits is read back as it was written. Assumes nothing.
 use Rattle.limits.specs.Limits.{pageSize, childSize, innerMost, innerStay}
-use Rattle.pages.specs.Layout.{ChildFits, countOf, childWidths, childFields, childrenOf}
+use Rattle.pages.specs.PageLayout.{ChildFits, childWidths, childFields, childrenOf}
+use Rattle.pages.specs.PageHead.{countOf}
 use Prim.Native.Nat.{ℕ, _-_, _≤_}
 use mathlib.Core.Path.{_≡_, refl, sym, ap, ap₂, subst, _∙_}
 use mathlib.Core.Logic.{inl, inr}
@@ -16,7 +17,8 @@ use Rattle.numbers.proofs.Numbers.{number-same, number-apart, touches-putNumber
 use Rattle.numbers.proofs.Fields.{fields-same, fields-inj}
 use Rattle.numbers.proofs.Kept.{bytes-putNumber}
 use Rattle.pages.specs.declared.Child.{Child}
-use Rattle.pages.specs.Rows.{rowsOf, withRows, childRow, childPut, Divided, fromZero, firstLow}
+use Rattle.pages.specs.PageRows.{rowsOf, withRows, Divided}
+use Rattle.pages.specs.PageChanges.{childRow, childPut, fromZero, firstLow}
 use Rattle.pages.proofs.Children.{child-fits, rowChild, child-row, length-childRow, children-with, row-fits, bytes-childRow}
 use Rattle.index.specs.Pictures.{blankPage, innerPage, zeroFirst, lowFirst}
 use Rattle.pages.proofs.Written.{fit-rows, rows-written, count-written, length-written, put-written, stay-written, go-written}

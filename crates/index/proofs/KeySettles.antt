@@ -18,9 +18,10 @@ use Rattle.lists.proofs.Tests.{all-head, all-tail, all-cons, all-at, all-weaker
 use Rattle.lists.proofs.Pairs.{pairs-head, pairs-tail}
 use Rattle.lists.proofs.Joins.{join-append}
 use Rattle.rules.specs.Entries.{present, ghost, left}
-use Rattle.pages.specs.Layout.{EntryFits, countOf, entryAt, entriesOf, putEntry}
+use Rattle.pages.specs.PageLayout.{EntryFits, entryAt, entriesOf, putEntry}
+use Rattle.pages.specs.PageHead.{countOf}
 use Rattle.pages.specs.Places.{keysAscend, EntryPlace}
-use Rattle.pages.specs.Rows.{endOf, entryTaken}
+use Rattle.pages.specs.PageChanges.{endOf, entryTaken}
 use Rattle.pages.proofs.Written as W
 use Rattle.pages.proofs.Entries.{length-entries}
 use Rattle.trees.specs.Growth.{missing}

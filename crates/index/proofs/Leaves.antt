@@ -1,7 +1,8 @@
 -- A leaf as it is written from entries, and as the leaf code changes it: it is then the leaf written from the entries changed.
 -- Its rows are those of its entries, and an entry that fits is read back as it was written. Assumes nothing.
 use Rattle.limits.specs.Limits.{pageSize, entrySize, leafMost, leafStay}
-use Rattle.pages.specs.Layout.{EntryFits, countOf, entriesOf}
+use Rattle.pages.specs.PageLayout.{EntryFits, entriesOf}
+use Rattle.pages.specs.PageHead.{countOf}
 use Prim.Native.Nat.{ℕ, _-_, _≤_, _<_}
 use mathlib.Core.Path.{_≡_, refl, sym, ap, ap₂, subst, _∙_}
 use mathlib.Core.Logic.{inl, inr, ⊎-elim}
@@ -14,7 +15,8 @@ use Rattle.lists.specs.Lists.{In, join, insertAt, removeAt}
 use Rattle.lists.proofs.Elements.{append-in}
 use Rattle.lists.proofs.Joins.{map-append}
 use Rattle.rules.specs.Entries.{left, settled, present}
-use Rattle.pages.specs.Rows.{rowsOf, withRows, entryRow, entryPut, entryTaken, endOf, rowLeft, leafSettled, Divided, asTheyAre}
+use Rattle.pages.specs.PageRows.{rowsOf, withRows, Divided, asTheyAre}
+use Rattle.pages.specs.PageChanges.{entryRow, entryPut, entryTaken, endOf, rowLeft, leafSettled}
 use Rattle.pages.proofs.Entries.{rowEntry, entry-row, length-entryRow, entries-with, row-fits, bytes-entryRow}
 use Rattle.trees.proofs.Thinning.{thinner, settled-thins}
 use Rattle.index.specs.Pictures.{Item, keyOf, blankPage, leafPage}

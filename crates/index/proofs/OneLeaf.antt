@@ -10,7 +10,8 @@ use lib.Dec.{eqb}
 use lib.ListN.{length}
 use borrow.Author.Tests.{eqb-true, eqb-false, le-leb, lt-leb}
 use Rattle.limits.specs.Limits.{pageSize, leafMost}
-use Rattle.pages.specs.Layout.{kindOf, rootOf, usedOf, heightOf, entriesOf}
+use Rattle.pages.specs.PageHead.{kindOf, rootOf, usedOf, heightOf}
+use Rattle.pages.specs.PageLayout.{entriesOf}
 use Rattle.pages.proofs.Entries.{length-entries}
 use Rattle.trees.specs.Trees.{above}
 use Rattle.trees.specs.Growth.{inLeaves, missing}

@@ -14,7 +14,8 @@ use Rattle.lists.specs.Lists.{In}
 use Rattle.lists.proofs.Joins.{map-same}
 use Rattle.rules.specs.Document.{endMark}
 use Rattle.pages.specs.declared.Child as P
-use Rattle.pages.specs.Layout.{kindOf, rootOf, usedOf, heightOf, entriesOf, childrenOf}
+use Rattle.pages.specs.PageHead.{kindOf, rootOf, usedOf, heightOf}
+use Rattle.pages.specs.PageLayout.{entriesOf, childrenOf}
 use Rattle.trees.specs.Trees.{Child, isPage, times, documentSizes, WholeIndex}
 use Rattle.trees.specs.Growth.{withTree, leaves, inLeaves}
 use Rattle.trees.proofs.Thinning.{Thins, leaves-whole}

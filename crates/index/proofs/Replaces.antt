@@ -17,7 +17,8 @@ use Rattle.lists.specs.Lists.{all, pairs, place}
 use Rattle.lists.proofs.Tables.{getD-tab}
 use Rattle.lists.proofs.Tests.{all-head, all-tail, all-weaker}
 use Rattle.lists.proofs.Pairs.{pairs-head, pairs-tail}
-use Rattle.pages.specs.Layout.{EntryFits, countOf, entryAt, entriesOf, putEntry}
+use Rattle.pages.specs.PageLayout.{EntryFits, entryAt, entriesOf, putEntry}
+use Rattle.pages.specs.PageHead.{countOf}
 use Rattle.pages.specs.Places.{keysAscend, EntryPlace}
 use Rattle.pages.proofs.Written as W
 use Rattle.pages.proofs.Entries.{length-entries}

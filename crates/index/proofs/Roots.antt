@@ -11,8 +11,9 @@ use borrow.Rule.Slice.PartMut.{putMid}
 use Rattle.limits.specs.Limits.{pageSize, childSize, innerMost}
 use Rattle.lists.specs.Lists.{tab, insertAt}
 use Rattle.pages.specs.declared.Child as P
-use Rattle.pages.specs.Layout.{countOf, putHead, putRoot}
-use Rattle.pages.specs.Rows.{rowAt, rowsOf, withRows, childPut}
+use Rattle.pages.specs.PageHead.{countOf, putHead, putRoot}
+use Rattle.pages.specs.PageRows.{rowAt, rowsOf, withRows}
+use Rattle.pages.specs.PageChanges.{childPut}
 use Rattle.pages.proofs.WithRows.{with-own}
 use Rattle.index.specs.Pictures.{pageAt, putPage, blankPage, innerPage}
 use Rattle.index.specs.Growing.{rootPage, RootIn}

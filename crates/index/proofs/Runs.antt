@@ -13,7 +13,8 @@ use borrow.Author.Tests.{eqb-true, eqb-false, le-leb, lt-leb, eq-eqb, ne-eqb}
 use Rattle.limits.specs.Limits.{pageSize, leafMost, innerMost}
 use Rattle.lists.proofs.Tables.{getD-tab}
 use Rattle.pages.specs.declared.Child as P
-use Rattle.pages.specs.Layout.{countOf, entriesOf, childAt, childrenOf}
+use Rattle.pages.specs.PageHead.{countOf}
+use Rattle.pages.specs.PageLayout.{entriesOf, childAt, childrenOf}
 use Rattle.pages.proofs.Children.{length-children}
 use Rattle.trees.specs.Trees.{Child, Tree, documentSizes}
 use Rattle.trees.specs.Growth.{place, belongs, fullRun}

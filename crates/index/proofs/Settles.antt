@@ -13,8 +13,9 @@ use borrow.Rule.Slice.PartMut.{putMid}
 use Rattle.limits.specs.Limits.{pagesMost, pageSize, pagesSize, leafMost}
 use Rattle.rules.specs.Entries.{settled}
 use Rattle.numbers.proofs.Parts.{putPart-part}
-use Rattle.pages.specs.Layout.{kindOf, countOf, rootOf, usedOf, heightOf, entriesOf}
-use Rattle.pages.specs.Rows.{endOf, leafSettled}
+use Rattle.pages.specs.PageHead.{kindOf, countOf, rootOf, usedOf, heightOf}
+use Rattle.pages.specs.PageLayout.{entriesOf}
+use Rattle.pages.specs.PageChanges.{endOf, leafSettled}
 use Rattle.pages.proofs.Entries.{length-entries}
 use Rattle.trees.proofs.Thinning.{settled-thins}
 use Rattle.index.specs.declared.Top.{Top}

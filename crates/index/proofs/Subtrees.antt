@@ -17,7 +17,8 @@ use Rattle.lists.proofs.Tests.{and-left, and-right, and-both, all-cons, all-wea
 use Rattle.lists.proofs.Pairs.{pairs-cons, pairs-map, pairs-weaker}
 use Rattle.pages.specs.declared.Child as P
 use Rattle.pages.specs.Places.{keysAscend, lowsAscend, ChildPlace}
-use Rattle.pages.specs.Layout.{countOf, rootOf, usedOf, heightOf, entriesOf, childAt, childrenOf}
+use Rattle.pages.specs.PageHead.{countOf, rootOf, usedOf, heightOf}
+use Rattle.pages.specs.PageLayout.{entriesOf, childAt, childrenOf}
 use Rattle.pages.proofs.Children.{length-children}
 use Rattle.rules.proofs.Orders.{numbers-ordered}
 use Rattle.rules.specs.Document.{endMark}

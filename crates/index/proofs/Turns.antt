@@ -15,12 +15,13 @@ use Rattle.lists.specs.Lists.{tab, place, first, firstSome, orElse}
 use Rattle.lists.proofs.Tables.{tab-next, tab-done, drop-tab, first-next, first-found}
 use Rattle.lists.proofs.Joins.{map-drop}
 use Rattle.lists.proofs.Tests.{some-map}
-use Rattle.entries.specs.Meaning.{bookEntry}
+use Rattle.entries.specs.EntryMeaning.{bookEntry}
 use Rattle.entries.specs.declared.Entry as E
 use Rattle.rules.specs.Entries.{ghost}
 use Rattle.rules.proofs.Orders.{numbers-ordered}
 use Rattle.pages.specs.declared.Child as P
-use Rattle.pages.specs.Layout.{countOf, rootOf, usedOf, heightOf, entryAt, entriesOf, childAt, childrenOf}
+use Rattle.pages.specs.PageHead.{countOf, rootOf, usedOf, heightOf}
+use Rattle.pages.specs.PageLayout.{entryAt, entriesOf, childAt, childrenOf}
 use Rattle.pages.specs.Places.{keysAscend, EntryPlace, ChildPlace}
 use Rattle.pages.proofs.Entries.{length-entries}
 use Rattle.trees.specs.Trees.{flat, under}

@@ -1,7 +1,8 @@
 -- An inner page when the child that the entry belongs to has grown: its children are then the row that the tree has, and with the new child
 -- put in the page is the tree's, whole or divided. The other children's pages are not touched. Assumes nothing.
 use Rattle.limits.specs.Limits.{pagesMost, pageSize, innerMost, innerStay, innerGo}
-use Rattle.pages.specs.Layout.{ChildFits, countOf, childAt, childrenOf}
+use Rattle.pages.specs.PageLayout.{ChildFits, childAt, childrenOf}
+use Rattle.pages.specs.PageHead.{countOf}
 use Prim.Native.Nat.{ℕ, zero, suc, _+_, _-_, _≤_, _<_, compare}
 use mathlib.Core.Path.{_≡_, refl, sym, ap, subst, _∙_}
 use mathlib.Core.Logic.{_≢_, _⊎_, inl, inr, ⊎-elim}

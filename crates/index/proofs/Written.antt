@@ -16,8 +16,9 @@ use Rattle.numbers.proofs.Fields.{touches-putFields, length-putFields}
 use Rattle.numbers.proofs.Kept.{bytes-putFields, bytes-zeros}
 use Rattle.numbers.proofs.Moves.{zeroAt-is}
 use Rattle.pages.specs.declared.Child.{Child}
-use Rattle.pages.specs.Layout.{kindOf, countOf, headWidths, putHead, rootWidths, putRoot}
-use Rattle.pages.specs.Rows.{rowAt, rowsOf, withRows, entryRow, childRow}
+use Rattle.pages.specs.PageHead.{kindOf, countOf, headWidths, putHead, rootWidths, putRoot}
+use Rattle.pages.specs.PageRows.{rowAt, rowsOf, withRows}
+use Rattle.pages.specs.PageChanges.{entryRow, childRow}
 use Rattle.pages.proofs.Entries.{length-entryRow}
 use Rattle.pages.proofs.Children.{length-childRow}
 use Rattle.pages.proofs.WithRows.{kind-with, with-own}

@@ -8,7 +8,7 @@ use Rattle.lists.specs.Lists.{join}
 use Rattle.rules.specs.Entries.{left, settled}
 use Rattle.trees.specs.Trees.{Index, documentSizes}
 use Rattle.trees.specs.Growth.{withItem, fits, inLeaves}
-use Rattle.pages.specs.Rows.{endOf}
+use Rattle.pages.specs.PageChanges.{endOf}
 use Rattle.index.specs.Pictures.{Item, keyOf, indexOf, WholePages}
 
 -- an entry, or the one that is put in its place if it has the same key

@@ -11,7 +11,8 @@ use lib.ListN.{length, take, drop, replicate}
 use Rattle.limits.specs.Limits.{pagesMost, pageSize, pagesSize, leafMost, leafStay, innerMost, innerStay}
 use Rattle.lists.specs.Lists.{insertAt}
 use Rattle.pages.specs.declared.Child as P
-use Rattle.pages.specs.Layout.{EntryFits, ChildFits, countOf, entriesOf, childrenOf}
+use Rattle.pages.specs.PageLayout.{EntryFits, ChildFits, entriesOf, childrenOf}
+use Rattle.pages.specs.PageHead.{countOf}
 use Rattle.trees.specs.Trees.{Child, Tree, documentSizes, times}
 use Rattle.trees.specs.Growth as G
 use Rattle.index.specs.declared.Grown.{Grown}

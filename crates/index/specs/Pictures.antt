@@ -12,8 +12,10 @@ use Rattle.rules.specs.Kinds.{Entry}
 use Rattle.rules.specs.Document.{endMark}
 use Rattle.trees.specs.Trees.{Child, Tree, Index, WholeIndex, documentSizes, flat}
 use Rattle.pages.specs.declared.Child as P
-use Rattle.pages.specs.Layout.{putHead, putRoot, rootOf, usedOf, heightOf, entriesOf, childrenOf}
-use Rattle.pages.specs.Rows.{withRows, entryRow, childRow}
+use Rattle.pages.specs.PageHead.{putHead, putRoot, rootOf, usedOf, heightOf}
+use Rattle.pages.specs.PageLayout.{entriesOf, childrenOf}
+use Rattle.pages.specs.PageRows.{withRows}
+use Rattle.pages.specs.PageChanges.{entryRow, childRow}
 
 abbrev pub Item : Type 0
 Item = Entry ℕ ℕ

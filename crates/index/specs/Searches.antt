@@ -6,7 +6,7 @@ use mathlib.Core.Option.{Option, none, some}
 use lib.Dec.{leb, eqb}
 use Rattle.rules.specs.Kinds.{Entry}
 use Rattle.rules.specs.Entries.{ghost}
-use Rattle.entries.specs.Meaning.{bookEntry}
+use Rattle.entries.specs.EntryMeaning.{bookEntry}
 use Rattle.index.specs.declared.Sought.{Sought}
 use Rattle.index.specs.declared.Found.{Found}
 use Rattle.index.specs.declared.Found.the-variants.{Here, Nothing}

@@ -3,7 +3,7 @@ ghost use mathlib.Core.Path.{_≡_};
 ghost use Prim.Native.Nat.{_<_};
 ghost use lib.ListN.{length};
 ghost use Rattle.limits.specs.Limits.{pagesMost, pagesSize};
-ghost use Rattle.pages.specs.Layout.{putHead};
+ghost use Rattle.pages.specs.PageHead.{putHead};
 ghost use Rattle.trees.specs.Shapes.{bare};
 ghost use Rattle.index.specs.Pictures.{pageAt, putPage};
 ghost use Rattle.index.specs.Changes.{Becomes};

@@ -1,7 +1,7 @@
 // An entry put in the place of the one with its key.
 ghost use mathlib.Core.Path.{_≡_};
-ghost use Rattle.entries.specs.Meaning.{bookEntry};
-ghost use Rattle.pages.specs.Layout.{entriesOf};
+ghost use Rattle.entries.specs.EntryMeaning.{bookEntry};
+ghost use Rattle.pages.specs.PageLayout.{entriesOf};
 ghost use Rattle.index.specs.Pictures.{pageAt, putPage, indexOf, leafPage, WholePages};
 ghost use Rattle.index.specs.Changes.{replaced, Becomes};
 ghost use Rattle.index.specs.Descents.{OwnLeaf, LeafAt, overwritten};

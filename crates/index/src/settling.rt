@@ -1,8 +1,9 @@
 // What a transaction that has ended leaves of its entries in the index.
 ghost use mathlib.Core.Path.{_≡_};
 ghost use Prim.Native.Nat.{_<_};
-ghost use Rattle.entries.specs.Meaning.{bookEntry};
-ghost use Rattle.pages.specs.Layout.{countOf, entriesOf};
+ghost use Rattle.entries.specs.EntryMeaning.{bookEntry};
+ghost use Rattle.pages.specs.PageHead.{countOf};
+ghost use Rattle.pages.specs.PageLayout.{entriesOf};
 ghost use Rattle.index.specs.Pictures.{pageAt, putPage, indexOf, leafPage, WholePages};
 ghost use Rattle.index.specs.Changes.{keySettled, settledIn, settledAt, Becomes};
 ghost use Rattle.index.specs.Descents.{OwnLeaf, LeafAt, LeafIn, settledPage, leftIn};

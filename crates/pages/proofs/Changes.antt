@@ -12,12 +12,15 @@ use Rattle.numbers.specs.Numbers.{numberAt, putNumber, widthOf}
 use Rattle.numbers.specs.Rows.{opened, closed}
 use Rattle.rules.specs.Kinds.{Entry}
 use Rattle.pages.specs.declared.Child.{Child}
-use Rattle.pages.specs.Layout.{countOf, entryWidths, entryFields, putEntry, childWidths, childFields, putChild}
-use Rattle.pages.specs.Rows.{rowsOf, entryRow, childRow, entryPut, entryTaken, childPut, Divided, asTheyAre, fromZero, firstLow}
-use Rattle.pages.specs.Steps.{Parted}
+use Rattle.pages.specs.PageHead.{countOf}
+use Rattle.pages.specs.PageLayout.{entryWidths, entryFields, putEntry, childWidths, childFields, putChild}
+use Rattle.pages.specs.PageRows.{rowsOf, Divided, asTheyAre}
+use Rattle.pages.specs.PageChanges.{entryRow, childRow, entryPut, entryTaken, childPut, fromZero, firstLow}
+use Rattle.pages.specs.RowSteps.{Parted}
 use Rattle.pages.proofs.WithRows.{Fit}
-use Rattle.pages.proofs.Moves.{row-in, row-out, first-from-zero}
-use Rattle.pages.proofs.Divisions.{length-go, fit-go, divided-low, divided-high, first-low}
+use Rattle.pages.proofs.RowMoves.{row-in, row-out}
+use Rattle.pages.proofs.FirstSeparator.{first-from-zero, first-low}
+use Rattle.pages.proofs.Divisions.{length-go, fit-go, divided-low, divided-high}
 use Rattle.pages.proofs.Entries.{one-entry}
 use Rattle.pages.proofs.Children.{one-child}
 

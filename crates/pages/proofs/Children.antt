@@ -13,8 +13,10 @@ use Rattle.numbers.proofs.Fields.{length-putFields, fields-same, fields-fit}
 use Rattle.numbers.proofs.Kept.{bytes-putFields, bytes-zeros}
 use Rattle.entries.specs.declared.Key.{Key}
 use Rattle.pages.specs.declared.Child.{Child}
-use Rattle.pages.specs.Layout.{ChildFits, countOf, childWidths, childIn, childFields, childAt, childrenOf}
-use Rattle.pages.specs.Rows.{withRows, childRow}
+use Rattle.pages.specs.PageLayout.{ChildFits, childWidths, childIn, childFields, childAt, childrenOf}
+use Rattle.pages.specs.PageHead.{countOf}
+use Rattle.pages.specs.PageRows.{withRows}
+use Rattle.pages.specs.PageChanges.{childRow}
 use Rattle.pages.proofs.WithRows.{Fit}
 use Rattle.pages.proofs.Divisions.{OneMore}
 use Rattle.pages.proofs.Readings.{said, said-with}

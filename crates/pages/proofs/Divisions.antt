@@ -1,26 +1,26 @@
 -- A full page and one row more, divided between it and a page that has none: the rows are parted first and the new one is put into its half.
--- Once for every width and number, with what the first separator comes to. Assumes nothing.
+-- Once for every width and number. Assumes nothing.
 use mathlib.Core.Path.{_≡_, sym, ap, _∙_, subst}
-use mathlib.Core.List.{List, [], _∷_}
+use mathlib.Core.List.{List}
 use Prim.Native.Nat.{ℕ, _+_, _-_, _*_, _≤_, _<_}
-use native.Mathlib.Nat.{mul-le-mul-left, zero-add, add-sub-cancel-left}
+use native.Mathlib.Nat.{mul-le-mul-left, add-sub-cancel-left}
 use native.Mathlib.Omega.{arith}
-use lib.ListN.{length, getD, take, drop, length-drop, List·getD-append}
+use lib.ListN.{length, take, drop, length-drop}
 use lib.Seq.{length-take-le}
-use Rattle.limits.specs.Limits.{keySize, pageSize, headSize, bodySize}
-use Rattle.lists.specs.Lists.{join, insertAt}
+use Rattle.limits.specs.Limits.{pageSize, headSize, bodySize}
+use Rattle.lists.specs.Lists.{insertAt}
 use Rattle.lists.proofs.Places.{length-insertAt, take-insertAt-below, drop-insertAt-below, take-insertAt-above, drop-insertAt-above}
-use Rattle.numbers.specs.Numbers.{numberAt, putNumber}
+use Rattle.numbers.specs.Numbers.{putNumber}
 use Rattle.numbers.specs.Rows.{cut, rowsCopied}
-use Rattle.numbers.proofs.Numbers.{numberAt-ext, number-same}
+use Rattle.numbers.proofs.Numbers.{number-same}
 use Rattle.numbers.proofs.Moves.{length-copied, length-zeroed}
 use Rattle.numbers.proofs.Widths.{rows-halves}
-use Rattle.pages.specs.Layout.{countOf}
-use Rattle.pages.specs.Rows.{rowsOf, withRows, Divided, asTheyAre, firstLow}
-use Rattle.pages.specs.Steps.{Parted}
-use Rattle.pages.proofs.Rows.{Wide, bytesOf, wide-first, wide-take, wide-drop, wide-insert, length-rowsOf, wide-rowsOf}
-use Rattle.pages.proofs.WithRows.{Fit, length-insert, holds-with, rows-with, with-with}
-use Rattle.pages.proofs.Moves.{rows-stay, rows-go}
+use Rattle.pages.specs.PageHead.{countOf}
+use Rattle.pages.specs.PageRows.{rowsOf, withRows, Divided, asTheyAre}
+use Rattle.pages.specs.RowSteps.{Parted}
+use Rattle.pages.proofs.Rows.{Wide, wide-take, wide-drop, wide-insert, length-rowsOf, wide-rowsOf}
+use Rattle.pages.proofs.WithRows.{Fit, length-insert, rows-with, with-with}
+use Rattle.pages.proofs.RowMoves.{rows-stay, rows-go}
 
 pub parted : (l r l₁ r₁ r₂ : List ℕ) (z stay go : ℕ) → r₁ ≡ rowsCopied headSize z stay go l r → r₂ ≡ putNumber 2 r₁ 4 go
     → l₁ ≡ putNumber 2 (cut headSize z stay (stay + go) l) 4 stay → length l ≡ pageSize → length r ≡ pageSize → z * (stay + go) ≤ bodySize
@@ -133,16 +133,3 @@ module _ (z : ℕ) (l r x l₁ r₁ : List ℕ) (i stay go : ℕ) (d : Parted z 
             (subst (Fit z r) v (fit-go o i stay h)) right
             ∙ ap (withRows z r) (sym v);
       }
-
--- ---- the first separator of the half that goes: it is handed out, and 0 in its place
-pub first-low : (z : ℕ) (p : List ℕ) (rs : List (List ℕ)) → Fit z p rs → keySize ≤ z → 0 < length rs → numberAt keySize (withRows z p rs) headSize ≡ firstLow rs
-unfolding join
-first-low z p [] f w h = absurd (omega arith)
-first-low z p (r ∷ rs) f w h =
-    let e = wide-first z r rs (f .wide) in
-    numberAt-ext keySize
-    (record {
-      byte = λ k l. holds-with z p (r ∷ rs) f .rows k (omega arith)
-          ∙ List·getD-append r (bytesOf rs) 0 k (omega arith)
-          ∙ ap (λ x. getD r x 0) (sym (zero-add k));
-    })

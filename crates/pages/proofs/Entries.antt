@@ -16,9 +16,11 @@ use Rattle.numbers.proofs.Fields.{length-putFields, fields-same, fields-fit}
 use Rattle.numbers.proofs.Kept.{bytes-putFields, bytes-zeros}
 use Rattle.rules.specs.Kinds.{Entry}
 use Rattle.rules.specs.Entries.{left}
-use Rattle.entries.specs.Records.{orZero}
-use Rattle.pages.specs.Layout.{EntryFits, countOf, entryWidths, ifBit, entryIn, bit, entryFields, entryAt, entriesOf}
-use Rattle.pages.specs.Rows.{rowAt, withRows, entryRow}
+use Rattle.entries.specs.Absent.{orZero}
+use Rattle.pages.specs.PageLayout.{EntryFits, entryWidths, ifBit, entryIn, bit, entryFields, entryAt, entriesOf}
+use Rattle.pages.specs.PageHead.{countOf}
+use Rattle.pages.specs.PageRows.{rowAt, withRows}
+use Rattle.pages.specs.PageChanges.{entryRow}
 use Rattle.pages.proofs.WithRows.{Fit}
 use Rattle.pages.proofs.Divisions.{OneMore}
 use Rattle.pages.proofs.Readings.{said, said-row, said-with}

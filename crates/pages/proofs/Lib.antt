@@ -1,6 +1,7 @@
 pub mod Rows
 pub mod WithRows
-pub mod Moves
+pub mod FirstSeparator
+pub mod RowMoves
 pub mod Divisions
 pub mod Readings
 pub mod Entries

@@ -10,8 +10,8 @@ use Rattle.lists.specs.Lists.{tab}
 use Rattle.lists.proofs.Tables.{tab-ext, map-tab}
 use Rattle.numbers.specs.Numbers.{widthOf, fieldsAt}
 use Rattle.numbers.proofs.Parts.{fieldsAt-part}
-use Rattle.pages.specs.Layout.{countOf}
-use Rattle.pages.specs.Rows.{rowAt, rowsOf, withRows}
+use Rattle.pages.specs.PageHead.{countOf}
+use Rattle.pages.specs.PageRows.{rowAt, rowsOf, withRows}
 use Rattle.pages.proofs.WithRows.{Fit, rows-with}
 
 -- ---- one row of a page

@@ -18,8 +18,8 @@ use Rattle.lists.proofs.Tables.{length-tab, take-tab, drop-tab}
 use Rattle.numbers.specs.Numbers.{part}
 use Rattle.numbers.proofs.Parts.{length-part}
 use Rattle.numbers.proofs.Splices.{part-append}
-use Rattle.pages.specs.Layout.{countOf}
-use Rattle.pages.specs.Rows.{rowAt, rowsOf}
+use Rattle.pages.specs.PageHead.{countOf}
+use Rattle.pages.specs.PageRows.{rowAt, rowsOf}
 
 -- every row has z bytes
 abbrev pub isWide : ℕ → List ℕ → Bool

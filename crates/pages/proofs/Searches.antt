@@ -13,7 +13,8 @@ use Rattle.lists.proofs.Tables.{drop-tab}
 use Rattle.lists.proofs.Scans.{scan-done, scan-found, scan-next}
 use Rattle.rules.specs.Kinds.{Entry}
 use Rattle.pages.specs.declared.Child.{Child}
-use Rattle.pages.specs.Layout.{countOf, entryAt, entriesOf, childAt, childrenOf}
+use Rattle.pages.specs.PageHead.{countOf}
+use Rattle.pages.specs.PageLayout.{entryAt, entriesOf, childAt, childrenOf}
 use Rattle.pages.specs.Places.{EntryPlace, ChildPlace}
 
 -- ---- the first entry at or above k

@@ -20,12 +20,14 @@ use Rattle.numbers.proofs.Splices.{putPart-behind, put-row}
 use Rattle.rules.specs.Kinds.{Entry}
 use Rattle.rules.specs.Entries.{ghost, present, left, committed, rolledBack}
 use Rattle.entries.specs.declared.Entry as Code
-use Rattle.entries.specs.Meaning.{bookEntry}
-use Rattle.pages.specs.Layout.{countOf, entryWidths, entryFields, entryAt, putEntry}
-use Rattle.pages.specs.Rows.{rowAt, rowsOf, withRows, entryRow, endOf, rowLeft, leafSettled}
-use Rattle.pages.specs.Steps.{RowSettled}
+use Rattle.entries.specs.EntryMeaning.{bookEntry}
+use Rattle.pages.specs.PageHead.{countOf}
+use Rattle.pages.specs.PageLayout.{entryWidths, entryFields, entryAt, putEntry}
+use Rattle.pages.specs.PageRows.{rowAt, rowsOf, withRows}
+use Rattle.pages.specs.PageChanges.{entryRow, endOf, rowLeft, leafSettled}
+use Rattle.pages.specs.LeafSteps.{RowSettled}
 use Rattle.pages.proofs.Rows.{Wide, bytesOf, wide-more, wide-tab, wide-join, length-bytes}
-use Rattle.pages.proofs.Moves.{with-is}
+use Rattle.pages.proofs.RowMoves.{with-is}
 use Rattle.pages.proofs.Entries.{rowEntry, row-entry, length-entryRow}
 
 -- ---- what is left of one row

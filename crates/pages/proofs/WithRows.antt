@@ -18,8 +18,8 @@ use Rattle.numbers.proofs.Agree.{Agree}
 use Rattle.numbers.proofs.Numbers.{numberAt-ext, length-putNumber, getD-putNumber-in, getD-putNumber-out, number-below}
 use Rattle.numbers.proofs.Parts.{length-putPart, getD-part, getD-putPart-in, getD-putPart-out, part-ext, part-all}
 use Rattle.numbers.proofs.Moves.{zeroAt-true, zeroAt-is}
-use Rattle.pages.specs.Layout.{kindOf, countOf}
-use Rattle.pages.specs.Rows.{rowsOf, withRows}
+use Rattle.pages.specs.PageHead.{kindOf, countOf}
+use Rattle.pages.specs.PageRows.{rowsOf, withRows}
 use Rattle.pages.proofs.Rows.{Wide, bytesOf, length-bytes, rows-told, length-rowsOf, wide-rowsOf, bytes-rowsOf}
 
 -- the page has room for its own rows and for these

@@ -15,11 +15,13 @@ use Rattle.lists.proofs.Joins.{map-append, map-take, map-drop}
 use Rattle.numbers.specs.Numbers.{widthOf, putPart, zeroAt}
 use Rattle.numbers.proofs.Splices.{put-row}
 use Rattle.rules.specs.Kinds.{Entry}
-use Rattle.pages.specs.Layout.{countOf, entryWidths, entryFields, putEntry}
-use Rattle.pages.specs.Rows.{rowsOf, withRows, entryRow}
+use Rattle.pages.specs.PageHead.{countOf}
+use Rattle.pages.specs.PageLayout.{entryWidths, entryFields, putEntry}
+use Rattle.pages.specs.PageRows.{rowsOf, withRows}
+use Rattle.pages.specs.PageChanges.{entryRow}
 use Rattle.pages.proofs.Rows.{Wide, wide-more}
 use Rattle.pages.proofs.WithRows.{Fit, holds-with, length-with, count-with, rows-with, with-blank}
-use Rattle.pages.proofs.Moves.{row-over}
+use Rattle.pages.proofs.RowMoves.{row-over}
 use Rattle.pages.proofs.Entries.{length-entryRow}
 
 -- a page with no row and no other byte behind its head

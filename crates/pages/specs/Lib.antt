@@ -1,4 +1,7 @@
-pub mod Layout
-pub mod Rows
+pub mod PageHead
+pub mod PageLayout
+pub mod PageRows
+pub mod PageChanges
 pub mod Places
-pub mod Steps
+pub mod RowSteps
+pub mod LeafSteps

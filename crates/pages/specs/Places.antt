@@ -8,7 +8,8 @@ use lib.ListN.{drop}
 use Rattle.lists.specs.Lists.{place, pairs}
 use Rattle.rules.specs.Kinds.{Entry}
 use Rattle.pages.specs.declared.Child.{Child}
-use Rattle.pages.specs.Layout.{countOf, entriesOf, childrenOf}
+use Rattle.pages.specs.PageHead.{countOf}
+use Rattle.pages.specs.PageLayout.{entriesOf, childrenOf}
 
 -- strictly ascending keys, and separators
 unfoldable pub keysAscend : List (Entry ℕ ℕ) → Bool

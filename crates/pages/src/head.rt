@@ -4,7 +4,7 @@ ghost use Prim.Native.Nat.{_+_, _≤_, _<_};
 ghost use lib.ListN.{length};
 ghost use Rattle.limits.specs.Limits.{pageSize};
 ghost use Rattle.numbers.specs.Numbers.{putNumber};
-ghost use Rattle.pages.specs.Layout.{kindOf, countOf, levelOf, putHead, rootOf, usedOf, heightOf, putRoot};
+ghost use Rattle.pages.specs.PageHead.{kindOf, countOf, levelOf, putHead, rootOf, usedOf, heightOf, putRoot};
 use limits::HEAD_SIZE;
 use limits::PAGE_SIZE;
 

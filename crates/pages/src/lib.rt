@@ -10,7 +10,7 @@ ghost use lib.ListN.{length};
 ghost use Rattle.limits.specs.Limits.{pageSize, headSize, bodySize};
 ghost use Rattle.numbers.specs.Numbers.{putNumber};
 ghost use Rattle.numbers.specs.Rows.{cut};
-ghost use Rattle.pages.specs.Steps.{Parted};
+ghost use Rattle.pages.specs.RowSteps.{Parted};
 use limits::HEAD_SIZE;
 
 // A child of an inner page: its separator and its page.

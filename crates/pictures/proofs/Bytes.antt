@@ -14,8 +14,10 @@ use Rattle.numbers.specs.Numbers.{putPart, Bytes}
 use Rattle.numbers.proofs.Kept.{bytes-from, bytes-none, bytes-zeros, bytes-putNumber, bytes-putFields, bytes-append, bytes-join}
 use Rattle.numbers.proofs.Parts.{getD-part, agree-putPart, touches-putPart}
 use Rattle.pages.specs.declared.Child as P
-use Rattle.pages.specs.Layout.{EntryFits, countOf, rootOf, usedOf, heightOf, rootWidths, putRoot, entriesOf, childrenOf}
-use Rattle.pages.specs.Rows.{withRows, entryRow, childRow}
+use Rattle.pages.specs.PageLayout.{EntryFits, entriesOf, childrenOf}
+use Rattle.pages.specs.PageHead.{countOf, rootOf, usedOf, heightOf, rootWidths, putRoot}
+use Rattle.pages.specs.PageRows.{withRows}
+use Rattle.pages.specs.PageChanges.{entryRow, childRow}
 use Rattle.pages.proofs.Entries.{length-entryRow, bytes-entryRow}
 use Rattle.pages.proofs.Children.{length-childRow, bytes-childRow}
 use Rattle.pages.proofs.WithRows.{strip, span}

@@ -20,7 +20,8 @@ use Rattle.trees.specs.Trees.{Child, Tree, Index, WholeIndex, documentSizes, fl
 use Rattle.trees.proofs.Counts.{counted-filled}
 use Rattle.trees.proofs.Ranges.{ranged-in}
 use Rattle.pages.specs.declared.Child as P
-use Rattle.pages.specs.Layout.{EntryFits, ChildFits, rootOf, usedOf, heightOf, entriesOf, childrenOf}
+use Rattle.pages.specs.PageLayout.{EntryFits, ChildFits, entriesOf, childrenOf}
+use Rattle.pages.specs.PageHead.{rootOf, usedOf, heightOf}
 use Rattle.index.specs.Pictures.{Item, keyOf, pageAt, treeOf, indexOf, headPage, leafPage, innerPage, Laid, WholePages}
 use Rattle.index.proofs.Frame.{kid}
 use Rattle.index.proofs.Heads.{root-head, used-head, height-head, level-small}

@@ -31,7 +31,7 @@ use Rattle.trees.specs.Growth.{withTree, leaves, inLeaves}
 use Rattle.trees.specs.Shapes.{shape}
 use Rattle.trees.proofs.Thinning.{map-thins, flat-leaves, leaves-whole}
 use Rattle.trees.proofs.Settling.{leaves-twice}
-use Rattle.pages.specs.Layout.{EntryFits}
+use Rattle.pages.specs.PageLayout.{EntryFits}
 use Rattle.index.specs.Pictures.{Item, keyOf, indexOf, entriesIn, WholePages}
 use Rattle.desks.specs.States.{book, stateOf}
 use Rattle.desks.specs.Fitting.{AskFits, Fitting}

@@ -14,7 +14,7 @@ use Rattle.rules.specs.Good.{Good}
 use Rattle.rules.specs.Document.{endMark}
 use Rattle.trees.specs.Trees.{Child, Tree, Index, WholeIndex, documentSizes, flat}
 use Rattle.trees.specs.Growth.{inLeaves}
-use Rattle.entries.specs.Records.{orZero}
+use Rattle.entries.specs.Absent.{orZero}
 use Rattle.pages.specs.declared.Child as P
 use Rattle.index.specs.Pictures.{Item, keyOf, headPage, leafPage, innerPage}
 use Rattle.desks.specs.States.{book, deskWith}

@@ -11,7 +11,7 @@ use native.Mathlib.Omega.{arith}
 use lib.ListN.{length, getD, drop}
 use Rattle.limits.specs.Limits.{spaceLeast}
 use Rattle.rules.specs.Kinds.{Call}
-use Rattle.entries.specs.Records.{heard}
+use Rattle.entries.specs.RequestRecord.{heard}
 use Rattle.entries.proofs.Written.{length-written, written-rest}
 use Rattle.desks.specs.States.{stateOf}
 use Rattle.desks.specs.Whole.{Whole}

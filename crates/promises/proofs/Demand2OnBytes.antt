@@ -18,7 +18,8 @@ use Rattle.trees.specs.Trees.{documentSizes}
 use Rattle.trees.specs.Growth.{fits}
 use Rattle.trees.proofs.Shaped.{fits-shape}
 use Rattle.index.specs.Pictures.{keyOf, indexOf}
-use Rattle.entries.specs.Records.{heard, written}
+use Rattle.entries.specs.RequestRecord.{heard}
+use Rattle.entries.specs.AnswerRecord.{written}
 use Rattle.entries.proofs.Number12.{heard-legal}
 use Rattle.desks.specs.States.{book, stateOf}
 use Rattle.desks.specs.Whole.{Whole}

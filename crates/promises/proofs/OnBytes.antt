@@ -22,7 +22,7 @@ use Rattle.rules.specs.Chains.{ChainsEnd}
 use Rattle.rules.proofs.Orders.{numbers-ordered}
 use Rattle.rules.proofs.Rest.{after-rests}
 use Rattle.rules.proofs.GoodKept.{step-good, fresh-good}
-use Rattle.entries.specs.Records.{heard}
+use Rattle.entries.specs.RequestRecord.{heard}
 use Rattle.entries.proofs.Number12.{heard-legal}
 use Rattle.desks.specs.States.{book, stateOf}
 use Rattle.calls.specs.Promise.{shortSpace}

@@ -8,7 +8,7 @@ use mathlib.Core.List.{List}
 use mathlib.Core.Option.{none}
 use lib.ListN.{length, getD, drop}
 use Rattle.limits.specs.Limits.{spaceLeast}
-use Rattle.entries.specs.Records.{heard}
+use Rattle.entries.specs.RequestRecord.{heard}
 use Rattle.desks.specs.Whole.{Whole}
 use Rattle.calls.specs.Promise.{Lent, wrongSizes, returned}
 

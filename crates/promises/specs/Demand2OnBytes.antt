@@ -12,7 +12,8 @@ use Rattle.rules.specs.Runs.{Answer}
 use Rattle.trees.specs.Trees.{documentSizes}
 use Rattle.trees.specs.Growth.{needed}
 use Rattle.index.specs.Pictures.{keyOf, indexOf}
-use Rattle.entries.specs.Records.{heard, written}
+use Rattle.entries.specs.RequestRecord.{heard}
+use Rattle.entries.specs.AnswerRecord.{written}
 use Rattle.desks.specs.States.{book, stateOf}
 use Rattle.desks.specs.Whole.{Whole}
 use Rattle.calls.specs.Promise.{Lent, wrongSizes, returned, Served}

@@ -10,7 +10,7 @@ use Rattle.rules.specs.Locks.{inUse, sameName, conflict}
 use Rattle.rules.specs.Runs.{AtRest}
 use Rattle.rules.specs.Desk.{fresh, after}
 use Rattle.rules.specs.Chains.{ChainsEnd}
-use Rattle.tables.specs.Layout.{slotsOf}
+use Rattle.tables.specs.SlotLayout.{slotsOf}
 use Rattle.index.specs.Pictures.{entriesIn}
 use Rattle.desks.specs.States.{book, stateOf}
 use Rattle.desks.specs.Whole.{Whole}

@@ -12,7 +12,7 @@ use Rattle.limits.specs.Limits.{pagesSize}
 use Rattle.lists.specs.Lists.{first}
 use Rattle.numbers.specs.Numbers.{Bytes}
 use Rattle.rules.specs.Document.{endMark}
-use Rattle.entries.specs.Meaning.{bookEntry}
+use Rattle.entries.specs.EntryMeaning.{bookEntry}
 use Rattle.entries.specs.declared.Entry as E
 use Rattle.entries.specs.declared.Key.{Key}
 use Rattle.trees.specs.Growth.{missing}

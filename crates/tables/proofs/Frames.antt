@@ -15,9 +15,11 @@ use Rattle.numbers.proofs.Agree.{Touches, touches-wider}
 use Rattle.numbers.proofs.Numbers.{number-apart, number-same, number-other, touches-putNumber}
 use Rattle.numbers.proofs.Fields.{fields-apart, touches-putFields}
 use Rattle.rules.specs.Kinds.{Mode, Name, Lock}
-use Rattle.tables.specs.Layout.{headWidths, queued, queuePlace, inPlace, recordPlace, askAt, askWidths, putAsk, lockWidths, lockPlace, slotFields, slotAt, putSlot}
-use Rattle.tables.specs.Moves.{heldIn, freeIn, strengthened, lockTaken, locksReleased, markPut, markNumber}
-use Rattle.tables.proofs.Back.{askOf, ask-of}
+use Rattle.tables.specs.QueueLayout.{headWidths, queued, queuePlace, inPlace, recordPlace, askAt, askWidths, putAsk}
+use Rattle.tables.specs.SlotLayout.{lockWidths, lockPlace, slotFields, slotAt, putSlot}
+use Rattle.tables.specs.SlotMoves.{heldIn, freeIn, strengthened, lockTaken, locksReleased}
+use Rattle.tables.specs.QueueMoves.{markPut, markNumber}
+use Rattle.tables.proofs.AskBack.{askOf, ask-of}
 use Rattle.tables.proofs.Releases.{touches-releasedTo, releasedTo}
 
 module _ {b m : ℕ} {d u : List ℕ} (f : Touches b m d u) where

@@ -10,8 +10,8 @@ use Rattle.lists.specs.Lists.{any, keep, isNil}
 use Rattle.rules.specs.Kinds.{Paging, Lock}
 use Rattle.rules.specs.Locks.{Slots, Want, inUse, conflict, sameName, holders}
 use Rattle.rules.specs.Document.{document}
-use Rattle.tables.specs.Moves.{isSlotAgainst}
-use Rattle.tables.proofs.Values.{names-any}
+use Rattle.tables.specs.SlotMoves.{isSlotAgainst}
+use Rattle.tables.proofs.LockValues.{names-any}
 
 abbrev pub holderOf : Option (Lock ℕ) → ℕ
 holderOf none = 0

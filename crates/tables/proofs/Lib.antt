@@ -1,5 +1,7 @@
-pub mod Values
-pub mod Back
+pub mod AskValues
+pub mod LockValues
+pub mod AskBack
+pub mod SlotBack
 pub mod Slots
 pub mod Takes
 pub mod Releases

@@ -12,8 +12,8 @@ use Rattle.lists.proofs.Tables.{length-tab, getD-tab}
 use Rattle.numbers.specs.Numbers.{numberAt}
 use Rattle.rules.specs.Kinds.{Mark, idle, running}
 use Rattle.rules.specs.Desk as D
-use Rattle.tables.specs.Layout.{recordPlace, markIn, isRunning, marksOf}
-use Rattle.tables.specs.Moves.{markNumber}
+use Rattle.tables.specs.QueueLayout.{recordPlace, markIn, isRunning, marksOf}
+use Rattle.tables.specs.QueueMoves.{markNumber}
 
 pub mark-fits : (b : Bool) → markNumber b < 256 ^ 2
 mark-fits true = lit< tt

@@ -20,7 +20,7 @@ use Rattle.rules.specs.Desk.{isTransaction}
 use Rattle.rules.specs.Good.{Good, otherAsker}
 use Rattle.rules.specs.Document.{document}
 use Rattle.rules.proofs.Waits.{in-everyone, runs-known, queued-runs}
-use Rattle.tables.specs.Layout.{queued, inPlace, queuedAt, queueOf}
+use Rattle.tables.specs.QueueLayout.{queued, inPlace, queuedAt, queueOf}
 
 pub record InOrder (d : List ℕ) : Type 0 where
   pub few : queued d ≤ transactionsMost

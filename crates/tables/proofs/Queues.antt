@@ -25,8 +25,8 @@ use Rattle.rules.specs.Kinds.{Paging, Ask, Queued}
 use Rattle.rules.specs.Queue.{leave}
 use Rattle.rules.specs.Good.{otherAsker}
 use Rattle.rules.specs.Document.{document}
-use Rattle.tables.specs.Layout.{headWidths, queued, queuePlace, inPlace, recordPlace, askAt, askFields, putAsk, queuedAt, queueOf}
-use Rattle.tables.specs.Moves.{waitsIn, queueJoined, queueLeft}
+use Rattle.tables.specs.QueueLayout.{headWidths, queued, queuePlace, inPlace, recordPlace, askAt, askFields, putAsk, queuedAt, queueOf}
+use Rattle.tables.specs.QueueMoves.{waitsIn, queueJoined, queueLeft}
 use Rattle.tables.proofs.Order.{InOrder}
 use Rattle.tables.proofs.Frames.{touches-ask, ask-beside, place-beside, head-beside, head-count}
 

@@ -14,8 +14,8 @@ use Rattle.numbers.proofs.Agree.{Touches}
 use Rattle.numbers.proofs.Numbers.{number-apart, number-same, touches-putNumber}
 use Rattle.numbers.proofs.Fields.{fields-apart, fields-same}
 use Rattle.rules.specs.Kinds.{Ask}
-use Rattle.tables.specs.Layout.{queued, inPlace, recordPlace, recordWidths, recordAt, askWidths, askFields, putAsk}
-use Rattle.tables.specs.Moves.{queueJoined, queueLeft, markNumber, markPut}
+use Rattle.tables.specs.QueueLayout.{queued, inPlace, recordPlace, recordWidths, recordAt, askWidths, askFields, putAsk}
+use Rattle.tables.specs.QueueMoves.{queueJoined, queueLeft, markNumber, markPut}
 use Rattle.tables.proofs.Order.{InOrder}
 use Rattle.tables.proofs.Frames.{OnlyLocks, touches-ask}
 use Rattle.tables.proofs.Marks.{mark-fits}

@@ -17,8 +17,8 @@ use Rattle.numbers.specs.Numbers.{numberAt, part, putPart, zeroed}
 use Rattle.numbers.proofs.Agree.{Touches, touches-wider}
 use Rattle.numbers.proofs.Parts.{length-part, numberAt-part, putPart-part, putPart-none, part-apart, part-same, touches-putPart}
 use Rattle.numbers.proofs.Splices.{putPart-behind}
-use Rattle.tables.specs.Layout.{lockPlace}
-use Rattle.tables.specs.Moves.{rowFreed, rowReleased, locksReleased}
+use Rattle.tables.specs.SlotLayout.{lockPlace}
+use Rattle.tables.specs.SlotMoves.{rowFreed, rowReleased, locksReleased}
 
 -- ---- one slot, as the code tests and writes it
 module _ (d : List ℕ) (t i h : ℕ) (e : h ≡ numberAt 2 d (slotsPlace + slotSize * i + keySize)) where

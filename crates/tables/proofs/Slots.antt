@@ -15,9 +15,9 @@ use Rattle.numbers.specs.Numbers.{widthOf, Fits}
 use Rattle.numbers.proofs.Fields.{fields-same, fields-other}
 use Rattle.numbers.proofs.Tables.{rows-distinct}
 use Rattle.rules.specs.Kinds.{Mode, S, X, Lock}
-use Rattle.tables.specs.Layout.{lockWidths, lockPlace, nameIn, modeNumber, slotIn, slotFields, slotAt, putSlot, slotsOf}
-use Rattle.tables.proofs.Values.{name-back}
-use Rattle.tables.proofs.Back.{slot-there}
+use Rattle.tables.specs.SlotLayout.{lockWidths, lockPlace, nameIn, modeNumber, slotIn, slotFields, slotAt, putSlot, slotsOf}
+use Rattle.tables.proofs.LockValues.{name-back}
+use Rattle.tables.proofs.SlotBack.{slot-there}
 
 -- ---- a lock written and read back
 pub mode-fits : (m : Mode) → modeNumber m < 256 ^ 2

@@ -20,9 +20,9 @@ use Rattle.rules.specs.Locks.{Slots, inUse, stronger, sameName, isOf, holds, ra
 use Rattle.rules.specs.Good.{together}
 use Rattle.rules.specs.Document.{document, endless}
 use Rattle.tables.specs.declared.Slot as Sl
-use Rattle.tables.specs.Layout.{nameIn, slotAt, putSlot, slotsOf, bookSlot}
-use Rattle.tables.specs.Moves.{isSlotOf, strengthened, heldIn, freeIn, takenAt, givenAt, lockTaken, lockGiven}
-use Rattle.tables.proofs.Values.{names-any, same-is, same-itself}
+use Rattle.tables.specs.SlotLayout.{nameIn, slotAt, putSlot, slotsOf, bookSlot}
+use Rattle.tables.specs.SlotMoves.{isSlotOf, strengthened, heldIn, freeIn, takenAt, givenAt, lockTaken, lockGiven}
+use Rattle.tables.proofs.LockValues.{names-any, same-is, same-itself}
 use Rattle.tables.proofs.Slots.{lock, lock-fits, lock-back, slots-put, length-slots, slot-in}
 
 -- ---- the code's cases: t has the name, a slot is free, none is

@@ -1,2 +1,4 @@
-pub mod Layout
-pub mod Moves
+pub mod SlotLayout
+pub mod QueueLayout
+pub mod SlotMoves
+pub mod QueueMoves

@@ -4,8 +4,8 @@ ghost use mathlib.Core.Path.{_≡_};
 ghost use mathlib.Core.Bool.{not};
 ghost use Rattle.rules.specs.Entries.{isThere};
 ghost use Rattle.rules.specs.Locks.{conflict, stronger};
-ghost use Rattle.tables.specs.Layout.{nameIn, modeIn, modeNumber, bookMode, bookSlot};
-ghost use Rattle.tables.specs.Moves.{isSlotOf, isSlotAgainst, strengthened};
+ghost use Rattle.tables.specs.SlotLayout.{nameIn, modeIn, modeNumber, bookMode, bookSlot};
+ghost use Rattle.tables.specs.SlotMoves.{isSlotOf, isSlotAgainst, strengthened};
 use entries::Key;
 
 pub mod head;

@@ -22,8 +22,9 @@ use Rattle.rules.proofs.Waits.{oldest-waits}
 use Rattle.circles.proofs.Known.{waits-known}
 use Rattle.entries.specs.declared.Answer.{Answer}
 use Rattle.entries.specs.declared.Says.the-variants.{Circle}
-use Rattle.tables.specs.Layout.{queued, inPlace, queuedAt, slotsOf}
-use Rattle.tables.specs.Moves.{queueLeft}
+use Rattle.tables.specs.QueueLayout.{queued, inPlace, queuedAt}
+use Rattle.tables.specs.SlotLayout.{slotsOf}
+use Rattle.tables.specs.QueueMoves.{queueLeft}
 use Rattle.index.specs.Pictures.{entriesIn}
 use Rattle.desks.specs.States.{book, stateOf}
 use Rattle.desks.specs.Whole.{Whole, Says}

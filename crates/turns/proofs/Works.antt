@@ -10,10 +10,10 @@ use Rattle.limits.specs.Limits.{answerSize}
 use Rattle.rules.specs.Runs.{Worked, turn}
 use Rattle.rules.proofs.Rest.{turn-takes-one, worked-turn, worked-done}
 use Rattle.entries.specs.declared.Answer.{Answer}
-use Rattle.entries.specs.Meaning.{bookAnswer}
-use Rattle.entries.specs.Records.{putAnswer, written}
+use Rattle.entries.specs.AnswerMeaning.{bookAnswer}
+use Rattle.entries.specs.AnswerRecord.{putAnswer, written}
 use Rattle.entries.proofs.Answers.{length-putAnswer}
-use Rattle.tables.specs.Layout.{queued}
+use Rattle.tables.specs.QueueLayout.{queued}
 use Rattle.tables.proofs.Queues.{length-queue}
 use Rattle.desks.specs.States.{book, stateOf}
 use Rattle.desks.specs.Whole.{Whole}

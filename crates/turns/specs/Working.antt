@@ -8,9 +8,9 @@ use Rattle.limits.specs.Limits.{answerSize}
 use Rattle.rules.specs.Queue.{St}
 use Rattle.rules.specs.Runs.{circle, unmoved, left, Turn, turn, Worked, worked}
 use Rattle.entries.specs.declared.Answer.{Answer}
-use Rattle.entries.specs.Meaning.{bookAnswer}
-use Rattle.entries.specs.Records.{written}
-use Rattle.tables.specs.Layout.{queuedAt}
+use Rattle.entries.specs.AnswerMeaning.{bookAnswer}
+use Rattle.entries.specs.AnswerRecord.{written}
+use Rattle.tables.specs.QueueLayout.{queuedAt}
 use Rattle.desks.specs.States.{book, stateOf}
 use Rattle.desks.specs.Whole.{Whole, Says}
 use Rattle.turns.specs.declared.Turned.{Turned}

@@ -5,7 +5,7 @@ ghost use mathlib.Core.Option.{none};
 ghost use lib.ListN.{length};
 ghost use Rattle.limits.specs.Limits.{transactionsMost, answerSize};
 ghost use Rattle.rules.specs.Queue.{oldest};
-ghost use Rattle.tables.specs.Layout.{queued};
+ghost use Rattle.tables.specs.QueueLayout.{queued};
 ghost use Rattle.desks.specs.States.{book, stateOf};
 ghost use Rattle.desks.specs.Whole.{Whole};
 ghost use Rattle.waits.specs.Notes.{Noted};

@@ -14,9 +14,10 @@ use Rattle.rules.specs.Kinds.{Name, Paging}
 use Rattle.rules.specs.Locks as K
 use Rattle.trees.specs.Trees.{documentSizes}
 use Rattle.trees.specs.Shapes.{treePaging}
-use Rattle.tables.specs.Layout.{queuedAt, slotsOf, bookMode}
-use Rattle.tables.specs.Moves.{isSlotAgainst, heldIn}
-use Rattle.tables.proofs.Values.{same-name}
+use Rattle.tables.specs.QueueLayout.{queuedAt}
+use Rattle.tables.specs.SlotLayout.{slotsOf, bookMode}
+use Rattle.tables.specs.SlotMoves.{isSlotAgainst, heldIn}
+use Rattle.tables.proofs.LockValues.{same-name}
 use Rattle.tables.proofs.Holders.{holders-none}
 use Rattle.tables.proofs.Takes.{holds-is}
 use Rattle.index.specs.Pictures.{entriesIn}

@@ -20,7 +20,8 @@ use Rattle.rules.specs.Good.{ascending, isName, lockStands}
 use Rattle.rules.proofs.Waits.{runs-known}
 use Rattle.trees.specs.Trees.{documentSizes}
 use Rattle.trees.specs.Shapes.{treePaging}
-use Rattle.tables.specs.Layout.{queued, inPlace, slotAt, slotsOf}
+use Rattle.tables.specs.QueueLayout.{queued, inPlace}
+use Rattle.tables.specs.SlotLayout.{slotAt, slotsOf}
 use Rattle.tables.proofs.Order.{InOrder, in-order}
 use Rattle.index.specs.Pictures.{entriesIn}
 use Rattle.desks.specs.States.{book, stateOf}

@@ -18,7 +18,8 @@ use Rattle.rules.specs.Kinds.{Entry, Queued}
 use Rattle.rules.specs.Locks as K
 use Rattle.rules.specs.Queue.{Wait, waitsFrom, waits, onCircle, newest}
 use Rattle.rules.specs.Good.{otherAsker}
-use Rattle.tables.specs.Layout.{queued, inPlace, queuedAt, queueOf, slotsOf}
+use Rattle.tables.specs.QueueLayout.{queued, inPlace, queuedAt, queueOf}
+use Rattle.tables.specs.SlotLayout.{slotsOf}
 use Rattle.index.specs.Pictures.{entriesIn}
 use Rattle.desks.specs.States.{book, stateOf}
 use Rattle.desks.specs.Whole.{Whole}

@@ -17,8 +17,8 @@ use Rattle.rules.specs.Kinds.{Name, Lock}
 use Rattle.rules.specs.Entries.{isThere}
 use Rattle.rules.specs.Locks as K
 use Rattle.tables.specs.declared.Slot.{Slot}
-use Rattle.tables.specs.Layout.{slotAt, slotsOf, bookSlot}
-use Rattle.tables.specs.Moves.{isSlotOf, isSlotAgainst, heldIn, freeIn}
+use Rattle.tables.specs.SlotLayout.{slotAt, slotsOf, bookSlot}
+use Rattle.tables.specs.SlotMoves.{isSlotOf, isSlotAgainst, heldIn, freeIn}
 use Rattle.desks.specs.States.{book}
 use Rattle.waits.specs.declared.Seen.{Seen}
 use Rattle.waits.specs.declared.Sight.{Sight}

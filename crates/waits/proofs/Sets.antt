@@ -17,8 +17,9 @@ use Rattle.lists.proofs.Tables.{tab-last}
 use Rattle.rules.specs.Kinds.{Name, Mode, Lock, Queued}
 use Rattle.rules.specs.Locks as K
 use Rattle.tables.specs.declared.Slot.{Slot}
-use Rattle.tables.specs.Layout.{queued, inPlace, queuedAt, slotAt, slotsOf, bookSlot}
-use Rattle.tables.specs.Moves.{isSlotOf, isSlotAgainst, heldIn}
+use Rattle.tables.specs.QueueLayout.{queued, inPlace, queuedAt}
+use Rattle.tables.specs.SlotLayout.{slotAt, slotsOf, bookSlot}
+use Rattle.tables.specs.SlotMoves.{isSlotOf, isSlotAgainst, heldIn}
 use Rattle.tables.proofs.Holders as H
 use Rattle.index.specs.Pictures.{entriesIn}
 use Rattle.desks.specs.States.{book}

@@ -21,9 +21,10 @@ use Rattle.entries.specs.declared.Key.{Key}
 use Rattle.entries.specs.declared.Entry as E
 use Rattle.entries.specs.declared.Ask as A
 use Rattle.entries.specs.declared.Ask.the-variants as AV
-use Rattle.entries.specs.Meaning.{bookAsk}
+use Rattle.entries.specs.RequestMeaning.{bookAsk}
 use Rattle.tables.specs.declared.Mode as M
-use Rattle.tables.specs.Layout.{nameIn, nameNumber, bookMode, askAt, inPlace, queuedAt}
+use Rattle.tables.specs.SlotLayout.{nameIn, nameNumber, bookMode}
+use Rattle.tables.specs.QueueLayout.{askAt, inPlace, queuedAt}
 use Rattle.index.specs.declared.Found.{Found}
 use Rattle.index.specs.declared.Found.the-variants.{Here}
 use Rattle.index.specs.Pictures.{entriesIn}

@@ -11,8 +11,9 @@ use Rattle.lists.specs.Lists.{any, tab}
 use Rattle.rules.specs.Kinds.{Entry, Queued, Lock}
 use Rattle.rules.specs.Locks as K
 use Rattle.rules.specs.Queue.{waits}
-use Rattle.tables.specs.Layout.{inPlace, queuedAt, slotAt, slotsOf}
-use Rattle.tables.specs.Moves.{isSlotAgainst}
+use Rattle.tables.specs.QueueLayout.{inPlace, queuedAt}
+use Rattle.tables.specs.SlotLayout.{slotAt, slotsOf}
+use Rattle.tables.specs.SlotMoves.{isSlotAgainst}
 use Rattle.index.specs.Pictures.{entriesIn}
 use Rattle.desks.specs.States.{book, stateOf}
 use Rattle.circles.specs.Sets.{RowOf}

@@ -6,8 +6,9 @@ use mathlib.Core.Option.{Option, none, some}
 use Rattle.rules.specs.Kinds.{Queued}
 use Rattle.rules.specs.Locks as K
 use Rattle.rules.specs.Queue.{Wait, oldest, newest}
-use Rattle.tables.specs.Layout.{queued, queuedAt, nameIn, bookMode}
-use Rattle.tables.specs.Moves.{heldIn, freeIn}
+use Rattle.tables.specs.QueueLayout.{queued, queuedAt}
+use Rattle.tables.specs.SlotLayout.{nameIn, bookMode}
+use Rattle.tables.specs.SlotMoves.{heldIn, freeIn}
 use Rattle.index.specs.Pictures.{entriesIn}
 use Rattle.index.specs.Searches.{bookFound}
 use Rattle.desks.specs.States.{book, stateOf}

@@ -8,7 +8,8 @@ use lib.ListN.{length, getD}
 use Rattle.limits.specs.Limits.{transactionsMost}
 use Rattle.lists.specs.Lists.{isNil}
 use Rattle.rules.specs.Locks as K
-use Rattle.tables.specs.Layout.{queued, nameIn, modeIn}
+use Rattle.tables.specs.QueueLayout.{queued}
+use Rattle.tables.specs.SlotLayout.{nameIn, modeIn}
 use Rattle.index.specs.Searches.{bookFound}
 use Rattle.desks.specs.States.{book}
 use Rattle.waits.specs.declared.Looked.{Looked}

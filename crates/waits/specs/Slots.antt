@@ -9,8 +9,8 @@ use Rattle.lists.specs.Lists.{any, tab, place}
 use Rattle.rules.specs.Kinds.{Name, Lock}
 use Rattle.rules.specs.Entries.{isThere}
 use Rattle.rules.specs.Locks as K
-use Rattle.tables.specs.Layout.{slotAt}
-use Rattle.tables.specs.Moves.{isSlotOf, isSlotAgainst}
+use Rattle.tables.specs.SlotLayout.{slotAt}
+use Rattle.tables.specs.SlotMoves.{isSlotOf, isSlotAgainst}
 use Rattle.desks.specs.States.{book}
 use Rattle.circles.specs.Sets.{SetOf}
 use Rattle.waits.specs.declared.Seen.{Seen}

@@ -2,7 +2,7 @@
 ghost use mathlib.Core.Path.{_≡_};
 ghost use Prim.Native.Nat.{_+_, _<_};
 ghost use Rattle.limits.specs.Limits.{transactionsMost, locksMost};
-ghost use Rattle.tables.specs.Layout.{queued, queuedAt};
+ghost use Rattle.tables.specs.QueueLayout.{queued, queuedAt};
 ghost use Rattle.desks.specs.Whole.{Whole};
 ghost use Rattle.waits.specs.Choices.{bookWant, OldestIs};
 ghost use Rattle.waits.specs.Blocks.{isRival, isBehind};

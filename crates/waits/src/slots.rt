@@ -2,8 +2,8 @@
 ghost use mathlib.Core.Path.{_≡_};
 ghost use Prim.Native.Nat.{_<_};
 ghost use Rattle.limits.specs.Limits.{locksMost, deskSize};
-ghost use Rattle.tables.specs.Layout.{bookSlot};
-ghost use Rattle.tables.specs.Moves.{isSlotOf, isSlotAgainst};
+ghost use Rattle.tables.specs.SlotLayout.{bookSlot};
+ghost use Rattle.tables.specs.SlotMoves.{isSlotOf, isSlotAgainst};
 ghost use Rattle.waits.specs.Choices.{bookWant};
 ghost use Rattle.waits.specs.Slots.{firstTo, seenWith, SeenTo, SightAt};
 use super::Seen;

@@ -25,7 +25,7 @@ use Rattle.rules.specs.Good.{together}
 use Rattle.rules.proofs.Orders.{numbers-ordered}
 use Rattle.rules.proofs.Keys.{name-equal}
 use Rattle.rules.proofs.LockTable.{conflict-turn}
-use Rattle.tables.specs.Layout.{lockPlace, nameNumber, slotIn, slotAt, slotsOf}
+use Rattle.tables.specs.SlotLayout.{lockPlace, nameNumber, slotIn, slotAt, slotsOf}
 use Rattle.desks.specs.States.{book}
 use Rattle.whole.specs.Checks.{slotTogether}
 use Rattle.whole.specs.Orders.{placed, comesFirst, goesUp, clashes, begins, hasPlace}

@@ -18,7 +18,8 @@ use Rattle.lists.proofs.Tables.{all-next, all-done, any-next, any-done}
 use Rattle.lists.proofs.Elements.{in-tab}
 use Rattle.numbers.specs.Numbers.{numberAt, part, zeroAt}
 use Rattle.numbers.proofs.Numbers.{number-none}
-use Rattle.pages.specs.Layout.{countOf, entriesOf, childAt, childrenOf}
+use Rattle.pages.specs.PageHead.{countOf}
+use Rattle.pages.specs.PageLayout.{entriesOf, childAt, childrenOf}
 use Rattle.pages.specs.declared.Child.{Child}
 use Rattle.index.specs.Pictures.{pageAt}
 use Rattle.whole_pages.specs.declared.Span.{Span}

@@ -21,7 +21,8 @@ use Rattle.rules.proofs.Orders.{numbers-ordered}
 use Rattle.trees.specs.Trees.{flat}
 use Rattle.trees.proofs.Sorted.{Sorted}
 use Rattle.trees.proofs.Order.{flat-sorted}
-use Rattle.pages.specs.Layout.{countOf, entryIn, entryAt, entriesOf, childrenOf}
+use Rattle.pages.specs.PageHead.{countOf}
+use Rattle.pages.specs.PageLayout.{entryIn, entryAt, entriesOf, childrenOf}
 use Rattle.pages.specs.declared.Child as P
 use Rattle.index.specs.Pictures.{Item, keyOf, pageAt, treeOf}
 use Rattle.index.proofs.Frame.{kid}

@@ -24,12 +24,13 @@ use Rattle.rules.proofs.Orders.{numbers-ordered}
 use Rattle.trees.specs.Trees.{flat, under, inside}
 use Rattle.trees.proofs.Sorted.{Sorted}
 use Rattle.trees.proofs.Order.{flat-sorted}
-use Rattle.pages.specs.Layout.{rootOf, heightOf}
+use Rattle.pages.specs.PageHead.{rootOf, heightOf}
 use Rattle.index.specs.Pictures.{Item, keyOf, pageAt, treeOf, indexOf, entriesIn}
-use Rattle.tables.specs.Layout.{nameIn, slotsOf, queueOf, marksOf}
+use Rattle.tables.specs.SlotLayout.{nameIn, slotsOf}
+use Rattle.tables.specs.QueueLayout.{queueOf, marksOf}
 use Rattle.tables.proofs.Slots.{length-slots}
 use Rattle.tables.proofs.Marks.{length-marks}
-use Rattle.tables.proofs.Back.{name-there}
+use Rattle.tables.proofs.SlotBack.{name-there}
 use Rattle.whole_pages.specs.Walks.{pagesOk}
 use Rattle.whole_pages.proofs.Entries.{Rests}
 use Rattle.whole_pages.proofs.Leaves.{is-under}

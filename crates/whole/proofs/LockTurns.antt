@@ -18,17 +18,18 @@ use Rattle.rules.specs.Document.{endMark}
 use Rattle.rules.specs.Entries.{isThere}
 use Rattle.rules.specs.Locks.{conflict}
 use Rattle.rules.specs.Good.{together}
-use Rattle.entries.specs.Meaning.{bookEntry}
+use Rattle.entries.specs.EntryMeaning.{bookEntry}
 use Rattle.entries.specs.declared.Entry as E
-use Rattle.tables.specs.Layout.{nameIn, slotAt, slotsOf, bookMode, bookSlot}
-use Rattle.tables.specs.Moves.{isSlotOf}
-use Rattle.tables.proofs.Values.{same-name}
+use Rattle.tables.specs.SlotLayout.{nameIn, slotAt, slotsOf, bookMode, bookSlot}
+use Rattle.tables.specs.SlotMoves.{isSlotOf}
+use Rattle.tables.proofs.LockValues.{same-name}
 use Rattle.tables.specs.declared.Slot as Sl
 use Rattle.tables.specs.declared.Slot.the-variants as SV
 use Rattle.tables.specs.declared.Lock as L
 use Rattle.trees.specs.Shapes.{treePaging}
 use Rattle.trees.specs.Trees.{documentSizes}
-use Rattle.pages.specs.Layout.{countOf, entryAt, entriesOf}
+use Rattle.pages.specs.PageHead.{countOf}
+use Rattle.pages.specs.PageLayout.{entryAt, entriesOf}
 use Rattle.index.specs.Pictures.{pageAt}
 use Rattle.index.proofs.Buffers.{page-lent}
 use Rattle.whole.specs.Checks.{slotTogether, slotHasX, slotHolds, entryHeld, hasKey, findAt, ownersAt, named, slotNamed, locksOk}

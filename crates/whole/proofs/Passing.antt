@@ -17,14 +17,15 @@ use Rattle.rules.specs.Entries.{isThere}
 use Rattle.rules.specs.Locks.{conflict}
 use Rattle.rules.specs.Document.{endMark}
 use Rattle.trees.specs.Trees.{flat}
-use Rattle.entries.specs.Meaning.{bookEntry}
+use Rattle.entries.specs.EntryMeaning.{bookEntry}
 use Rattle.entries.specs.declared.Entry as E
-use Rattle.tables.specs.Layout.{slotAt, bookMode, bookSlot}
-use Rattle.tables.proofs.Values.{name-back}
+use Rattle.tables.specs.SlotLayout.{slotAt, bookMode, bookSlot}
+use Rattle.tables.proofs.LockValues.{name-back}
 use Rattle.tables.specs.declared.Slot as Sl
 use Rattle.tables.specs.declared.Slot.the-variants as SV
 use Rattle.tables.specs.declared.Lock as L
-use Rattle.pages.specs.Layout.{countOf, entryAt, entriesOf, childAt, childrenOf}
+use Rattle.pages.specs.PageHead.{countOf}
+use Rattle.pages.specs.PageLayout.{entryAt, entriesOf, childAt, childrenOf}
 use Rattle.pages.specs.declared.Child.{Child}
 use Rattle.index.specs.Pictures.{Item, pageAt, treeOf}
 use Rattle.index.proofs.Frame.{kid}

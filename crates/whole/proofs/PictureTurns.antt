@@ -15,7 +15,7 @@ use Rattle.whole_pages.specs.Walks.{spanOf, onlyZero, marks, treeOk, wentOk, fr
 use Rattle.whole_pages.proofs.Marks.{reached, walk-is}
 use Rattle.whole_pages.proofs.Pages.{guard-went, went-ok}
 use Rattle.whole_pages.proofs.Tops.{height-some, front-parts}
-use Rattle.pages.specs.Layout.{rootOf, usedOf, heightOf}
+use Rattle.pages.specs.PageHead.{rootOf, usedOf, heightOf}
 use Rattle.index.specs.Pictures.{pageAt}
 use Rattle.whole_desk.specs.Checks.{deskOk}
 use Rattle.whole.specs.Checks.{locksOk, Fine}

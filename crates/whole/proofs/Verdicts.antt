@@ -22,8 +22,8 @@ use Rattle.rules.specs.Kinds.{Lock, Name, on, end}
 use Rattle.rules.specs.Entries.{isThere}
 use Rattle.rules.specs.Document.{endMark}
 use Rattle.trees.specs.Trees.{flat}
-use Rattle.tables.specs.Layout.{lockWidths, lockPlace, nameIn, nameNumber, modeIn, slotIn, slotAt, slotsOf}
-use Rattle.tables.proofs.Values.{name-back}
+use Rattle.tables.specs.SlotLayout.{lockWidths, lockPlace, nameIn, nameNumber, modeIn, slotIn, slotAt, slotsOf}
+use Rattle.tables.proofs.LockValues.{name-back}
 use Rattle.index.specs.Pictures.{Item, treeOf}
 use Rattle.whole_desk.proofs.Free.{zero-free}
 use Rattle.whole.specs.declared.Passage.{Passage}

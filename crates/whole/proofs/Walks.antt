@@ -21,9 +21,9 @@ use Rattle.rules.specs.Document.{document, endless, endMark}
 use Rattle.rules.proofs.Orders.{numbers-ordered}
 use Rattle.rules.proofs.Keys.{name-equal}
 use Rattle.trees.specs.Trees.{under}
-use Rattle.tables.specs.Layout.{nameIn, nameNumber}
-use Rattle.tables.specs.Moves.{isSlotOf}
-use Rattle.tables.proofs.Values.{name-back}
+use Rattle.tables.specs.SlotLayout.{nameIn, nameNumber}
+use Rattle.tables.specs.SlotMoves.{isSlotOf}
+use Rattle.tables.proofs.LockValues.{name-back}
 use Rattle.index.specs.Pictures.{Item}
 use Rattle.whole_pages.proofs.Leaves.{is-under}
 use Rattle.whole.specs.declared.Passage.{Passage}

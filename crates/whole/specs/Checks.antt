@@ -12,9 +12,9 @@ use Rattle.lists.specs.Lists.{all, any, pairs}
 use Rattle.numbers.specs.Numbers.{Bytes}
 use Rattle.rules.specs.Kinds.{Lock, Entry, Name, on, end}
 use Rattle.rules.specs.Good.{isX, together}
-use Rattle.tables.specs.Layout.{nameIn, slotsOf}
-use Rattle.tables.specs.Moves.{isSlotOf}
-use Rattle.pages.specs.Layout.{entriesOf, childrenOf}
+use Rattle.tables.specs.SlotLayout.{nameIn, slotsOf}
+use Rattle.tables.specs.SlotMoves.{isSlotOf}
+use Rattle.pages.specs.PageLayout.{entriesOf, childrenOf}
 use Rattle.index.specs.Pictures.{pageAt}
 use Rattle.whole_pages.specs.Walks.{spanOf, treeOk}
 use Rattle.desks.specs.States.{book}

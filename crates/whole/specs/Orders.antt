@@ -12,7 +12,7 @@ use Rattle.rules.specs.Entries.{isThere}
 use Rattle.rules.specs.Locks.{conflict}
 use Rattle.rules.specs.Document.{endMark}
 use Rattle.trees.specs.Trees.{flat}
-use Rattle.tables.specs.Layout.{nameNumber, slotAt}
+use Rattle.tables.specs.SlotLayout.{nameNumber, slotAt}
 use Rattle.index.specs.Pictures.{Item, treeOf}
 use Rattle.whole.specs.declared.Passage.{Passage}
 use Rattle.whole.specs.declared.Passage.the-variants.{To, Stuck}

@@ -3,7 +3,7 @@
 use Prim.Native.Nat.{ℕ, _-_}
 use mathlib.Core.Bool.{Bool, _&&_}
 use mathlib.Core.List.{List}
-use Rattle.pages.specs.Layout.{rootOf, heightOf}
+use Rattle.pages.specs.PageHead.{rootOf, heightOf}
 use Rattle.index.specs.Pictures.{pageAt}
 use Rattle.whole_pages.specs.Walks.{pagesOk}
 use Rattle.whole_desk.specs.Checks.{deskOk}

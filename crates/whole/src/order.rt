@@ -9,9 +9,10 @@ ghost use Rattle.limits.specs.Limits.{locksMost, pagesMost, pagesSize, leafMost
 ghost use Rattle.lists.specs.Lists.{tab, all, any};
 ghost use Rattle.numbers.specs.Numbers.{zeroAt};
 ghost use Rattle.trees.specs.Trees.{flat};
-ghost use Rattle.pages.specs.Layout.{countOf, entryAt, entriesOf};
+ghost use Rattle.pages.specs.PageHead.{countOf};
+ghost use Rattle.pages.specs.PageLayout.{entryAt, entriesOf};
 ghost use Rattle.index.specs.Pictures.{Item, pageAt, treeOf};
-ghost use Rattle.tables.specs.Layout.{bookSlot};
+ghost use Rattle.tables.specs.SlotLayout.{bookSlot};
 ghost use Rattle.whole.specs.Checks.{slotHolds, locksOk, Fine};
 ghost use Rattle.whole.specs.Orders.{placed, comesFirst, goesUp, clashes, begins, hasPlace, slotOn, stretch, pastEntry, past, walked};
 use super::Passage;

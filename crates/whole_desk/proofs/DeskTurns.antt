@@ -14,7 +14,8 @@ use Rattle.lists.proofs.Tests.{and-left, and-right}
 use Rattle.lists.proofs.Tables.{tab-next, tab-done}
 use Rattle.numbers.specs.Numbers.{numberAt, fieldsAt, zeroAt}
 use Rattle.sets.specs.declared.Set.{Set}
-use Rattle.tables.specs.Layout.{queued, inPlace, isRunning, lockPlace}
+use Rattle.tables.specs.QueueLayout.{queued, inPlace, isRunning}
+use Rattle.tables.specs.SlotLayout.{lockPlace}
 use Rattle.whole_pages.specs.declared.Trail.{Trail}
 use Rattle.whole_pages.specs.declared.Trail.the-variants.{Went, Bad}
 use Rattle.whole_pages.specs.Walks.{onlyZero, markAt, marks, after}

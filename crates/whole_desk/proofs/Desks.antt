@@ -27,7 +27,8 @@ use Rattle.rules.specs.Kinds.{Lock, Queued, Ask, read, insert, delete, idle}
 use Rattle.rules.specs.Locks.{inUse}
 use Rattle.rules.specs.Desk as D
 use Rattle.rules.specs.Document.{document, endless}
-use Rattle.tables.specs.Layout.{headWidths, isRunning, askAt, slotAt, slotsOf, queued, inPlace, queuedAt, queueOf, marksOf}
+use Rattle.tables.specs.QueueLayout.{headWidths, isRunning, askAt, queued, inPlace, queuedAt, queueOf, marksOf}
+use Rattle.tables.specs.SlotLayout.{slotAt, slotsOf}
 use Rattle.tables.proofs.Marks.{running-is}
 use Rattle.tables.proofs.Queues.{length-queue}
 use Rattle.whole_pages.specs.declared.Trail.{Trail}

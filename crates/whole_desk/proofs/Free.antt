@@ -14,7 +14,7 @@ use Rattle.numbers.specs.Numbers.{widthOf, fieldsAt, zeroAt}
 use Rattle.numbers.proofs.Agree.{agree-within}
 use Rattle.numbers.proofs.Fields.{fields-zero}
 use Rattle.numbers.proofs.Moves.{zeroAt-true}
-use Rattle.tables.specs.Layout.{lockWidths, lockPlace, slotIn, slotAt}
+use Rattle.tables.specs.SlotLayout.{lockWidths, lockPlace, slotIn, slotAt}
 use Rattle.whole_desk.specs.Checks.{fieldsOk, slotOk}
 
 module _ (d : List ℕ) (size : length d ≡ deskSize) (zero : zeroAt (slotSize * locksMost) slotsPlace d ≡ true) where

@@ -13,7 +13,7 @@ use lib.Dec.{eqb}
 use Rattle.lists.specs.Lists.{tab, all, pairs, first, times, In}
 use Rattle.lists.proofs.Tests.{both, and-both}
 use Rattle.rules.specs.Kinds.{Queued}
-use Rattle.tables.specs.Layout.{inPlace, askAt, queuedAt}
+use Rattle.tables.specs.QueueLayout.{inPlace, askAt, queuedAt}
 
 module _ (d : List ℕ) where
   abbrev other : Queued ℕ ℕ → Queued ℕ ℕ → Bool

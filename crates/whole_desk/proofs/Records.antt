@@ -20,8 +20,8 @@ use Rattle.sets.specs.declared.Set.{Set}
 use Rattle.rules.specs.Kinds.{Ask, read, insert, delete, Queued, Mark, idle, running}
 use Rattle.rules.specs.Desk as D
 use Rattle.rules.specs.Document.{document, endless}
-use Rattle.tables.specs.Layout.{recordPlace, recordAt, markIn, isRunning, isWaiting, askBy, askIn, askAt, askFields, queued, inPlace, queueOf, marksOf}
-use Rattle.tables.proofs.Back.{isAsk, ask-back}
+use Rattle.tables.specs.QueueLayout.{recordPlace, recordAt, markIn, isRunning, isWaiting, askBy, askIn, askAt, askFields, queued, inPlace, queueOf, marksOf}
+use Rattle.tables.proofs.AskBack.{isAsk, ask-back}
 use Rattle.tables.proofs.Marks.{length-marks}
 use Rattle.desks.specs.States.{waitingFields, markNumber}
 use Rattle.whole_desk.specs.Checks.{formOk, plainOk, listed, recordOk}

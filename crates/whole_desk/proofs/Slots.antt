@@ -18,8 +18,9 @@ use Rattle.lists.proofs.Elements.{tab-in}
 use Rattle.numbers.specs.Numbers.{numberAt, fieldsAt}
 use Rattle.rules.specs.Kinds.{Lock, S, X}
 use Rattle.rules.specs.Locks.{inUse}
-use Rattle.tables.specs.Layout.{lockWidths, lockPlace, nameIn, modeIn, modeNumber, slotIn, slotFields, slotAt, slotsOf, isRunning}
-use Rattle.tables.proofs.Back.{isMode, isRow, slot-back}
+use Rattle.tables.specs.SlotLayout.{lockWidths, lockPlace, nameIn, modeIn, modeNumber, slotIn, slotFields, slotAt, slotsOf}
+use Rattle.tables.specs.QueueLayout.{isRunning}
+use Rattle.tables.proofs.SlotBack.{isMode, isRow, slot-back}
 use Rattle.whole_desk.specs.Checks.{fieldsOk, slotOk}
 
 -- the locks in use stand in slots

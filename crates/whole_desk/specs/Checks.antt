@@ -12,7 +12,8 @@ use Rattle.sets.specs.declared.Set.{Set}
 use Rattle.sets.specs.Sets.{has}
 use Rattle.rules.specs.Desk.{legalAsk}
 use Rattle.rules.specs.Document.{document, endless}
-use Rattle.tables.specs.Layout.{queued, inPlace, recordAt, isRunning, isWaiting, askAt, lockWidths, lockPlace}
+use Rattle.tables.specs.QueueLayout.{queued, inPlace, recordAt, isRunning, isWaiting, askAt}
+use Rattle.tables.specs.SlotLayout.{lockWidths, lockPlace}
 use Rattle.whole_pages.specs.declared.Trail.{Trail}
 use Rattle.whole_pages.specs.declared.Trail.the-variants.{Went, Bad}
 use Rattle.whole_pages.specs.Walks.{onlyZero, marks}

@@ -5,7 +5,7 @@ ghost use Prim.Native.Nat.{_<_, _≤_};
 ghost use lib.ListN.{length};
 ghost use Rattle.limits.specs.Limits.{transactionsMost, locksMost, deskSize};
 ghost use Rattle.lists.specs.Lists.{tab, all};
-ghost use Rattle.tables.specs.Layout.{queued, recordAt};
+ghost use Rattle.tables.specs.QueueLayout.{queued, recordAt};
 ghost use Rattle.whole_desk.specs.Checks.{headOk, askersIn, formOk, plainOk, recordOk, slotOk, deskOk};
 use entries::Ask;
 use entries::Key;

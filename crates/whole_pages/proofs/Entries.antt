@@ -14,7 +14,7 @@ use Rattle.lists.proofs.Tests.{both, and-both}
 use Rattle.numbers.specs.Numbers.{Fits}
 use Rattle.rules.specs.Kinds.{Entry}
 use Rattle.rules.specs.Entries.{isThere, present}
-use Rattle.pages.specs.Layout.{entryWidths, ifBit, bit, entryIn, entryFields, childWidths, childIn, childFields}
+use Rattle.pages.specs.PageLayout.{entryWidths, ifBit, bit, entryIn, entryFields, childWidths, childIn, childFields}
 use Rattle.pages.proofs.Entries.{bit-small, or-small}
 use Rattle.whole_pages.specs.Checks.{entryOk, fillersOk}
 

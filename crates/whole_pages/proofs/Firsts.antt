@@ -20,7 +20,7 @@ use Rattle.numbers.proofs.Fields.{fields-same, fields-inj, touches-putFields, l
 use Rattle.numbers.proofs.Parts.{length-part, getD-part}
 use Rattle.numbers.proofs.Moves.{zeroAt-true, zeroAt-is}
 use Rattle.numbers.proofs.Kept.{bytes-putFields}
-use Rattle.pages.specs.Layout.{rootWidths, countOf, rootOf, usedOf, heightOf, putRoot}
+use Rattle.pages.specs.PageHead.{rootWidths, countOf, rootOf, usedOf, heightOf, putRoot}
 use Rattle.index.specs.Pictures.{pageAt, blankPage, headPage}
 use Rattle.index.proofs.Written.{length-blank, bytes-blank, blank-zero, count-blank}
 use Rattle.whole_pages.specs.Checks.{headOk, firstPageOk}

@@ -13,7 +13,7 @@ use Rattle.lists.specs.Lists.{tab, all}
 use Rattle.numbers.proofs.Parts.{lent, length-part}
 use Rattle.sets.specs.declared.Set.{Set}
 use Rattle.sets.specs.Sets.{has}
-use Rattle.pages.specs.Layout.{usedOf, heightOf}
+use Rattle.pages.specs.PageHead.{usedOf, heightOf}
 use Rattle.index.specs.Pictures.{pageAt}
 use Rattle.index.proofs.Buffers.{page-lent}
 use Rattle.whole_pages.specs.declared.Span.{Span}

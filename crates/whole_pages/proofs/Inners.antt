@@ -15,8 +15,9 @@ use Rattle.lists.proofs.Tests.{both, and-both}
 use Rattle.lists.proofs.Tables.{map-tab, all-tab, all-of-tab}
 use Rattle.numbers.specs.Numbers.{numberAt, fieldsAt, widthOf, zeroAt, Bytes, Fits}
 use Rattle.numbers.proofs.Numbers.{number-below}
-use Rattle.pages.specs.Layout.{countOf, levelOf, kindOf, childWidths, childIn, childFields, childAt, childrenOf}
-use Rattle.pages.specs.Rows.{childRow}
+use Rattle.pages.specs.PageHead.{countOf, levelOf, kindOf}
+use Rattle.pages.specs.PageLayout.{childWidths, childIn, childFields, childAt, childrenOf}
+use Rattle.pages.specs.PageChanges.{childRow}
 use Rattle.index.specs.Pictures.{innerPage}
 use Rattle.whole_pages.specs.Checks.{headOk, between, fillersOk, firstOk, childFieldsAt, childrenOk, innerOk, aboves}
 use Rattle.whole_pages.proofs.Layouts.{laid, told-head, told-rest, told-each}

@@ -21,8 +21,8 @@ use Rattle.numbers.proofs.Fields.{fields-same, fields-inj, fields-fit, length-p
 use Rattle.numbers.proofs.Parts.{part-ext, fieldsAt-part}
 use Rattle.numbers.proofs.Moves.{zeroAt-true}
 use Rattle.numbers.proofs.Kept.{bytes-putFields, bytes-zeros}
-use Rattle.pages.specs.Layout.{headWidths, kindOf, countOf, levelOf, putHead}
-use Rattle.pages.specs.Rows.{rowAt, rowsOf, withRows}
+use Rattle.pages.specs.PageHead.{headWidths, kindOf, countOf, levelOf, putHead}
+use Rattle.pages.specs.PageRows.{rowAt, rowsOf, withRows}
 use Rattle.pages.proofs.Rows.{Wide, isWide, length-rowsOf, wide-rowsOf}
 use Rattle.pages.proofs.WithRows.{Fit, Holds, holds-same, holds-with, head-with, rows-with, zero-with, with-own}
 use Rattle.index.specs.Pictures.{blankPage}

@@ -18,8 +18,9 @@ use Rattle.numbers.specs.Numbers.{numberAt, fieldsAt, widthOf, zeroAt, Bytes, F
 use Rattle.numbers.proofs.Numbers.{number-below}
 use Rattle.trees.specs.Trees.{atMost, under, inside}
 use Rattle.trees.proofs.Sorted.{Sorted}
-use Rattle.pages.specs.Layout.{countOf, entryWidths, entryIn, entryFields, entryAt, entriesOf}
-use Rattle.pages.specs.Rows.{entryRow}
+use Rattle.pages.specs.PageHead.{countOf}
+use Rattle.pages.specs.PageLayout.{entryWidths, entryIn, entryFields, entryAt, entriesOf}
+use Rattle.pages.specs.PageChanges.{entryRow}
 use Rattle.index.specs.Pictures.{Item, keyOf, leafPage}
 use Rattle.whole_pages.specs.Checks.{headOk, nextOk, entryOk, entryFieldsAt, entriesOk, leafOk}
 use Rattle.whole_pages.proofs.Layouts.{laid, told-head, told-rest, told-each}

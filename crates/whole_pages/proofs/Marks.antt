@@ -14,7 +14,7 @@ use Rattle.lists.specs.Lists.{all, join, times}
 use Rattle.sets.specs.declared.Set.{Set}
 use Rattle.sets.specs.Sets.{has, withOne}
 use Rattle.sets.proofs.Sets.{timesIn, times-of-has, has-of-times, in-with}
-use Rattle.pages.specs.Layout.{childrenOf}
+use Rattle.pages.specs.PageLayout.{childrenOf}
 use Rattle.pages.specs.declared.Child.{Child}
 use Rattle.index.specs.Pictures.{pageAt}
 use Rattle.whole_pages.specs.declared.Span.{Span}

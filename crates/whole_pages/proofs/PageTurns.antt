@@ -12,7 +12,8 @@ use Rattle.lists.specs.Lists.{tab}
 use Rattle.lists.proofs.Tests.{and-left, and-right}
 use Rattle.lists.proofs.Tables.{tab-next, tab-done}
 use Rattle.numbers.specs.Numbers.{zeroAt}
-use Rattle.pages.specs.Layout.{countOf, entryIn, entryAt, childIn, childAt}
+use Rattle.pages.specs.PageHead.{countOf}
+use Rattle.pages.specs.PageLayout.{entryIn, entryAt, childIn, childAt}
 use Rattle.whole_pages.specs.Checks.{headOk, nextOk, entryOk, entryFieldsAt, entriesOk, leafOk, between, fillersOk, firstOk, childFieldsAt, childrenOk, innerOk}
 
 and-false : (a : Bool) → (a && false) ≡ false

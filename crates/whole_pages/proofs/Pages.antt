@@ -24,7 +24,7 @@ use Rattle.sets.proofs.Sets.{timesIn, times-of-has, has-of-times, alone-one, al
 use Rattle.rules.specs.Document.{endMark}
 use Rattle.trees.specs.Trees.{times, above}
 use Rattle.trees.proofs.Pages.{above-yes, above-no}
-use Rattle.pages.specs.Layout.{rootOf, usedOf, heightOf}
+use Rattle.pages.specs.PageHead.{rootOf, usedOf, heightOf}
 use Rattle.index.specs.Pictures.{Item, pageAt, indexOf, entriesIn, WholePages}
 use Rattle.whole_pages.specs.declared.Span.{Span}
 use Rattle.whole_pages.specs.declared.Trail.{Trail}

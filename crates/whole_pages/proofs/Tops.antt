@@ -13,7 +13,7 @@ use Rattle.lists.proofs.Tests.{both}
 use Rattle.numbers.specs.Numbers.{zeroAt}
 use Rattle.sets.specs.declared.Set.{Set}
 use Rattle.rules.specs.Document.{endMark}
-use Rattle.pages.specs.Layout.{rootOf, usedOf, heightOf}
+use Rattle.pages.specs.PageHead.{rootOf, usedOf, heightOf}
 use Rattle.index.specs.Pictures.{pageAt}
 use Rattle.whole_pages.specs.declared.Trail.{Trail}
 use Rattle.whole_pages.specs.declared.Trail.the-variants.{Went, Bad}

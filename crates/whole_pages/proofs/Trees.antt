@@ -25,7 +25,8 @@ use Rattle.numbers.proofs.Parts.{length-part}
 use Rattle.numbers.proofs.Kept.{bytes-part}
 use Rattle.trees.specs.Trees.{Child, Tree, documentSizes, flat, times, summed, counted, ranges, ranged, firstLow, under, inside}
 use Rattle.trees.proofs.Sorted.{sorted-test, test-sorted}
-use Rattle.pages.specs.Layout.{countOf, childAt, childrenOf, entriesOf}
+use Rattle.pages.specs.PageHead.{countOf}
+use Rattle.pages.specs.PageLayout.{childAt, childrenOf, entriesOf}
 use Rattle.pages.specs.declared.Child as P
 use Rattle.pages.proofs.Entries.{length-entries}
 use Rattle.pages.proofs.Children.{length-children}

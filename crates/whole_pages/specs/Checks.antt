@@ -8,7 +8,8 @@ use lib.ListN.{getD}
 use Rattle.limits.specs.Limits.{pageSize, headSize, bodySize, entrySize, leafMost, childSize, innerMost}
 use Rattle.lists.specs.Lists.{tab}
 use Rattle.numbers.specs.Numbers.{numberAt, fieldsAt, zeroAt}
-use Rattle.pages.specs.Layout.{kindOf, countOf, levelOf, entryWidths, childWidths}
+use Rattle.pages.specs.PageHead.{kindOf, countOf, levelOf}
+use Rattle.pages.specs.PageLayout.{entryWidths, childWidths}
 use Rattle.pages.specs.declared.Child.{Child}
 
 -- the head: length, kind, level and the eight zeros; the count is tested with what it counts

@@ -10,7 +10,8 @@ use Rattle.numbers.specs.Numbers.{zeroAt}
 use Rattle.sets.specs.declared.Set.{Set}
 use Rattle.sets.specs.Sets.{empty, has, withOne}
 use Rattle.rules.specs.Document.{endMark}
-use Rattle.pages.specs.Layout.{rootOf, usedOf, heightOf, childAt, childrenOf}
+use Rattle.pages.specs.PageHead.{rootOf, usedOf, heightOf}
+use Rattle.pages.specs.PageLayout.{childAt, childrenOf}
 use Rattle.pages.specs.declared.Child.{Child}
 use Rattle.index.specs.Pictures.{pageAt}
 use Rattle.whole_pages.specs.declared.Span.{Span}

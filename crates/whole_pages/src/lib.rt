@@ -5,7 +5,7 @@ ghost use mathlib.Core.Path.{_≡_};
 ghost use Prim.Native.Nat.{_<_, _≤_, _+_, _*_};
 ghost use lib.ListN.{length};
 ghost use Rattle.limits.specs.Limits.{pagesMost, pagesSize, innerMost};
-ghost use Rattle.pages.specs.Layout.{usedOf, heightOf};
+ghost use Rattle.pages.specs.PageHead.{usedOf, heightOf};
 ghost use Rattle.index.specs.Pictures.{pageAt};
 ghost use Rattle.whole_pages.specs.Walks.{highAt, markAt, pageOk, walkAt, seenOk, frontOk, treeIn, pagesOk};
 use entries::Key;

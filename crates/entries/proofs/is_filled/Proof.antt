@@ -2,7 +2,7 @@
 -- Assumes nothing.
 use borrow.Author.Needs.{needs}
 use Rattle.numbers.specs.Numbers.{widthOf}
-use Rattle.entries.specs.Records.{forms}
+use Rattle.entries.specs.RequestRecord.{forms}
 use Rattle.entries.proofs.Requests.{room, filled-insert, filled-other}
 use Rattle.entries.proofs.is_filled.Statement.{statement}
 use Rattle.entries.proofs.is_filled.Tie as tie

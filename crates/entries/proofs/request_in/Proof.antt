@@ -2,7 +2,7 @@
 -- Assumes nothing.
 use borrow.Author.Needs.{needs}
 use Rattle.numbers.specs.Numbers.{widthOf, fieldsAt}
-use Rattle.entries.specs.Records.{forms, requests}
+use Rattle.entries.specs.RequestRecord.{forms, requests}
 use Rattle.entries.proofs.Requests.{room, room-delete, asked, asked-read, asked-insert, asked-delete}
 use Rattle.entries.proofs.request_in.Statement.{statement}
 use Rattle.entries.proofs.request_in.Tie as tie

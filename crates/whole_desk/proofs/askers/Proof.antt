@@ -5,7 +5,7 @@ use mathlib.Core.Path.{_≡_}
 use Prim.Native.Nat.{_+_, _-_, _≤_}
 use Rattle.limits.specs.Limits.{transactionsMost}
 use Rattle.lists.specs.Lists.{tab}
-use Rattle.tables.specs.Layout.{inPlace}
+use Rattle.tables.specs.QueueLayout.{inPlace}
 use Rattle.whole_pages.specs.Walks.{marks}
 use Rattle.whole_desk.specs.Checks.{askersIn}
 use Rattle.whole_desk.proofs.DeskTurns.{askers-few, askers-start, askers-twice, askers-next, askers-end}

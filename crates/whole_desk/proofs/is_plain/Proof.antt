@@ -3,7 +3,7 @@
 use borrow.Author.Needs.{needs}
 use Rattle.whole_desk.specs.Checks.{plainOk}
 use Rattle.numbers.specs.Numbers.{fieldsAt}
-use Rattle.tables.specs.Layout.{recordAt}
+use Rattle.tables.specs.QueueLayout.{recordAt}
 use Rattle.whole_desk.proofs.is_plain.Statement.{statement}
 use Rattle.whole_desk.proofs.is_plain.Tie as tie
 

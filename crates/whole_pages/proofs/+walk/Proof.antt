@@ -6,7 +6,7 @@ use mathlib.Core.Path.{_≡_}
 use Prim.Native.Nat.{_-_, _≤_, ℕ, _<_}
 use Rattle.limits.specs.Limits.{pagesMost, innerMost, innerFewest}
 use Rattle.lists.specs.Lists.{tab}
-use Rattle.pages.specs.Layout.{childAt}
+use Rattle.pages.specs.PageLayout.{childAt}
 use Rattle.index.specs.Pictures.{pageAt}
 use Rattle.whole_pages.specs.Walks.{spans, walkOver, walkAt}
 use Rattle.whole_pages.proofs.WalkTurns.{walk-unmarked, marked-page, walk-page-bad, walk-leaf, walk-few, walk-over, walk-start, walk-next, walk-stop, walk-end}

@@ -5,7 +5,7 @@ use native.Mathlib.Omega.{arith}
 use Prim.Native.Nat.{_≤_, _-_}
 use mathlib.Core.Path.{_≡_}
 use Rattle.lists.specs.Lists.{first, tab}
-use Rattle.pages.specs.Layout.{entryAt, entriesOf}
+use Rattle.pages.specs.PageLayout.{entryAt, entriesOf}
 use Rattle.index.specs.Searches.{seeks}
 use Rattle.index.proofs.Turns.{leaf-start, leaf-here, leaf-on, leaf-none}
 use Rattle.index.proofs.search.find_in.Statement.{statement}

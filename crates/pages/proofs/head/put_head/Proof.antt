@@ -2,7 +2,7 @@
 -- Assumes nothing.
 use borrow.Author.Needs.{needs}
 use Rattle.numbers.specs.Numbers.{putFields}
-use Rattle.pages.specs.Layout.{putHead}
+use Rattle.pages.specs.PageHead.{putHead}
 use Rattle.pages.proofs.head.put_head.Statement.{statement}
 use Rattle.pages.proofs.head.put_head.Tie as tie
 

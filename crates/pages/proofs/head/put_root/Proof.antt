@@ -2,7 +2,7 @@
 -- Assumes nothing.
 use borrow.Author.Needs.{needs}
 use Rattle.numbers.specs.Numbers.{putFields}
-use Rattle.pages.specs.Layout.{putRoot}
+use Rattle.pages.specs.PageHead.{putRoot}
 use Rattle.pages.proofs.head.put_root.Statement.{statement}
 use Rattle.pages.proofs.head.put_root.Tie as tie
 

@@ -2,7 +2,7 @@
 -- Assumes nothing.
 use borrow.Author.Needs.{needs}
 use Rattle.numbers.specs.Numbers.{fieldsAt}
-use Rattle.pages.specs.Layout.{childIn, childAt}
+use Rattle.pages.specs.PageLayout.{childIn, childAt}
 use Rattle.pages.proofs.inner.low_at.Statement.{statement}
 use Rattle.pages.proofs.inner.low_at.Tie as tie
 

@@ -2,7 +2,7 @@
 -- Assumes nothing.
 use borrow.Author.Needs.{needs}
 use Rattle.numbers.specs.Numbers.{putFields}
-use Rattle.pages.specs.Layout.{childFields, putChild}
+use Rattle.pages.specs.PageLayout.{childFields, putChild}
 use Rattle.pages.proofs.inner.put_child.Statement.{statement}
 use Rattle.pages.proofs.inner.put_child.Tie as tie
 

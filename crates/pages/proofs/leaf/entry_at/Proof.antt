@@ -2,7 +2,7 @@
 -- Assumes nothing.
 use borrow.Author.Needs.{needs}
 use Rattle.numbers.specs.Numbers.{fieldsAt}
-use Rattle.pages.specs.Layout.{entryIn, entryAt}
+use Rattle.pages.specs.PageLayout.{entryIn, entryAt}
 use Rattle.pages.proofs.leaf.entry_at.Statement.{statement}
 use Rattle.pages.proofs.leaf.entry_at.Tie as tie
 

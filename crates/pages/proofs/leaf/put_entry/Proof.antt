@@ -2,7 +2,7 @@
 -- Assumes nothing.
 use borrow.Author.Needs.{needs}
 use Rattle.numbers.specs.Numbers.{putFields}
-use Rattle.pages.specs.Layout.{entryFields, putEntry}
+use Rattle.pages.specs.PageLayout.{entryFields, putEntry}
 use Rattle.pages.proofs.leaf.put_entry.Statement.{statement}
 use Rattle.pages.proofs.leaf.put_entry.Tie as tie
 

@@ -1,7 +1,7 @@
 -- `tables::Mode::conflicts` meets its contract: X conflicts with both.
 -- Assumes nothing.
 use borrow.Author.Needs.{needs}
-use Rattle.tables.proofs.Values.{x-conflicts}
+use Rattle.tables.proofs.LockValues.{x-conflicts}
 use Rattle.tables.proofs.Mode.conflicts.Statement.{statement}
 use Rattle.tables.proofs.Mode.conflicts.Tie as tie
 

@@ -1,7 +1,7 @@
 -- `tables::Mode::of` meets its contract: X at 2, S at every other number.
 -- Assumes nothing.
 use borrow.Author.Needs.{needs}
-use Rattle.tables.proofs.Values.{mode-x, mode-s}
+use Rattle.tables.proofs.LockValues.{mode-x, mode-s}
 use Rattle.tables.proofs.Mode.of.Statement.{statement}
 use Rattle.tables.proofs.Mode.of.Tie as tie
 

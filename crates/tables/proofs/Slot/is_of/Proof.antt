@@ -1,7 +1,7 @@
 -- `tables::Slot::is_of` meets its contract: names are the same where their numbers are.
 -- Assumes nothing.
 use borrow.Author.Needs.{needs}
-use Rattle.tables.proofs.Values.{held-of}
+use Rattle.tables.proofs.LockValues.{held-of}
 use Rattle.tables.proofs.Slot.is_of.Statement.{statement}
 use Rattle.tables.proofs.Slot.is_of.Tie as tie
 

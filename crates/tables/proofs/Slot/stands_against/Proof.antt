@@ -1,7 +1,7 @@
 -- `tables::Slot::stands_against` meets its contract: names are the same where their numbers are.
 -- Assumes nothing.
 use borrow.Author.Needs.{needs}
-use Rattle.tables.proofs.Values.{held-against}
+use Rattle.tables.proofs.LockValues.{held-against}
 use Rattle.tables.proofs.Slot.stands_against.Statement.{statement}
 use Rattle.tables.proofs.Slot.stands_against.Tie as tie
 

@@ -1,7 +1,7 @@
 -- `tables::Slot::strengthened` meets its contract: only the mode changes.
 -- Assumes nothing.
 use borrow.Author.Needs.{needs}
-use Rattle.tables.proofs.Values.{held-strengthened}
+use Rattle.tables.proofs.LockValues.{held-strengthened}
 use Rattle.tables.proofs.Slot.strengthened.Statement.{statement}
 use Rattle.tables.proofs.Slot.strengthened.Tie as tie
 

@@ -1,7 +1,7 @@
 -- `tables::locks::put_slot` meets its contract: a free slot and a lock have their numbers.
 -- Assumes nothing.
 use borrow.Author.Needs.{needs}
-use Rattle.tables.proofs.Values.{put-free, put-held}
+use Rattle.tables.proofs.LockValues.{put-free, put-held}
 use Rattle.tables.proofs.locks.put_slot.Statement.{statement}
 use Rattle.tables.proofs.locks.put_slot.Tie as tie
 

@@ -1,7 +1,7 @@
 -- `tables::locks::slot_at` meets its contract: a slot whose holder is 0 is free.
 -- Assumes nothing.
 use borrow.Author.Needs.{needs}
-use Rattle.tables.proofs.Values.{read-free, read-held}
+use Rattle.tables.proofs.LockValues.{read-free, read-held}
 use Rattle.tables.proofs.locks.slot_at.Statement.{statement}
 use Rattle.tables.proofs.locks.slot_at.Tie as tie
 

@@ -1,7 +1,7 @@
 -- `tables::queue::join_queue` meets its contract: the request, the place and the count are written.
 -- Assumes nothing.
 use borrow.Author.Needs.{needs}
-use Rattle.tables.specs.Moves.{queueJoined}
+use Rattle.tables.specs.QueueMoves.{queueJoined}
 use Rattle.tables.proofs.queue.join_queue.Statement.{statement}
 use Rattle.tables.proofs.queue.join_queue.Tie as tie
 

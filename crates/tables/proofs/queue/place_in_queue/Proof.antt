@@ -6,8 +6,8 @@ use Prim.Native.Nat.{_+_, _-_, _≤_}
 use lib.Dec.{eqb}
 use Rattle.lists.specs.Lists.{tab, place}
 use Rattle.lists.proofs.Scans.{scan-start-of, scan-next, scan-found, scan-done}
-use Rattle.tables.specs.Layout.{queuedAt, queueOf}
-use Rattle.tables.specs.Moves.{waitsIn}
+use Rattle.tables.specs.QueueLayout.{queuedAt, queueOf}
+use Rattle.tables.specs.QueueMoves.{waitsIn}
 use Rattle.tables.proofs.queue.place_in_queue.Statement.{statement}
 use Rattle.tables.proofs.queue.place_in_queue.Tie as tie
 

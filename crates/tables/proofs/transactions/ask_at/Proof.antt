@@ -1,7 +1,7 @@
 -- `tables::transactions::ask_at` meets its contract: the kind that is read says which request it is.
 -- Assumes nothing.
 use borrow.Author.Needs.{needs}
-use Rattle.tables.proofs.Values.{ask-read, ask-insert, ask-delete}
+use Rattle.tables.proofs.AskValues.{ask-read, ask-insert, ask-delete}
 use Rattle.tables.proofs.transactions.ask_at.Statement.{statement}
 use Rattle.tables.proofs.transactions.ask_at.Tie as tie
 

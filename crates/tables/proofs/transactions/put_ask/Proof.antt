@@ -1,7 +1,7 @@
 -- `tables::transactions::put_ask` meets its contract: each kind of request has its numbers.
 -- Assumes nothing.
 use borrow.Author.Needs.{needs}
-use Rattle.tables.proofs.Values.{put-read, put-insert, put-delete}
+use Rattle.tables.proofs.AskValues.{put-read, put-insert, put-delete}
 use Rattle.tables.proofs.transactions.put_ask.Statement.{statement}
 use Rattle.tables.proofs.transactions.put_ask.Tie as tie
 

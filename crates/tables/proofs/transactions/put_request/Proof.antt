@@ -2,7 +2,7 @@
 -- Assumes nothing.
 use borrow.Author.Needs.{needs}
 use Rattle.numbers.specs.Numbers.{putFields}
-use Rattle.tables.specs.Layout.{putAsk}
+use Rattle.tables.specs.QueueLayout.{putAsk}
 use Rattle.tables.proofs.transactions.put_request.Statement.{statement}
 use Rattle.tables.proofs.transactions.put_request.Tie as tie
 

@@ -1,7 +1,7 @@
 -- `tables::transactions::put_running` meets its contract: one number is written.
 -- Assumes nothing.
 use borrow.Author.Needs.{needs}
-use Rattle.tables.specs.Moves.{markPut}
+use Rattle.tables.specs.QueueMoves.{markPut}
 use Rattle.tables.proofs.transactions.put_running.Statement.{statement}
 use Rattle.tables.proofs.transactions.put_running.Tie as tie
 

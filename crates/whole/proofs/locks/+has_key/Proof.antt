@@ -5,7 +5,7 @@ use mathlib.Core.Path.{_≡_}
 use Prim.Native.Nat.{_-_, _≤_}
 use Rattle.limits.specs.Limits.{pagesMost, innerMost}
 use Rattle.lists.specs.Lists.{tab, any}
-use Rattle.pages.specs.Layout.{childAt}
+use Rattle.pages.specs.PageLayout.{childAt}
 use Rattle.index.specs.Pictures.{pageAt}
 use Rattle.whole.specs.Checks.{findAt}
 use Rattle.whole.proofs.Fines.{fine-page, fine-leaf, fine-few, fine-child, find-leaf, find-start, find-hit, find-next, find-end}

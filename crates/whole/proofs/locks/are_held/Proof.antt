@@ -5,7 +5,7 @@ use mathlib.Core.Path.{_≡_}
 use Prim.Native.Nat.{_-_, _≤_}
 use Rattle.limits.specs.Limits.{leafMost}
 use Rattle.lists.proofs.Scans.{all-bad, all-step, all-end}
-use Rattle.pages.specs.Layout.{entryAt, entriesOf}
+use Rattle.pages.specs.PageLayout.{entryAt, entriesOf}
 use Rattle.index.specs.Pictures.{pageAt}
 use Rattle.lists.specs.Lists.{tab, all}
 use Rattle.whole.specs.Checks.{entryHeld}

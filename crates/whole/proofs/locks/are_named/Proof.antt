@@ -6,7 +6,7 @@ use Prim.Native.Nat.{_-_, _≤_}
 use Rattle.limits.specs.Limits.{locksMost}
 use Rattle.lists.proofs.Scans.{all-bad, all-step, all-end}
 use Rattle.lists.specs.Lists.{tab, all}
-use Rattle.tables.specs.Layout.{slotAt, slotsOf}
+use Rattle.tables.specs.SlotLayout.{slotAt, slotsOf}
 use Rattle.whole.specs.Checks.{slotNamed}
 use Rattle.whole.proofs.locks.are_named.Statement.{statement}
 use Rattle.whole.proofs.locks.are_named.Tie as tie

@@ -5,7 +5,7 @@ use mathlib.Core.Path.{_≡_}
 use Prim.Native.Nat.{_-_, _≤_}
 use Rattle.limits.specs.Limits.{locksMost}
 use Rattle.lists.specs.Lists.{tab, pairs}
-use Rattle.tables.specs.Layout.{slotAt, slotsOf}
+use Rattle.tables.specs.SlotLayout.{slotAt, slotsOf}
 use Rattle.whole.specs.Checks.{slotTogether}
 use Rattle.whole.proofs.LockTurns.{pairs-bad, pairs-step, pairs-end}
 use Rattle.whole.proofs.locks.are_together.Statement.{statement}

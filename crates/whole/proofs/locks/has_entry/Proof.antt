@@ -5,7 +5,7 @@ use mathlib.Core.Path.{_≡_}
 use Prim.Native.Nat.{_-_, _≤_}
 use Rattle.limits.specs.Limits.{leafMost}
 use Rattle.lists.proofs.Scans.{any-hit, any-step, any-end}
-use Rattle.pages.specs.Layout.{entryAt, entriesOf}
+use Rattle.pages.specs.PageLayout.{entryAt, entriesOf}
 use Rattle.index.specs.Pictures.{pageAt}
 use Rattle.lists.specs.Lists.{tab, any}
 use Rattle.whole.specs.Checks.{hasKey}

@@ -6,7 +6,7 @@ use Prim.Native.Nat.{_-_, _≤_}
 use Rattle.limits.specs.Limits.{locksMost}
 use Rattle.lists.proofs.Scans.{any-hit, any-step, any-end}
 use Rattle.lists.specs.Lists.{tab, any}
-use Rattle.tables.specs.Layout.{slotAt, slotsOf}
+use Rattle.tables.specs.SlotLayout.{slotAt, slotsOf}
 use Rattle.whole.specs.Checks.{slotHolds}
 use Rattle.whole.proofs.locks.holds_x.Statement.{statement}
 use Rattle.whole.proofs.locks.holds_x.Tie as tie

@@ -6,7 +6,7 @@ use Prim.Native.Nat.{_+_, _-_, _≤_}
 use Rattle.limits.specs.Limits.{locksMost}
 use Rattle.lists.proofs.Scans.{all-bad, all-step, all-end}
 use Rattle.lists.specs.Lists.{tab, all}
-use Rattle.tables.specs.Layout.{slotAt}
+use Rattle.tables.specs.SlotLayout.{slotAt}
 use Rattle.whole.specs.Checks.{slotTogether}
 use Rattle.whole.proofs.LockTurns.{later-free}
 use Rattle.whole.proofs.locks.stands_with_later.Statement.{statement}

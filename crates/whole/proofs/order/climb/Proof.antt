@@ -4,7 +4,7 @@ use borrow.Author.Needs.{needs}
 use mathlib.Core.Path.{_≡_}
 use Prim.Native.Nat.{_-_, _≤_}
 use Rattle.lists.specs.Lists.{tab, all}
-use Rattle.tables.specs.Layout.{bookSlot}
+use Rattle.tables.specs.SlotLayout.{bookSlot}
 use Rattle.whole.specs.Orders.{placed, goesUp}
 use Rattle.whole.proofs.Passing.{now-last, climb-stop, climb-next, climb-end}
 use Rattle.whole.proofs.order.climb.Statement.{statement}

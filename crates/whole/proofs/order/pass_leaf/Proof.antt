@@ -6,7 +6,7 @@ use mathlib.Core.Path.{_≡_}
 use Prim.Native.Nat.{_-_, _≤_}
 use Rattle.limits.specs.Limits.{leafMost}
 use Rattle.lists.specs.Lists.{tab}
-use Rattle.pages.specs.Layout.{entryAt, entriesOf}
+use Rattle.pages.specs.PageLayout.{entryAt, entriesOf}
 use Rattle.index.specs.Pictures.{pageAt}
 use Rattle.whole.specs.Orders.{placed, past}
 use Rattle.whole.proofs.LockTurns.{count-few}

@@ -2,7 +2,7 @@
 -- Assumes nothing.
 use borrow.Author.Needs.{needs}
 use Rattle.whole_pages.specs.Checks.{firstOk, childFieldsAt}
-use Rattle.pages.specs.Layout.{childIn, childAt}
+use Rattle.pages.specs.PageLayout.{childIn, childAt}
 use Rattle.whole_pages.proofs.page.is_first_child.Statement.{statement}
 use Rattle.whole_pages.proofs.page.is_first_child.Tie as tie
 

@@ -1,18 +1,18 @@
--- What taking and releasing locks, and joining and leaving the queue, do to the bytes of the desk. Assumes nothing.
-use Prim.Native.Nat.{ℕ, _+_, _*_, _-_}
+-- What taking and releasing locks does to the bytes of the desk. Assumes nothing.
+use Prim.Native.Nat.{ℕ}
 use mathlib.Core.Bool.{Bool, true, false, cond, not, _&&_}
-use mathlib.Core.List.{List, [], _∷_}
+use mathlib.Core.List.{List}
 use mathlib.Core.Option.{Option, none, some}
 use lib.Dec.{eqb, ltb}
 use lib.ListN.{replicate}
-use Rattle.limits.specs.Limits.{transactionsMost, locksMost, keySize, slotSize}
+use Rattle.limits.specs.Limits.{locksMost, keySize, slotSize}
 use Rattle.lists.specs.Lists.{tab, join, place}
-use Rattle.numbers.specs.Numbers.{numberAt, putNumber, part, putPart, moved, zeroed}
-use Rattle.rules.specs.Kinds.{Ask, Mode, Name, Lock}
+use Rattle.numbers.specs.Numbers.{numberAt, part, putPart}
+use Rattle.rules.specs.Kinds.{Mode, Name, Lock}
 use Rattle.rules.specs.Entries.{isThere}
 use Rattle.rules.specs.Locks.{isOf, sameName, conflict, stronger}
 use Rattle.rules.specs.Document.{document, endless}
-use Rattle.tables.specs.Layout.{slotsOf, slotAt, putSlot, lockPlace, queueOf, queued, queuePlace, inPlace, recordPlace, putAsk, askFields}
+use Rattle.tables.specs.SlotLayout.{slotsOf, slotAt, putSlot, lockPlace}
 
 abbrev pub isSlotOf : ℕ → Name ℕ → Option (Lock ℕ) → Bool
 isSlotOf t n none = false
@@ -63,25 +63,3 @@ rowReleased t i d = putPart (lockPlace i) (rowFreed t (part (lockPlace i) slotSi
 
 unfoldable pub locksReleased : ℕ → List ℕ → List ℕ
 locksReleased t d = putPart (lockPlace 0) (join (rowFreed t) (tab locksMost 0 (λ i. part (lockPlace i) slotSize d))) d
-
--- the place of t's request in the queue, or how many wait where t's does not
-unfoldable pub waitsIn : List ℕ → ℕ → ℕ
-waitsIn d t = place (λ q. eqb (q .asker) t) (queueOf d)
-
--- t's request joins the end of the queue
-unfoldable pub queueJoined : List ℕ → ℕ → Ask ℕ ℕ → List ℕ
-queueJoined d t a = putNumber 2 (putNumber 2 (putAsk d t (askFields a)) (queuePlace (queued d)) t) 4 (queued d + 1)
-
--- the request at place q leaves: those behind it move up one place, and its record's request is zero
-unfoldable pub queueLeft : List ℕ → ℕ → List ℕ
-queueLeft d q =
-    putNumber 2
-    (zeroed 2 (queuePlace (transactionsMost - 1)) (moved (2 * (transactionsMost - 1 - q)) (queuePlace (q + 1)) (queuePlace q) (putAsk d (inPlace d q) (0 ∷ 0 ∷ 0 ∷ 0 ∷ []))))
-    4 (queued d - 1)
-
--- t runs, or no longer
-abbrev pub markNumber : Bool → ℕ
-markNumber b = cond b 1 0
-
-unfoldable pub markPut : List ℕ → ℕ → Bool → List ℕ
-markPut d t b = putNumber 2 d (recordPlace t) (markNumber b)

@@ -1,49 +1,19 @@
--- Document 01, "Records and pages": the bytes of one page. A leaf's entries are read as the rule book's. Assumes nothing.
+-- Document 01, "Records and pages": the entries of a leaf and the children of an inner page. Entries are read as the rule book's.
+-- Assumes nothing.
 use Prim.Native.Nat.{ℕ, _+_, _*_, _/_, _%_, _<_}
 use mathlib.Core.Bool.{cond}
 use mathlib.Core.List.{List, [], _∷_}
 use mathlib.Core.Option.{Option, none, some}
 use lib.Dec.{eqb}
 use lib.ListN.{getD}
-use Rattle.limits.specs.Limits.{keySize, pageSize, headSize, entrySize, childSize}
+use Rattle.limits.specs.Limits.{keySize, headSize, entrySize, childSize}
 use Rattle.lists.specs.Lists.{tab}
-use Rattle.numbers.specs.Numbers.{numberAt, fieldsAt, putFields}
+use Rattle.numbers.specs.Numbers.{fieldsAt, putFields}
 use Rattle.rules.specs.Kinds.{Entry}
 use Rattle.rules.specs.Entries.{isThere}
-use Rattle.entries.specs.Records.{orZero}
+use Rattle.entries.specs.Absent.{orZero}
 use Rattle.pages.specs.declared.Child.{Child}
-
--- "64 pages of 512 bytes; each head is 16 bytes: length 512, kind, count, level, eight zeros."
-abbrev pub headWidths : List ℕ
-headWidths = 2 ∷ 2 ∷ 2 ∷ 2 ∷ 8 ∷ []
-
-abbrev pub kindOf : List ℕ → ℕ
-kindOf p = numberAt 2 p 2
-
-abbrev pub countOf : List ℕ → ℕ
-countOf p = numberAt 2 p 4
-
-abbrev pub levelOf : List ℕ → ℕ
-levelOf p = numberAt 2 p 6
-
-unfoldable pub putHead : List ℕ → ℕ → ℕ → ℕ → List ℕ
-putHead p kind count level = putFields headWidths p 0 (pageSize ∷ kind ∷ count ∷ level ∷ 0 ∷ [])
-
--- "Page 0: kind 1, count and level 0, then at byte 16 root, pages used, height (two bytes each)."
-abbrev pub rootOf : List ℕ → ℕ
-rootOf p = numberAt 2 p headSize
-
-abbrev pub usedOf : List ℕ → ℕ
-usedOf p = numberAt 2 p (headSize + 2)
-
-abbrev pub heightOf : List ℕ → ℕ
-heightOf p = numberAt 2 p (headSize + 4)
-
-abbrev pub rootWidths : List ℕ
-rootWidths = 2 ∷ 2 ∷ 2 ∷ []
-
-unfoldable pub putRoot : List ℕ → ℕ → ℕ → ℕ → List ℕ
-putRoot p root used height = putFields rootWidths p headSize (root ∷ used ∷ height ∷ [])
+use Rattle.pages.specs.PageHead.{countOf}
 
 -- "Leaf: .. entries of 20 bytes (key, record now, record before, owner 2, presence 1 with bit 0 now and bit 1 before, one zero)". Presence
 -- and the zero are one number. "An absent record is 0."

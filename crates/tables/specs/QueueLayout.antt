@@ -1,19 +1,14 @@
--- Document 01, "Records and pages": the bytes of the desk, read as the rule book's lock slots, queue and marks. Assumes nothing.
+-- Document 01, "Records and pages": head, queue and records of the transactions in the bytes of the desk, read as the rule book's queue and
+-- marks. Assumes nothing.
 use Prim.Native.Nat.{ℕ, _+_, _*_, _-_}
 use mathlib.Core.Bool.{Bool, cond, not}
 use mathlib.Core.List.{List, [], _∷_}
-use mathlib.Core.Option.{Option, none, some}
 use lib.Dec.{eqb}
 use lib.ListN.{getD}
-use Rattle.limits.specs.Limits.{transactionsMost, locksMost, keySize, deskHeadSize, recordSize, recordsPlace, slotSize, slotsPlace}
+use Rattle.limits.specs.Limits.{transactionsMost, keySize, deskHeadSize, recordSize, recordsPlace}
 use Rattle.lists.specs.Lists.{tab}
 use Rattle.numbers.specs.Numbers.{numberAt, fieldsAt, putFields}
-use Rattle.rules.specs.Kinds.{Ask, read, insert, delete, Queued, Mark, idle, running, Mode, S, X, Name, on, end, Lock}
-use Rattle.rules.specs.Document.{endMark}
-use Rattle.tables.specs.declared.Mode as M
-use Rattle.tables.specs.declared.Mode.the-variants as MV
-use Rattle.tables.specs.declared.Slot as Sl
-use Rattle.tables.specs.declared.Slot.the-variants as SV
+use Rattle.rules.specs.Kinds.{Ask, read, insert, delete, Queued, Mark, idle, running}
 
 -- "Desk: 32-byte head (length 4,672, kind 8, queue count, 26 zeros)"
 abbrev pub headWidths : List ℕ
@@ -71,46 +66,6 @@ askFields (delete k) = 6 ∷ 0 ∷ k ∷ 0 ∷ []
 unfoldable pub putAsk : List ℕ → ℕ → List ℕ → List ℕ
 putAsk d t vs = putFields askWidths d (recordPlace t + 2) vs
 
--- "256 locks of 16 bytes (key 8, transaction 2, mode 2: 1 S, 2 X, four zeros)"; a free slot is zero
-abbrev pub lockWidths : List ℕ
-lockWidths = keySize ∷ 2 ∷ 2 ∷ 4 ∷ []
-
-abbrev pub lockPlace : ℕ → ℕ
-lockPlace i = slotsPlace + slotSize * i
-
-abbrev pub nameIn : ℕ → Name ℕ
-nameIn k = cond (eqb k endMark) end (on k)
-
-abbrev pub modeIn : ℕ → Mode
-modeIn m = cond (eqb m 2) X S
-
-unfoldable pub slotIn : List ℕ → Option (Lock ℕ)
-slotIn vs =
-    cond (eqb (getD vs 1 0) 0) none
-    (some (record { name = nameIn (getD vs 0 0); holder = getD vs 1 0; mode = modeIn (getD vs 2 0) }))
-
-abbrev pub nameNumber : Name ℕ → ℕ
-nameNumber (on k) = k
-nameNumber end = endMark
-
-abbrev pub modeNumber : Mode → ℕ
-modeNumber S = 1
-modeNumber X = 2
-
-unfoldable pub slotFields : Option (Lock ℕ) → List ℕ
-slotFields none = 0 ∷ 0 ∷ 0 ∷ 0 ∷ []
-slotFields (some l) = nameNumber (l .name) ∷ l .holder ∷ modeNumber (l .mode) ∷ 0 ∷ []
-
-unfoldable pub slotAt : List ℕ → ℕ → Option (Lock ℕ)
-slotAt d i = slotIn (fieldsAt lockWidths d (lockPlace i))
-
-unfoldable pub putSlot : List ℕ → ℕ → Option (Lock ℕ) → List ℕ
-putSlot d i x = putFields lockWidths d (lockPlace i) (slotFields x)
-
--- the desk as the rule book's tables
-unfoldable pub slotsOf : List ℕ → List (Option (Lock ℕ))
-slotsOf d = tab locksMost 0 (slotAt d)
-
 unfoldable pub queuedAt : List ℕ → ℕ → Queued ℕ ℕ
 queuedAt d i = record { asker = inPlace d i; asks = askAt d (inPlace d i) }
 
@@ -119,12 +74,3 @@ queueOf d = tab (queued d) 0 (queuedAt d)
 
 unfoldable pub marksOf : List ℕ → List Mark
 marksOf d = idle ∷ tab transactionsMost 1 (λ t. markIn (numberAt 2 d (recordPlace t)))
-
--- what the code's values mean
-abbrev pub bookMode : M.Mode → Mode
-bookMode MV.S = S
-bookMode MV.X = X
-
-abbrev pub bookSlot : Sl.Slot → Option (Lock ℕ)
-bookSlot SV.Free = none
-bookSlot (SV.Held l) = some (record { name = nameIn (l .name .0); holder = l .holder; mode = bookMode (l .mode) })

@@ -1,16 +1,16 @@
 -- What the code does to a page's bytes: rows moved up or down by one, cut off, copied to another page, a row written over. Each is a page
 -- with other rows. All that is written comes to one part put behind the head. Assumes nothing.
 use mathlib.Core.Path.{_≡_, sym, ap, ap₂, _∙_}
-use mathlib.Core.List.{List, [], _∷_, _++_, append-assoc, append-nil}
-use Prim.Native.Nat.{ℕ, suc, _+_, _-_, _*_, _/_, _%_, _≤_, _<_}
-use native.Mathlib.Nat.{mul-zero, mul-one, zero-add, div-one}
+use mathlib.Core.List.{List, _∷_, _++_, append-assoc, append-nil}
+use Prim.Native.Nat.{ℕ, _+_, _-_, _*_, _/_, _%_, _≤_, _<_}
+use native.Mathlib.Nat.{mul-zero, mul-one, div-one}
 use native.Mathlib.Numerals.{add-one}
 use native.Mathlib.Omega.{arith}
 use native.Mathlib.Decide.{decLt}
 use lib.Dec.{lit<}
-use lib.ListN.{length, getD, set, length-set, take, drop, replicate, length-replicate, length-drop, List·getD-append}
-use lib.Seq.{ext-getD, set-split, length-take-le, getD-append-add}
-use Rattle.limits.specs.Limits.{keySize, headSize}
+use lib.ListN.{length, getD, set, length-set, take, drop, replicate, length-replicate, length-drop}
+use lib.Seq.{ext-getD, set-split, length-take-le}
+use Rattle.limits.specs.Limits.{headSize}
 use Rattle.lists.specs.Lists.{join, insertAt, removeAt}
 use Rattle.lists.proofs.Places.{insertAt-is, removeAt-is, length-insertAt, length-removeAt}
 use Rattle.lists.proofs.Joins.{join-append}
@@ -22,10 +22,9 @@ use Rattle.numbers.proofs.Parts.{length-part, length-putPart, getD-putPart-out,
 use Rattle.numbers.proofs.Moves.{length-copied}
 use Rattle.numbers.proofs.Splices.{putPart-behind, putPart-before, put-row}
 use Rattle.numbers.proofs.Widths.{rows-halves, row-behind}
-use Rattle.pages.specs.Layout.{countOf}
-use Rattle.pages.specs.Rows.{rowsOf, withRows, fromZero}
-use Rattle.pages.proofs.Rows.{bytesOf, wide-first, wide-rest, wide-more, length-rowsOf, bytes-take, bytes-drop}
-use Rattle.pages.proofs.WithRows.{Fit, Holds, holds-same, holds-with}
+use Rattle.pages.specs.PageHead.{countOf}
+use Rattle.pages.specs.PageRows.{rowsOf, withRows}
+use Rattle.pages.proofs.Rows.{bytesOf, length-rowsOf, bytes-take, bytes-drop}
 
 -- m rows whose bytes, with zeros to the end of the page's own, are b
 pub with-is : (z : ℕ) (p : List ℕ) (rs : List (List ℕ)) (m : ℕ) (b : List ℕ) → length rs ≡ m → bytesOf rs ++ replicate (z * (countOf p - m)) 0 ≡ b
@@ -211,67 +210,3 @@ module _ (z : ℕ) (p : List ℕ) (stay go : ℕ) (e : countOf p ≡ stay + go) 
       let l : length (drop stay (rowsOf z p)) ≡ go = length-drop stay (rowsOf z p) ∙ ap (λ x. x - stay) (length-rowsOf z p) ∙ c in
       with-is z q (drop stay (rowsOf z p)) go (part (headSize + z * stay) (z * go) p) l
       (nothing-freed z (countOf q) go (bytesOf (drop stay (rowsOf z p))) m ∙ bytes-drop z p stay ∙ ap (λ x. part (headSize + z * stay) (z * x) p) c)
-
--- ---- the first row's separator set to 0
-number-first : (r u : List ℕ) (rs : List (List ℕ)) (k : ℕ) → k < keySize → keySize ≤ length r → headSize + keySize ≤ length u
-    → getD (putNumber keySize u headSize 0) (headSize + k) 0 ≡ getD (bytesOf (putNumber keySize r 0 0 ∷ rs)) k 0
-unfolding join
-number-first r u rs k h l m =
-    getD-putNumber-in keySize u headSize 0 k h m
-    ∙ sym (getD-putNumber-in keySize r 0 0 k h l)
-    ∙ ap (λ x. getD (putNumber keySize r 0 0) x 0) (zero-add k)
-    ∙ sym (List·getD-append (putNumber keySize r 0 0) (bytesOf rs) 0 k (omega (arith, length-putNumber keySize r 0 0)))
-
-number-later : (r : List ℕ) (rs : List (List ℕ)) (k : ℕ) → keySize ≤ k → getD (bytesOf (r ∷ rs)) k 0 ≡ getD (bytesOf (putNumber keySize r 0 0 ∷ rs)) k 0
-unfolding join
-number-later r rs k h = at (decLt k (length r))
-  where
-    r₀ : List ℕ
-    r₀ = putNumber keySize r 0 0
-
-    e : length r₀ ≡ length r
-    e = length-putNumber keySize r 0 0
-
-    at : Dec (k < length r) → getD (r ++ bytesOf rs) k 0 ≡ getD (r₀ ++ bytesOf rs) k 0
-    at (yes l) =
-        List·getD-append r (bytesOf rs) 0 k l
-        ∙ sym (List·getD-append r₀ (bytesOf rs) 0 k (omega (arith, e)) ∙ getD-putNumber-out keySize r 0 0 k (omega arith))
-    at (no l) =
-        let a : k ≡ length r + (k - length r) = omega arith in
-        let b : length r₀ + (k - length r) ≡ k = omega (arith, e) in
-        ap (λ x. getD (r ++ bytesOf rs) x 0) a
-        ∙ getD-append-add r (bytesOf rs) (k - length r) 0
-        ∙ sym (getD-append-add r₀ (bytesOf rs) (k - length r) 0)
-        ∙ ap (λ x. getD (r₀ ++ bytesOf rs) x 0) b
-
-pub first-from-zero : (z : ℕ) (p : List ℕ) (rs : List (List ℕ)) → Fit z p rs → keySize ≤ z → 0 < length rs
-    → putNumber keySize (withRows z p rs) headSize 0 ≡ withRows z p (fromZero rs)
-first-from-zero z p [] f w h = absurd (omega arith)
-first-from-zero z p (r ∷ rs) f w h =
-    holds-same z p (r₀ ∷ rs) (putNumber keySize u headSize 0) (withRows z p (r₀ ∷ rs))
-    (record {
-      len = length-putNumber keySize u headSize 0 ∙ a .len;
-      low = getD-putNumber-out keySize u headSize 0 4 (lit< tt) ∙ a .low;
-      high = getD-putNumber-out keySize u headSize 0 5 (lit< tt) ∙ a .high;
-      head = λ k i j. getD-putNumber-out keySize u headSize 0 k (omega arith) ∙ a .head k i j;
-      rows = λ k i. at k i (decLt k keySize);
-      freed = λ k i j. getD-putNumber-out keySize u headSize 0 k (omega arith) ∙ a .freed k i j;
-      behind = λ k i j. getD-putNumber-out keySize u headSize 0 k (omega arith) ∙ a .behind k i j;
-    })
-    (holds-with z p (r₀ ∷ rs) (record { wide = wide-more z r₀ rs (length-putNumber keySize r 0 0 ∙ b) (wide-rest z r rs (f .wide)); own = f .own; room = f .room; few = f .few }))
-  where
-    u : List ℕ
-    u = withRows z p (r ∷ rs)
-
-    r₀ : List ℕ
-    r₀ = putNumber keySize r 0 0
-
-    a : Holds z p (r ∷ rs) u
-    a = holds-with z p (r ∷ rs) f
-
-    b : length r ≡ z
-    b = wide-first z r rs (f .wide)
-
-    at : (k : ℕ) → k < z * suc (length rs) → Dec (k < keySize) → getD (putNumber keySize u headSize 0) (headSize + k) 0 ≡ getD (bytesOf (r₀ ∷ rs)) k 0
-    at k i (yes c) = number-first r u rs k c (omega (arith, b)) (omega (arith, f .room, a .len))
-    at k i (no c) = getD-putNumber-out keySize u headSize 0 (headSize + k) (omega arith) ∙ a .rows k i ∙ number-later r rs k (omega arith)

@@ -1,5 +1,4 @@
--- What the code's values are in the rule book, case by case: modes, names, locks and requests, as they are made, read and written.
--- Each by the value of the test that the code has made there. Assumes nothing.
+-- What the code's modes, names and locks are in the rule book, case by case, as they are made, read and written. Assumes nothing.
 use Prim.Native.Nat.{ℕ, _+_, _*_}
 use mathlib.Core.Path.{_≡_, refl, sym, ap, _∙_}
 use mathlib.Core.Bool.{Bool, true, false, cond, not, _&&_, false≢true}
@@ -9,20 +8,17 @@ use borrow.Author.Tests.{eqb-true, eqb-false, eq-eqb, ne-eqb}
 use lib.Dec.{eqb}
 use Rattle.limits.specs.Limits.{keySize, slotSize, slotsPlace}
 use Rattle.numbers.specs.Numbers.{numberAt, fieldsAt, putFields}
-use Rattle.rules.specs.Kinds.{Ask, read, insert, delete, Paging, Mode, S, X, Name, on, end}
+use Rattle.rules.specs.Kinds.{Paging, Mode, S, X, Name, on, end}
 use Rattle.rules.specs.Locks.{conflict, stronger, sameName}
 use Rattle.rules.specs.Document.{document, endless, endMark}
 use Rattle.entries.specs.declared.Key.{Key}
-use Rattle.entries.specs.declared.Ask as A
-use Rattle.entries.specs.declared.Ask.the-variants as AV
-use Rattle.entries.specs.Meaning.{bookAsk}
 use Rattle.tables.specs.declared.Mode as M
 use Rattle.tables.specs.declared.Mode.the-variants as MV
 use Rattle.tables.specs.declared.Lock as L
 use Rattle.tables.specs.declared.Slot as Sl
 use Rattle.tables.specs.declared.Slot.the-variants as SV
-use Rattle.tables.specs.Layout.{recordPlace, recordAt, askIn, askAt, askFields, putAsk, lockWidths, lockPlace, nameIn, nameNumber, modeIn, modeNumber, slotIn, slotAt, slotFields, putSlot, bookMode, bookSlot}
-use Rattle.tables.specs.Moves.{isSlotOf, isSlotAgainst, strengthened}
+use Rattle.tables.specs.SlotLayout.{lockWidths, lockPlace, nameIn, nameNumber, modeIn, modeNumber, slotIn, slotAt, slotFields, putSlot, bookMode, bookSlot}
+use Rattle.tables.specs.SlotMoves.{isSlotOf, isSlotAgainst, strengthened}
 
 -- ---- modes
 pub mode-x : (number : ℕ) → number ≡ 2 → X ≡ modeIn number
@@ -102,30 +98,3 @@ pub put-held : (d u : List ℕ) (i : ℕ) (s : Sl.Slot) (l : L.Lock) (number : �
     → u ≡ putFields lockWidths d (lockPlace i) (l .name .0 ∷ l .holder ∷ number ∷ 0 ∷ []) → u ≡ putSlot d i (bookSlot s)
 unfolding putSlot slotFields
 put-held d u i s l number e q p = rw (e, name-back, ← q) p
-
--- ---- a waiting request read, and written
-module _ (d : List ℕ) (t kind : ℕ) (q : kind ≡ numberAt 2 d (recordPlace t + 2)) where
-  pub ask-read : (lo hi : ℕ) → kind ≡ 4 → lo ≡ numberAt keySize d (recordPlace t + 2 + 2 + 4) → hi ≡ numberAt keySize d (recordPlace t + 2 + 2 + 4 + keySize) → read lo hi ≡ askAt d t
-  unfolding askIn recordAt fieldsAt
-  ask-read lo hi k r s = rw (← q, k, r, s)
-
-  pub ask-insert : (lo rec : ℕ) → (kind ≡ 4 → ⊥) → kind ≡ 5 → lo ≡ numberAt keySize d (recordPlace t + 2 + 2 + 4) → rec ≡ numberAt 4 d (recordPlace t + 2 + 2) → insert lo rec ≡ askAt d t
-  unfolding askIn recordAt fieldsAt
-  ask-insert lo rec h k r s = rw (← q, k, r, s)
-
-  pub ask-delete : (lo : ℕ) → (kind ≡ 4 → ⊥) → (kind ≡ 5 → ⊥) → lo ≡ numberAt keySize d (recordPlace t + 2 + 2 + 4) → delete lo ≡ askAt d t
-  unfolding askIn recordAt fieldsAt
-  ask-delete lo h k r = rw (← q, ne-eqb kind 4 h, ne-eqb kind 5 k, r)
-
-module _ (d u : List ℕ) (t : ℕ) (a : A.Ask) where
-  pub put-read : (lo hi : Key) → a ≡ AV.Read lo hi → u ≡ putAsk d t (4 ∷ 0 ∷ lo .0 ∷ hi .0 ∷ []) → u ≡ putAsk d t (askFields (bookAsk a))
-  unfolding askFields
-  put-read lo hi e p = rw e p
-
-  pub put-insert : (k : Key) (r : ℕ) → a ≡ AV.Insert k r → u ≡ putAsk d t (5 ∷ r ∷ k .0 ∷ 0 ∷ []) → u ≡ putAsk d t (askFields (bookAsk a))
-  unfolding askFields
-  put-insert k r e p = rw e p
-
-  pub put-delete : (k : Key) → a ≡ AV.Delete k → u ≡ putAsk d t (6 ∷ 0 ∷ k .0 ∷ 0 ∷ []) → u ≡ putAsk d t (askFields (bookAsk a))
-  unfolding askFields
-  put-delete k e p = rw e p

@@ -1,29 +1,18 @@
--- A page as its rows, each the z bytes of an entry or a child: what is put in, taken out, settled or divided is said of the list of rows, and
--- every byte of the page follows. Assumes nothing.
-use Prim.Native.Nat.{ℕ, _+_, _*_, _-_}
-use mathlib.Core.Path.{_≡_}
+-- An entry and a child as rows, and what is put in, taken out, settled or divided, said of the list of rows: every byte of the page follows.
+-- Assumes nothing.
+use Prim.Native.Nat.{ℕ}
 use mathlib.Core.Bool.{Bool, cond}
-use mathlib.Core.List.{List, [], _∷_, _++_, map}
+use mathlib.Core.List.{List, [], _∷_, map}
 use lib.Dec.{eqb}
-use lib.ListN.{length, replicate, take, drop}
-use Rattle.limits.specs.Limits.{keySize, headSize, entrySize, childSize}
-use Rattle.lists.specs.Lists.{tab, join, insertAt, removeAt}
-use Rattle.numbers.specs.Numbers.{numberAt, putNumber, part, putPart, fieldsAt, putFields}
+use lib.ListN.{replicate}
+use Rattle.limits.specs.Limits.{keySize, entrySize, childSize}
+use Rattle.lists.specs.Lists.{join, insertAt, removeAt}
+use Rattle.numbers.specs.Numbers.{numberAt, putNumber, fieldsAt, putFields}
 use Rattle.rules.specs.Kinds.{Entry}
 use Rattle.rules.specs.Entries.{left, committed, rolledBack}
 use Rattle.pages.specs.declared.Child.{Child}
-use Rattle.pages.specs.Layout.{countOf, entryWidths, entryIn, entryFields, childWidths, childFields}
-
-unfoldable pub rowAt : ℕ → List ℕ → ℕ → List ℕ
-rowAt z p i = part (headSize + z * i) z p
-
-unfoldable pub rowsOf : ℕ → List ℕ → List (List ℕ)
-rowsOf z p = tab (countOf p) 0 (rowAt z p)
-
--- the page with these rows in place of its own: its count is theirs, and what its own rows had beyond them is zero
-unfoldable pub withRows : ℕ → List ℕ → List (List ℕ) → List ℕ
-withRows z p rs =
-    putNumber 2 (putPart headSize (join (λ r. r) rs ++ replicate (z * (countOf p - length rs)) 0) p) 4 (length rs)
+use Rattle.pages.specs.PageLayout.{entryWidths, entryIn, entryFields, childWidths, childFields}
+use Rattle.pages.specs.PageRows.{rowsOf, withRows}
 
 -- an entry and a child as rows
 unfoldable pub entryRow : Entry ℕ ℕ → List ℕ
@@ -53,15 +42,6 @@ rowLeft commits t r =
 
 unfoldable pub leafSettled : Bool → ℕ → List ℕ → List ℕ
 leafSettled commits t p = withRows entrySize p (join (rowLeft commits t) (rowsOf entrySize p))
-
--- "A full leaf with one more (25): the lowest 13 stay, 12 move to a new page. Inner (31): 16 stay, 15 move." The new page has its head and
--- no row yet. In a new inner page "the first separator is 0"; the one that it had goes up.
-pub record Divided (z stay : ℕ) (first : List (List ℕ) → List (List ℕ)) (rs : List (List ℕ)) (l r l′ r′ : List ℕ) : Type 0 where
-  pub left : l′ ≡ withRows z l (take stay rs)
-  pub right : r′ ≡ withRows z r (first (drop stay rs))
-
-abbrev pub asTheyAre : List (List ℕ) → List (List ℕ)
-asTheyAre rs = rs
 
 abbrev pub fromZero : List (List ℕ) → List (List ℕ)
 fromZero [] = []

@@ -1,4 +1,4 @@
--- Document 01, "Records and pages": the request record and when it is bad (number 12), and the answer record. Assumes nothing.
+-- Document 01, "Records and pages": the request record, and when it is bad (number 12). Assumes nothing.
 use Prim.Native.Nat.{ℕ, _+_, _≤_}
 use mathlib.Core.Path.{_≡_}
 use mathlib.Core.Bool.{Bool, true, cond, not, _||_, _&&_}
@@ -6,10 +6,9 @@ use mathlib.Core.List.{List, [], _∷_}
 use mathlib.Core.Option.{Option, none, some}
 use lib.Dec.{eqb, leb, ltb}
 use lib.ListN.{length, getD}
-use Rattle.limits.specs.Limits.{keySize, requestHeadSize, answerSize}
-use Rattle.numbers.specs.Numbers.{numberAt, widthOf, fieldsAt, putFields}
+use Rattle.limits.specs.Limits.{keySize, requestHeadSize}
+use Rattle.numbers.specs.Numbers.{numberAt, widthOf, fieldsAt}
 use Rattle.rules.specs.Kinds.{read, insert, delete, Request, begin, commit, rollback, ask, Call}
-use Rattle.rules.specs.Runs.{paper, Answer}
 use Rattle.rules.specs.Desk.{legalCall}
 use Rattle.rules.specs.Document.{document, endless}
 
@@ -93,24 +92,3 @@ isBad s = (misshapen s || filled s) || illegal s
 -- the call that a slice is, or none: number 12
 unfoldable pub heard : List ℕ → Option (Call ℕ ℕ)
 heard s = cond (isBad s) none (some (callIn s))
-
--- "Answer: length 20, kind 7, transaction, number, key, record; key and record are zero except in 1 and 16."
-abbrev pub answerWidths : List ℕ
-answerWidths = 2 ∷ 2 ∷ 2 ∷ 2 ∷ keySize ∷ 4 ∷ []
-
-abbrev pub orZero : Option ℕ → ℕ
-orZero none = 0
-orZero (some n) = n
-
-unfoldable pub answerFields : Answer ℕ ℕ → List ℕ
-answerFields a =
-    let p = paper (a .says) in answerSize ∷ 7 ∷ a .asker ∷ p .number ∷ orZero (p .key) ∷ orZero (p .rec) ∷ []
-
--- the bytes with an answer written at a place
-unfoldable pub putAnswer : List ℕ → ℕ → Answer ℕ ℕ → List ℕ
-putAnswer s at a = putFields answerWidths s at (answerFields a)
-
--- the answers written one after the other from the start: "Answer bytes beyond those written keep their values."
-unfoldable pub written : List ℕ → ℕ → List (Answer ℕ ℕ) → List ℕ
-written s at [] = s
-written s at (a ∷ as′) = written (putAnswer s at a) (at + answerSize) as′
