@@ -1,5 +1,5 @@
-//! Links the crate `shelves`.
+//! Links the crate `testing_index`.
 
 fn main() {
-    linking::link("shelves");
+    linking::link("testing_index");
 }

@@ -6,9 +6,9 @@ use mathlib.Core.Bool.{true, false, true≢false}
 use mathlib.Core.List.{List}
 use mathlib.Core.Option.{none, some, Option·none-ne-some, Option·some-injective}
 use Rattle.rules.specs.Kinds.{Call}
-use Rattle.entries.specs.RequestRecord.{heard}
-use Rattle.desks.specs.Whole.{Whole}
-use Rattle.desks.proofs.Tell.{whole-inj}
+use Rattle.requests.specs.RequestRecord.{heard}
+use Rattle.states.specs.Whole.{Whole}
+use Rattle.states.proofs.Tell.{whole-inj}
 use Rattle.calls.specs.Promise.{Lent, lent, wrongSizes, returned, Answered, Served, Freshened}
 
 -- ---- what a call comes to, by its cause

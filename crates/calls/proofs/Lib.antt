@@ -1,4 +1,4 @@
 pub mod Determined
-pub mod Runs
-pub mod Bytes
-pub mod Outcomes
+pub mod CallRuns
+pub mod AnswerBytes
+pub mod SomeOutcome

@@ -14,10 +14,10 @@ use Rattle.rules.specs.Kinds.{Call}
 use Rattle.rules.specs.Queue.{St}
 use Rattle.rules.specs.Runs.{Answer}
 use Rattle.rules.specs.Desk.{step, fresh}
-use Rattle.entries.specs.RequestRecord.{heard}
-use Rattle.entries.specs.AnswerRecord.{putAnswer, written}
-use Rattle.desks.specs.States.{book, stateOf}
-use Rattle.desks.specs.Whole.{Whole}
+use Rattle.requests.specs.RequestRecord.{heard}
+use Rattle.answers.specs.AnswerRecord.{putAnswer, written}
+use Rattle.states.specs.States.{book, stateOf}
+use Rattle.states.specs.Whole.{Whole}
 use Rattle.calls.specs.Promise.{Served, lent, shortSpace, returned}
 
 -- a call as it is sent: the request, and the space lent for its answers

@@ -13,10 +13,10 @@ use Rattle.numbers.specs.Numbers.{Bytes}
 use Rattle.rules.specs.Kinds.{Call}
 use Rattle.rules.specs.Runs.{Worked}
 use Rattle.rules.specs.Desk.{step, fresh}
-use Rattle.entries.specs.RequestRecord.{heard}
-use Rattle.entries.specs.AnswerRecord.{written}
-use Rattle.desks.specs.States.{book, stateOf}
-use Rattle.desks.specs.Whole.{Whole}
+use Rattle.requests.specs.RequestRecord.{heard}
+use Rattle.answers.specs.AnswerRecord.{written}
+use Rattle.states.specs.States.{book, stateOf}
+use Rattle.states.specs.Whole.{Whole}
 
 -- what a call was lent, and what it leaves
 pub record Lent : Type 0 where

@@ -16,26 +16,26 @@ use Rattle.limits.specs.Limits.{answerSize, spaceLeast}
 use Rattle.lists.specs.Lists as L
 use Rattle.lists.proofs.Tests.{all-at, all-each}
 use Rattle.numbers.specs.Numbers.{Bytes, numberAt}
-use Rattle.numbers.proofs.Kept.{bytes-zeros}
+use Rattle.numbers.proofs.BytesKept.{bytes-zeros}
 use Rattle.rules.specs.Kinds.{read, insert, Request, begin, commit, rollback, ask, Call}
 use Rattle.rules.specs.Locks as K
 use Rattle.rules.specs.Queue as Q
 use Rattle.rules.specs.Desk as D
-use Rattle.entries.specs.RequestRecord as W
-use Rattle.entries.specs.AnswerRecord as An
-use Rattle.desks.specs.States.{book, stateOf}
-use Rattle.desks.specs.Whole.{Whole}
-use Rattle.desks.specs.Fresh.{freshPages, freshDesk}
-use Rattle.desks.proofs.FreshPicture.{fresh-picture}
+use Rattle.requests.specs.RequestRecord as W
+use Rattle.answers.specs.AnswerRecord as An
+use Rattle.states.specs.States.{book, stateOf}
+use Rattle.states.specs.Whole.{Whole}
+use Rattle.states.specs.Fresh.{freshPages, freshDesk}
+use Rattle.states.proofs.FreshPicture.{fresh-picture}
 use Rattle.calls.specs.Promise.{Lent, BytesIn, Served, lent, returned, shortSpace}
 use Rattle.calls.specs.Calls as C
 use Rattle.cases.specs.Overs as O
 use Rattle.cases.specs.Idle as I
-use Rattle.cases.proofs.Computing.{the-book, the-pages, the-records}
+use Rattle.cases.proofs.CaseComputing.{the-book, the-pages, the-records}
 use Rattle.cases.proofs.Sending.{space, sent, sent-bytes}
 use Rattle.calls.proofs.Determined.{served-good}
-use Rattle.calls.proofs.Outcomes.{whole-bytes, Judgement, judged-outcome}
-use Rattle.calls.proofs.Runs.{whole-sizes, serve-back, call-legal, after-with}
+use Rattle.calls.proofs.SomeOutcome.{whole-bytes, Judgement, judged-outcome}
+use Rattle.calls.proofs.CallRuns.{whole-sizes, serve-back, call-legal, after-with}
 
 -- ---- calls to send
 abbrev asks : ℕ → Request ℕ ℕ → Call ℕ ℕ

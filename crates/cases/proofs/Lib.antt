@@ -1,5 +1,5 @@
-pub mod Computing
-pub mod Table
+pub mod CaseComputing
+pub mod TableOnPages
 pub mod Overs
 pub mod Sending
 pub mod Idle

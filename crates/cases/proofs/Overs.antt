@@ -20,17 +20,17 @@ use Rattle.rules.specs.Queue.{St}
 use Rattle.rules.specs.Runs.{Answer, Worked}
 use Rattle.rules.specs.Desk as D
 use Rattle.rules.specs.Cases as C
-use Rattle.entries.specs.RequestRecord as W
+use Rattle.requests.specs.RequestRecord as W
 use Rattle.trees.specs.Trees.{documentSizes}
 use Rattle.trees.specs.Shapes.{treePaging}
-use Rattle.desks.specs.States.{book}
+use Rattle.states.specs.States.{book}
 use Rattle.calls.specs.Promise.{shortSpace}
 use Rattle.calls.specs.Calls.{Sent, Back, callIn, with, callsIn, refuses, backIf, backOf, onward, backsFrom, wrote, bytesOf}
 use Rattle.cases.specs.Overs as O
-use Rattle.cases.proofs.Computing.{the-records, the-answers, the-cases}
-use Rattle.cases.proofs.Table.{cases-hold-in-pages}
-use Rattle.calls.proofs.Runs.{run-from-fresh}
-use Rattle.calls.proofs.Bytes.{refusal-wrote, answers-wrote}
+use Rattle.cases.proofs.CaseComputing.{the-records, the-answers, the-cases}
+use Rattle.cases.proofs.TableOnPages.{cases-hold-in-pages}
+use Rattle.calls.proofs.CallRuns.{run-from-fresh}
+use Rattle.calls.proofs.AnswerBytes.{refusal-wrote, answers-wrote}
 
 -- ---- the records
 abbrev pub heardAs : C.Over → Option (Call ℕ ℕ)

@@ -9,13 +9,13 @@ use Rattle.limits.specs.Limits.{spaceLeast}
 use Rattle.lists.specs.Lists.{In}
 use Rattle.lists.proofs.Elements.{in-all, map-in}
 use Rattle.numbers.specs.Numbers.{Bytes, widthOf}
-use Rattle.numbers.proofs.Kept.{bytes-zeros, bytes-putFields}
+use Rattle.numbers.proofs.BytesKept.{bytes-zeros, bytes-putFields}
 use Rattle.rules.specs.Kinds.{Call}
 use Rattle.rules.specs.Cases.{Over, Case}
-use Rattle.entries.specs.RequestRecord as W
+use Rattle.requests.specs.RequestRecord as W
 use Rattle.calls.specs.Promise.{shortSpace}
 use Rattle.calls.specs.Calls.{Sent, Back, BytesSent}
-use Rattle.calls.proofs.Outcomes.{some-run}
+use Rattle.calls.proofs.SomeOutcome.{some-run}
 use Rattle.cases.specs.Overs as O
 
 abbrev pub space : List ℕ

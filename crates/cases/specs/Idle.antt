@@ -10,10 +10,10 @@ use lib.ListN.{length}
 use Rattle.limits.specs.Limits.{answerSize}
 use Rattle.numbers.specs.Numbers.{Bytes, numberAt}
 use Rattle.rules.specs.Kinds.{Ask, Request, ask, Call}
-use Rattle.entries.specs.RequestRecord.{heard}
-use Rattle.tables.specs.SlotLayout.{slotsOf}
-use Rattle.tables.specs.QueueLayout.{queueOf}
-use Rattle.desks.specs.Whole.{Whole}
+use Rattle.requests.specs.RequestRecord.{heard}
+use Rattle.locks.specs.SlotLayout.{slotsOf}
+use Rattle.queue.specs.QueueLayout.{queueOf}
+use Rattle.states.specs.Whole.{Whole}
 use Rattle.calls.specs.Promise.{Lent, BytesIn, Served, wrongSizes, returned, stepOf}
 
 pub record Left : Type 0 where

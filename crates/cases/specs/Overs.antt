@@ -14,8 +14,8 @@ use Rattle.rules.specs.Cases.{Over, Case, to, cases, sceneOf}
 use Rattle.rules.specs.Cases as C
 use Rattle.trees.specs.Trees.{documentSizes}
 use Rattle.trees.specs.Shapes.{treePaging}
-use Rattle.entries.specs.RequestRecord.{formOf}
-use Rattle.desks.specs.States.{stateOf}
+use Rattle.requests.specs.RequestRecord.{formOf}
+use Rattle.states.specs.States.{stateOf}
 use Rattle.calls.specs.Promise.{shortSpace}
 use Rattle.calls.specs.Calls.{Sent, Back, FromFresh, gives, refuses, wrote, bytesOf}
 

@@ -9,7 +9,7 @@ use lib.Bits.{bitOr}
 use lib.Dec.{eqb, eqb·suc-suc}
 use Rattle.sets.specs.Sets.{wordHas}
 use Rattle.sets.proofs.Words.{word-none, word-union, word-with}
-use Rattle.circles.specs.Sets.{has}
+use Rattle.circles.specs.CircleSets.{has}
 use Rattle.circles.specs.Search.{withOne}
 
 one-less : (t : ℕ) → 1 ≤ t → suc (t - 1) ≡ t

@@ -18,10 +18,10 @@ use Rattle.rules.specs.Entries.{Entries}
 use Rattle.rules.specs.Locks.{Slots, blockers}
 use Rattle.rules.specs.Queue.{Q, Wait, waitsFrom}
 use Rattle.rules.specs.Good.{otherAsker}
-use Rattle.circles.specs.Sets.{has, SetOf, isLink, RowOf}
+use Rattle.circles.specs.CircleSets.{has, SetOf, isLink, RowOf}
 use Rattle.circles.specs.Search.{withOne}
 use Rattle.circles.proofs.Bits.{has-none, has-with}
-use Rattle.circles.proofs.Known.{requests}
+use Rattle.circles.proofs.WaitsKnown.{requests}
 
 -- ---- a set
 pub set-none : SetOf 0 []

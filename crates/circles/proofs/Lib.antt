@@ -1,5 +1,5 @@
 pub mod Bits
-pub mod Turns
-pub mod Known
+pub mod CircleTurns
+pub mod WaitsKnown
 pub mod Links
 pub mod Collected

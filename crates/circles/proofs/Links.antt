@@ -17,10 +17,10 @@ use Rattle.lists.proofs.Pairs.{pairs-in}
 use Rattle.rules.specs.Kinds.{Book}
 use Rattle.rules.specs.Queue.{Wait, everyone, linked, further, reached, onCircle}
 use Rattle.rules.specs.Good.{otherAsker}
-use Rattle.circles.specs.Sets.{has, SetOf, isLink, RowOf}
+use Rattle.circles.specs.CircleSets.{has, SetOf, isLink, RowOf}
 use Rattle.circles.specs.Search.{gathered, furtherOn, reachedOn, circleOn}
 use Rattle.circles.proofs.Bits.{has-union}
-use Rattle.circles.proofs.Known.{Known}
+use Rattle.circles.proofs.WaitsKnown.{Known}
 
 -- ---- on numbers: whoever is in the set, or in the row's set of one that is
 has-joined : (b : Bool) (r n u : ℕ) → has (cond b (bitOr r n) r) u ≡ (has r u || (b && has n u))

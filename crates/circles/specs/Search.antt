@@ -6,7 +6,7 @@ use mathlib.Core.List.{List}
 use lib.Bits.{bitOr}
 use lib.ListN.{length, getD}
 use Rattle.sets.specs.Sets.{wordWith}
-use Rattle.circles.specs.Sets.{has}
+use Rattle.circles.specs.CircleSets.{has}
 
 -- a set with transaction t in it
 unfoldable pub withOne : ℕ → ℕ → ℕ

@@ -3,7 +3,7 @@
 // a set for each transaction, at the place of its number: whom its queued request waits behind. Place 0 is not used.
 ghost use mathlib.Core.Path.{_≡_};
 ghost use Prim.Native.Nat.{_≤_, _<_};
-ghost use Rattle.circles.specs.Sets.{has};
+ghost use Rattle.circles.specs.CircleSets.{has};
 ghost use Rattle.circles.specs.Search.{withOne, furtherOn, reachedOn, circleOn};
 use sets::word;
 

@@ -11,16 +11,16 @@ use lib.ListN.{length, getD, set, List·getD-eq-default}
 use Rattle.limits.specs.Limits.{deskSize}
 use Rattle.numbers.specs.Numbers.{putNumber, putFields, zeroed}
 use Rattle.numbers.proofs.Numbers.{getD-putNumber-out}
-use Rattle.numbers.proofs.Moves.{length-zeroed, getD-zeroed-in}
+use Rattle.numbers.proofs.ByteMoves.{length-zeroed, getD-zeroed-in}
 use Rattle.trees.specs.Shapes.{bare}
-use Rattle.tables.specs.QueueLayout.{headWidths}
+use Rattle.queue.specs.QueueLayout.{headWidths}
 use Rattle.index.specs.Changes.{Becomes}
-use Rattle.desks.specs.States.{stateOf}
-use Rattle.desks.proofs.Says.{headFields}
-use Rattle.desks.proofs.Fresh.{fresh-desk}
-use Rattle.desks.specs.Whole.{Whole}
-use Rattle.desks.specs.Fresh.{freshDesk}
-use Rattle.desks.proofs.FreshPicture.{fresh-whole, fresh-says}
+use Rattle.states.specs.States.{stateOf}
+use Rattle.states.proofs.DeskSays.{headFields}
+use Rattle.states.proofs.FreshDesk.{fresh-desk}
+use Rattle.states.specs.Whole.{Whole}
+use Rattle.states.specs.Fresh.{freshDesk}
+use Rattle.states.proofs.FreshPicture.{fresh-whole, fresh-says}
 use Rattle.calls.specs.Promise.{wrongPicture, returned, Freshened, sizes, made}
 
 set-zero : (s : List ℕ) (i : ℕ) → getD s i 0 ≡ 0 → set s i 0 ≡ s

@@ -10,14 +10,14 @@ use lib.ListN.{length}
 use Rattle.limits.specs.Limits.{pagesSize, deskSize, spaceLeast}
 use Rattle.lists.proofs.Tests.{neither}
 use Rattle.rules.specs.Desk.{legalCall}
-use Rattle.entries.specs.declared.Call.{Call}
-use Rattle.entries.specs.declared.Heard.{Heard}
-use Rattle.entries.specs.declared.Heard.the-variants.{Good, Bad}
-use Rattle.entries.specs.RequestMeaning.{bookCall, bookHeard}
-use Rattle.entries.specs.RequestRecord.{heard}
-use Rattle.entries.proofs.Number12.{heard-legal}
-use Rattle.desks.specs.States.{book}
-use Rattle.desks.specs.Whole.{Whole, Judged}
+use Rattle.requests.specs.declared.Call.{Call}
+use Rattle.requests.specs.declared.Heard.{Heard}
+use Rattle.requests.specs.declared.Heard.the-variants.{Good, Bad}
+use Rattle.requests.specs.RequestMeaning.{bookCall, bookHeard}
+use Rattle.requests.specs.RequestRecord.{heard}
+use Rattle.requests.proofs.Number12.{heard-legal}
+use Rattle.states.specs.States.{book}
+use Rattle.states.specs.Whole.{Whole, Judged}
 use Rattle.calls.specs.Promise.{wrongPicture, shortSpace, wrongSizes, returned, Answered, Served, sizes, broken, bad, good, lent}
 
 -- ---- the sizes

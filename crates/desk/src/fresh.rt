@@ -2,7 +2,7 @@
 ghost use mathlib.Core.Path.{_≡_};
 ghost use lib.ListN.{length};
 ghost use Rattle.limits.specs.Limits.{deskSize};
-ghost use Rattle.desks.specs.Fresh.{freshDesk};
+ghost use Rattle.states.specs.Fresh.{freshDesk};
 
 // The length of a desk, as its head says it.
 const LENGTH: u16 = limits::DESK_SIZE as u16;

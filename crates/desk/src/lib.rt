@@ -1,19 +1,8 @@
 // The key desk: one call answers one request on lent bytes. (Document 01, "What the desk says".)
-mod answering;
 mod fresh;
-mod joining;
-mod refusing;
 
 ghost use Rattle.calls.specs.Promise.{Freshened, Served, lent};
-pub use answering::answer;
-use entries::Heard;
-use entries::Says;
-
-// What stands against a request, 13 to 15, or nothing.
-pub enum Refusal {
-    By(Says),
-    Nothing,
-}
+use requests::Heard;
 
 // The number that a call returns with no answer: 10 to 12, in the upper half.
 const WRONG_SIZES: u64 = 10 * 4294967296;
@@ -52,12 +41,12 @@ pub extern "C" fn keydesk_serve(
     {
         return WRONG_SIZES;
     }
-    if !whole::is_whole(pages, desk) {
+    if !judging::is_whole(pages, desk) {
         return NOT_WHOLE;
     }
-    let heard = entries::read_request(request);
+    let heard = requests::read_request(request);
     let Heard::Good(call) = heard else {
         return BAD_REQUEST;
     };
-    answer(pages, desk, answers, call) as u64
+    answering::answer(pages, desk, answers, call) as u64
 }

@@ -1,9 +1,1 @@
-pub mod Keys
 pub mod EntryOneToOne
-pub mod AnswerOneToOne
-pub mod RequestOneToOne
-pub mod Legal
-pub mod Requests
-pub mod Number12
-pub mod Answers
-pub mod Written

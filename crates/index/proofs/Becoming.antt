@@ -8,7 +8,7 @@ use native.Mathlib.Omega.{arith}
 use lib.ListN.{length, replicate}
 use Rattle.limits.specs.Limits.{pagesMost, pageSize, pagesSize}
 use Rattle.rules.specs.Document.{endMark}
-use Rattle.pages.specs.PageHead.{rootOf, usedOf, heightOf}
+use Rattle.rows.specs.PageHead.{rootOf, usedOf, heightOf}
 use Rattle.trees.specs.Trees.{Index, WholeIndex, documentSizes}
 use Rattle.index.specs.Pictures.{Item, keyOf, pageAt, treeOf, indexOf, headPage, Laid}
 use Rattle.index.specs.Changes.{Becomes}

@@ -19,17 +19,17 @@ use Rattle.lists.proofs.Tests.{all-weaker}
 use Rattle.lists.proofs.Joins.{map-take, map-drop, all-join}
 use Rattle.rules.proofs.Orders.{numbers-ordered}
 use Rattle.pages.specs.declared.Child as P
-use Rattle.pages.specs.PageHead.{kindOf, countOf}
+use Rattle.rows.specs.PageHead.{kindOf, countOf}
 use Rattle.pages.specs.PageLayout.{entriesOf, childAt, childrenOf}
-use Rattle.pages.proofs.Entries.{length-entries}
-use Rattle.pages.proofs.Children.{length-children}
+use Rattle.pages.proofs.EntryRows.{length-entries}
+use Rattle.pages.proofs.ChildRows.{length-children}
 use Rattle.trees.specs.Trees.{Child, Tree, isPage, times, flat, atMost, under, inside, ranges, ranged}
 use Rattle.trees.specs.Growth.{place, missing}
-use Rattle.trees.proofs.Keys.{at-most-itself, under-then, under-other, other-under}
-use Rattle.trees.proofs.Order.{flat-sorted}
-use Rattle.trees.proofs.Ranges.{ranges-cut, ranges-sorted, before-under, ranged-in}
+use Rattle.trees.proofs.KeyOrder.{at-most-itself, under-then, under-other, other-under}
+use Rattle.trees.proofs.ItemOrder.{flat-sorted}
+use Rattle.trees.proofs.ChildRanges.{ranges-cut, ranges-sorted, before-under, ranged-in}
 use Rattle.trees.proofs.Spots.{Lies, endOf, at-spot}
-use Rattle.trees.proofs.Pages.{summed-some}
+use Rattle.trees.proofs.PageCounts.{summed-some}
 use Rattle.index.specs.declared.Way.{Way}
 use Rattle.index.specs.Pictures.{Item, keyOf, pageAt, treeOf}
 use Rattle.index.specs.Descents.{Subtree, Goes, LeafFor}

@@ -15,8 +15,8 @@ use Rattle.rules.specs.Document.{endMark}
 use Rattle.rules.proofs.Orders.{numbers-ordered}
 use Rattle.numbers.specs.Numbers.{zeroed}
 use Rattle.numbers.proofs.Parts.{getD-part}
-use Rattle.numbers.proofs.Moves.{length-zeroed, getD-zeroed-in}
-use Rattle.pages.specs.PageHead.{putHead, putRoot}
+use Rattle.numbers.proofs.ByteMoves.{length-zeroed, getD-zeroed-in}
+use Rattle.rows.specs.PageHead.{putHead, putRoot}
 use Rattle.pages.specs.PageLayout.{entriesOf}
 use Rattle.trees.specs.Trees.{documentSizes}
 use Rattle.trees.specs.Shapes.{bare}
@@ -24,8 +24,8 @@ use Rattle.trees.proofs.Wholes.{bare-whole, document-fair}
 use Rattle.index.specs.Pictures.{keyOf, pageAt, putPage, treeOf, blankPage, headPage, leafPage}
 use Rattle.index.specs.Changes.{Becomes}
 use Rattle.index.proofs.Buffers.{length-page, length-putPage, page-same, page-other, page-lent, page-back}
-use Rattle.index.proofs.Written.{length-blank, blank-none}
-use Rattle.index.proofs.Leaves.{leaf-entries}
+use Rattle.index.proofs.BlankPages.{length-blank, blank-none}
+use Rattle.index.proofs.LeafPages.{leaf-entries}
 use Rattle.index.proofs.Heads.{length-head}
 use Rattle.index.proofs.Becoming.{becomes}
 

@@ -11,7 +11,7 @@ use Rattle.lists.proofs.Joins.{map-same}
 use Rattle.pages.specs.declared.Child as P
 use Rattle.pages.specs.PageLayout.{entriesOf, childrenOf}
 use Rattle.trees.specs.Trees.{Child, Tree, summed, isPage, times}
-use Rattle.trees.proofs.Pages.{summed-map, summed-in}
+use Rattle.trees.proofs.PageCounts.{summed-map, summed-in}
 use Rattle.index.specs.Pictures.{Item, pageAt, treeOf, leafPage, innerPage, Laid}
 
 -- ---- a child as a tree

@@ -18,14 +18,14 @@ use Rattle.numbers.specs.Numbers.{fieldsAt, putFields, widthOf}
 use Rattle.numbers.proofs.Fields.{touches-putFields, length-putFields, fields-same}
 use Rattle.numbers.proofs.Splices.{fields-alike}
 use Rattle.pages.specs.declared.Child as P
-use Rattle.pages.specs.PageHead.{rootOf, usedOf, heightOf, rootWidths, putRoot}
+use Rattle.rows.specs.PageHead.{rootOf, usedOf, heightOf, rootWidths, putRoot}
 use Rattle.pages.specs.PageLayout.{childrenOf}
 use Rattle.trees.specs.Trees.{isPage, times}
-use Rattle.trees.proofs.Pages.{summed-in}
+use Rattle.trees.proofs.PageCounts.{summed-in}
 use Rattle.index.specs.Pictures.{pageAt, putPage, treeOf, blankPage, headPage}
 use Rattle.index.specs.Descents.{Subtree}
 use Rattle.index.proofs.Buffers.{page-lent, page-back}
-use Rattle.index.proofs.Written.{length-blank}
+use Rattle.index.proofs.BlankPages.{length-blank}
 use Rattle.index.proofs.Frame.{Times, times-inner}
 use Rattle.index.proofs.Subtrees.{subtree-child, inner-filled}
 

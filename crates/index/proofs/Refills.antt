@@ -14,17 +14,17 @@ use Rattle.lists.specs.Lists.{In}
 use Rattle.lists.proofs.Joins.{map-same}
 use Rattle.rules.specs.Document.{endMark}
 use Rattle.pages.specs.declared.Child as P
-use Rattle.pages.specs.PageHead.{kindOf, rootOf, usedOf, heightOf}
+use Rattle.rows.specs.PageHead.{kindOf, rootOf, usedOf, heightOf}
 use Rattle.pages.specs.PageLayout.{entriesOf, childrenOf}
 use Rattle.trees.specs.Trees.{Child, isPage, times, documentSizes, WholeIndex}
 use Rattle.trees.specs.Growth.{withTree, leaves, inLeaves}
 use Rattle.trees.proofs.Thinning.{Thins, leaves-whole}
-use Rattle.trees.proofs.Pages.{summed-some}
+use Rattle.trees.proofs.PageCounts.{summed-some}
 use Rattle.index.specs.Pictures.{Item, keyOf, pageAt, treeOf, indexOf, leafPage, innerPage, headPage, Laid, WholePages}
 use Rattle.index.specs.Changes.{Becomes}
 use Rattle.index.specs.Descents.{Subtree}
-use Rattle.index.proofs.Written.{kind-leaf, kind-inner, kind-head}
-use Rattle.index.proofs.Leaves.{Smalls, leaf-entries, laid-small}
+use Rattle.index.proofs.BlankPages.{kind-leaf, kind-inner, kind-head}
+use Rattle.index.proofs.LeafPages.{Smalls, leaf-entries, laid-small}
 use Rattle.index.proofs.Frame.{kid, Times, own-page, times-inner, times-child}
 use Rattle.index.proofs.Subtrees.{used-page, leaf-few, inner-filled, subtree-child, subtree-root}
 

@@ -14,10 +14,10 @@ use Rattle.lists.specs.Lists.{In}
 use Rattle.lists.proofs.Elements.{map-in}
 use Rattle.numbers.proofs.Parts.{getD-part}
 use Rattle.pages.specs.declared.Child as P
-use Rattle.pages.specs.PageHead.{rootOf, usedOf, heightOf}
+use Rattle.rows.specs.PageHead.{rootOf, usedOf, heightOf}
 use Rattle.pages.specs.PageLayout.{childrenOf}
 use Rattle.trees.specs.Trees.{Child, Tree, Index, isPage, times}
-use Rattle.trees.proofs.Pages.{summed-some}
+use Rattle.trees.proofs.PageCounts.{summed-some}
 use Rattle.index.specs.Pictures.{Item, pageAt, treeOf, indexOf, headPage, leafPage, innerPage, Laid, WholePages}
 use Rattle.index.proofs.Frame.{kid}
 use Rattle.index.proofs.Refills.{isPage-is}

@@ -16,10 +16,10 @@ use Rattle.lists.proofs.Elements.{in-map, in-tab, all-in, in-split}
 use Rattle.lists.proofs.Tests.{and-left, and-right, and-both, all-cons, all-weaker}
 use Rattle.lists.proofs.Pairs.{pairs-cons, pairs-map, pairs-weaker}
 use Rattle.pages.specs.declared.Child as P
-use Rattle.pages.specs.Places.{keysAscend, lowsAscend, ChildPlace}
-use Rattle.pages.specs.PageHead.{countOf, rootOf, usedOf, heightOf}
+use Rattle.pages.specs.KeyPlaces.{keysAscend, lowsAscend, ChildPlace}
+use Rattle.rows.specs.PageHead.{countOf, rootOf, usedOf, heightOf}
 use Rattle.pages.specs.PageLayout.{entriesOf, childAt, childrenOf}
-use Rattle.pages.proofs.Children.{length-children}
+use Rattle.pages.proofs.ChildRows.{length-children}
 use Rattle.rules.proofs.Orders.{numbers-ordered}
 use Rattle.rules.specs.Document.{endMark}
 use Rattle.trees.specs.Trees.{Child, Tree, documentSizes, above, counted, under, inside, firstLow, ranges, ranged}
@@ -27,7 +27,7 @@ use Rattle.trees.proofs.Sorted.{test-sorted}
 use Rattle.trees.proofs.Counts.{counted-filled}
 use Rattle.trees.specs.Growth.{place}
 use Rattle.trees.proofs.Spots.{startOf, endOf}
-use Rattle.trees.proofs.Ranges.{ranged-in, child-range}
+use Rattle.trees.proofs.ChildRanges.{ranged-in, child-range}
 use Rattle.index.specs.Pictures.{Item, keyOf, pageAt, treeOf, indexOf, WholePages}
 use Rattle.index.specs.Descents.{Subtree, InnerIn}
 use Rattle.index.proofs.Frame.{kid, own-page, times-child}

@@ -11,9 +11,9 @@ use lib.ListN.{length, set}
 use Rattle.limits.specs.Limits.{pagesMost, pageSize, pagesSize, leafMost, innerMost}
 use Rattle.lists.specs.Lists.{removeAt}
 use Rattle.rules.specs.Entries.{present}
-use Rattle.pages.specs.PageHead.{kindOf, countOf, rootOf, usedOf, heightOf}
+use Rattle.rows.specs.PageHead.{kindOf, countOf, rootOf, usedOf, heightOf}
 use Rattle.pages.specs.PageLayout.{entriesOf, childAt}
-use Rattle.pages.specs.Places.{keysAscend, ChildPlace}
+use Rattle.pages.specs.KeyPlaces.{keysAscend, ChildPlace}
 use Rattle.pages.specs.PageChanges.{leafSettled}
 use Rattle.trees.specs.Trees.{documentSizes, above, times, counted, ranged}
 use Rattle.trees.specs.Growth.{missing, fullRun}

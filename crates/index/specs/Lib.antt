@@ -2,4 +2,3 @@ pub mod Pictures
 pub mod Searches
 pub mod Changes
 pub mod Descents
-pub mod Growing

@@ -12,9 +12,9 @@ use Rattle.rules.specs.Kinds.{Entry}
 use Rattle.rules.specs.Document.{endMark}
 use Rattle.trees.specs.Trees.{Child, Tree, Index, WholeIndex, documentSizes, flat}
 use Rattle.pages.specs.declared.Child as P
-use Rattle.pages.specs.PageHead.{putHead, putRoot, rootOf, usedOf, heightOf}
+use Rattle.rows.specs.PageHead.{putHead, putRoot, rootOf, usedOf, heightOf}
 use Rattle.pages.specs.PageLayout.{entriesOf, childrenOf}
-use Rattle.pages.specs.PageRows.{withRows}
+use Rattle.rows.specs.PageRows.{withRows}
 use Rattle.pages.specs.PageChanges.{entryRow, childRow}
 
 abbrev pub Item : Type 0

@@ -3,17 +3,17 @@ ghost use mathlib.Core.Path.{_≡_};
 ghost use Prim.Native.Nat.{_<_};
 ghost use lib.ListN.{length};
 ghost use Rattle.limits.specs.Limits.{pagesMost, pagesSize, innerMost};
-ghost use Rattle.pages.specs.PageHead.{countOf, rootOf, usedOf, heightOf, putRoot};
+ghost use Rattle.rows.specs.PageHead.{countOf, rootOf, usedOf, heightOf, putRoot};
 ghost use Rattle.pages.specs.PageLayout.{childAt};
 ghost use Rattle.index.specs.Pictures.{pageAt, putPage, WholePages};
 ghost use Rattle.index.specs.Descents.{Subtree, InnerIn, Starts, Goes, TopOf, LeafFor};
 use super::Step;
 use super::Top;
 use super::Way;
-use entries::Key;
+use keys::Key;
 use limits::PAGE_SIZE;
-use pages::head;
 use pages::inner;
+use rows::head;
 
 // Of page 0: the root's page.
 pub fn root_of(pages: &[u8]) -> usize

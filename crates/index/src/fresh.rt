@@ -3,13 +3,13 @@ ghost use mathlib.Core.Path.{_≡_};
 ghost use Prim.Native.Nat.{_<_};
 ghost use lib.ListN.{length};
 ghost use Rattle.limits.specs.Limits.{pagesMost, pagesSize};
-ghost use Rattle.pages.specs.PageHead.{putHead};
+ghost use Rattle.rows.specs.PageHead.{putHead};
 ghost use Rattle.trees.specs.Shapes.{bare};
 ghost use Rattle.index.specs.Pictures.{pageAt, putPage};
 ghost use Rattle.index.specs.Changes.{Becomes};
 use super::descent;
 use limits::PAGE_SIZE;
-use pages::head;
+use rows::head;
 
 // Makes any buffer of the right length that of an empty index: page 1 is an empty leaf and the root.
 pub fn fresh_pages(pages: &mut [u8])

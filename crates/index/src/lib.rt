@@ -1,10 +1,7 @@
-// The index in lent pages: a B-tree in 64 pages of 512 bytes. (Document 01, "Records and pages".)
-mod descent;
+// The index in lent pages: a B-tree in 64 pages of 512 bytes, made fresh, gone down and searched. (Document 01, "Records and pages".)
+pub mod descent;
 mod fresh;
-mod insert;
-mod replacing;
 mod search;
-mod settling;
 
 pub use descent::child_page;
 pub use descent::count_at;
@@ -13,13 +10,9 @@ pub use descent::low_at;
 pub use descent::root_of;
 pub use descent::used_of;
 use entries::Entry;
-use entries::Key;
 pub use fresh::fresh_pages;
-pub use insert::add;
-pub use replacing::replace;
+use keys::Key;
 pub use search::find;
-pub use settling::settle;
-pub use settling::settle_key;
 
 // What a search looks for: the first entry at or above lo that is above hi or isn't the asker's own ghost.
 pub struct Sought {
@@ -50,12 +43,4 @@ pub struct Step {
 pub struct Way {
     pub slot: usize,
     pub page: usize,
-}
-
-// What becomes of a tree that an entry is put into: how many pages are used then, and the new tree beside it if it was divided. Where the pages
-// are short nothing has changed.
-pub enum Grown {
-    Short,
-    Same(usize),
-    Split(usize, pages::Child),
 }

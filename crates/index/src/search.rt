@@ -6,9 +6,9 @@ ghost use lib.ListN.{length};
 ghost use Rattle.limits.specs.Limits.{pagesMost, pageSize, leafMost};
 ghost use Rattle.lists.specs.Lists.{first};
 ghost use Rattle.entries.specs.EntryMeaning.{bookEntry};
-ghost use Rattle.pages.specs.PageHead.{countOf};
+ghost use Rattle.rows.specs.PageHead.{countOf};
 ghost use Rattle.pages.specs.PageLayout.{entriesOf};
-ghost use Rattle.pages.specs.Places.{keysAscend};
+ghost use Rattle.pages.specs.KeyPlaces.{keysAscend};
 ghost use Rattle.trees.specs.Trees.{flat};
 ghost use Rattle.index.specs.Pictures.{Item, treeOf, entriesIn, WholePages};
 ghost use Rattle.index.specs.Searches.{seeks, bookFound};
@@ -18,8 +18,8 @@ use super::Sought;
 use super::descent;
 use entries::Entry;
 use limits::PAGE_SIZE;
-use pages::head;
 use pages::leaf;
+use rows::head;
 
 // The first entry of the index that is sought.
 pub fn find(pages: &[u8], w: Sought) -> Found

@@ -2,9 +2,8 @@ pub mod Agree
 pub mod Numbers
 pub mod Fields
 pub mod Parts
-pub mod Moves
-pub mod Turns
-pub mod Tables
-pub mod Widths
-pub mod Kept
+pub mod ByteMoves
+pub mod ByteTurns
+pub mod RecordTables
+pub mod BytesKept
 pub mod Splices

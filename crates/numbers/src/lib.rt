@@ -1,7 +1,5 @@
 // Numbers in lent bytes: little-endian numbers read and written at a place, and bytes copied, moved, set to zero and
 // tested. Every place is counted in bytes from the start of the slice; the caller sees to it that it is in range.
-pub mod rows;
-
 ghost use mathlib.Core.Path.{_≡_};
 ghost use Prim.Native.Nat.{_+_, _≤_, _<_};
 ghost use Rattle.numbers.specs.Numbers.{numberAt, putNumber, copied, moved, zeroed, zeroAt};

@@ -4,10 +4,10 @@ use Prim.Native.Nat.{ℕ}
 use mathlib.Core.Path.{refl}
 use mathlib.Core.List.{List}
 use Rattle.numbers.specs.Numbers.{Bytes}
-use Rattle.whole.specs.Verdict.{wholeOk}
-use Rattle.whole.proofs.Judging.{judged}
+use Rattle.judging.specs.Verdict.{wholeOk}
+use Rattle.judging.proofs.Judging.{judged}
 use Rattle.calls.specs.Promise.{Lent, BytesIn, Outcome}
-use Rattle.calls.proofs.Outcomes.{Judgement, judged-outcome}
+use Rattle.calls.proofs.SomeOutcome.{Judgement, judged-outcome}
 use Rattle.cases.specs.Idle.{Way, Keeps}
 use Rattle.cases.proofs.Idle.{judge-keeps}
 

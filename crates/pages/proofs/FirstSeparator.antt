@@ -12,10 +12,10 @@ use Rattle.limits.specs.Limits.{keySize, headSize}
 use Rattle.lists.specs.Lists.{join}
 use Rattle.numbers.specs.Numbers.{numberAt, putNumber}
 use Rattle.numbers.proofs.Numbers.{numberAt-ext, length-putNumber, getD-putNumber-in, getD-putNumber-out}
-use Rattle.pages.specs.PageRows.{withRows}
+use Rattle.rows.specs.PageRows.{withRows}
 use Rattle.pages.specs.PageChanges.{fromZero, firstLow}
-use Rattle.pages.proofs.Rows.{bytesOf, wide-first, wide-rest, wide-more}
-use Rattle.pages.proofs.WithRows.{Fit, Holds, holds-same, holds-with}
+use Rattle.rows.proofs.PageRows.{bytesOf, wide-first, wide-rest, wide-more}
+use Rattle.rows.proofs.WithRows.{Fit, Holds, holds-same, holds-with}
 
 -- ---- the first row's separator set to 0
 number-first : (r u : List ℕ) (rs : List (List ℕ)) (k : ℕ) → k < keySize → keySize ≤ length r → headSize + keySize ≤ length u

@@ -11,7 +11,7 @@ use Rattle.numbers.specs.Numbers.{putPart}
 use Rattle.rules.specs.Kinds.{Entry}
 use Rattle.entries.specs.Absent.{orZero}
 use Rattle.pages.specs.PageLayout.{bit, EntryFits}
-use Rattle.pages.specs.PageRows.{rowAt}
+use Rattle.rows.specs.PageRows.{rowAt}
 use Rattle.pages.specs.PageChanges.{rowLeft}
 
 -- what is left of row i when t has ended stands at place j, and `next` is the place behind it

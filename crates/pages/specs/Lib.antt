@@ -1,7 +1,4 @@
-pub mod PageHead
 pub mod PageLayout
-pub mod PageRows
 pub mod PageChanges
-pub mod Places
-pub mod RowSteps
+pub mod KeyPlaces
 pub mod LeafSteps

@@ -12,7 +12,7 @@ use Rattle.rules.specs.Kinds.{Entry}
 use Rattle.rules.specs.Entries.{left, committed, rolledBack}
 use Rattle.pages.specs.declared.Child.{Child}
 use Rattle.pages.specs.PageLayout.{entryWidths, entryIn, entryFields, childWidths, childFields}
-use Rattle.pages.specs.PageRows.{rowsOf, withRows}
+use Rattle.rows.specs.PageRows.{rowsOf, withRows}
 
 -- an entry and a child as rows
 unfoldable pub entryRow : Entry ℕ ℕ → List ℕ

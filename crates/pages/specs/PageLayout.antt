@@ -13,7 +13,7 @@ use Rattle.rules.specs.Kinds.{Entry}
 use Rattle.rules.specs.Entries.{isThere}
 use Rattle.entries.specs.Absent.{orZero}
 use Rattle.pages.specs.declared.Child.{Child}
-use Rattle.pages.specs.PageHead.{countOf}
+use Rattle.rows.specs.PageHead.{countOf}
 
 -- "Leaf: .. entries of 20 bytes (key, record now, record before, owner 2, presence 1 with bit 0 now and bit 1 before, one zero)". Presence
 -- and the zero are one number. "An absent record is 0."

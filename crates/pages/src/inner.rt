@@ -6,19 +6,19 @@ ghost use lib.ListN.{length, drop};
 ghost use Rattle.limits.specs.Limits.{keySize, pageSize, headSize, childSize, innerMost, innerStay};
 ghost use Rattle.lists.specs.Lists.{insertAt};
 ghost use Rattle.numbers.specs.Numbers.{numberAt, putNumber};
-ghost use Rattle.pages.specs.PageHead.{countOf};
+ghost use Rattle.rows.specs.PageHead.{countOf};
 ghost use Rattle.pages.specs.PageLayout.{childAt, putChild};
-ghost use Rattle.pages.specs.Places.{ChildPlace};
-ghost use Rattle.pages.specs.PageRows.{rowsOf, Divided};
+ghost use Rattle.pages.specs.KeyPlaces.{ChildPlace};
+ghost use Rattle.rows.specs.PageRows.{rowsOf, Divided};
 ghost use Rattle.pages.specs.PageChanges.{childRow, childPut, fromZero, firstLow};
 use super::Child;
-use super::head;
-use entries::Key;
+use keys::Key;
 use limits::CHILD_SIZE;
 use limits::HEAD_SIZE;
 use limits::INNER_GO;
 use limits::INNER_STAY;
 use limits::KEY_SIZE;
+use rows::head;
 
 // The child at a place.
 pub fn child_at(p: &[u8], i: usize) -> Child
@@ -95,7 +95,7 @@ pub fn insert_child(p: &mut [u8], i: usize, c: Child)
     ensures { λ _. ⌜ now (p .exit) ≡ childPut (now (p .entry)) i c ⌝ }
 {
     let n = head::count_of(p);
-    numbers::rows::open_row(p, HEAD_SIZE, CHILD_SIZE, i, n);
+    rows::open_row(p, HEAD_SIZE, CHILD_SIZE, i, n);
     put_child(p, i, c);
     head::put_count(p, n + 1);
 }
@@ -112,11 +112,11 @@ pub fn split_children(left: &mut [u8], right: &mut [u8], i: usize, c: Child) -> 
     ensures { λ r. ⌜ r .0 ≡ firstLow (drop innerStay (insertAt i (childRow c) (rowsOf childSize (now (left .entry))))) ⌝ }
 {
     if i < INNER_STAY {
-        super::part_rows(left, right, CHILD_SIZE, INNER_STAY - 1, INNER_GO);
+        rows::part_rows(left, right, CHILD_SIZE, INNER_STAY - 1, INNER_GO);
         insert_child(left, i, c);
         return take_first_low(right);
     }
-    super::part_rows(left, right, CHILD_SIZE, INNER_STAY, INNER_GO - 1);
+    rows::part_rows(left, right, CHILD_SIZE, INNER_STAY, INNER_GO - 1);
     insert_child(right, i - INNER_STAY, c);
     take_first_low(right)
 }

@@ -5,21 +5,21 @@ ghost use lib.ListN.{length};
 ghost use Rattle.limits.specs.Limits.{pageSize, entrySize, leafMost, leafStay};
 ghost use Rattle.lists.specs.Lists.{insertAt};
 ghost use Rattle.entries.specs.EntryMeaning.{bookEntry, bookValue};
-ghost use Rattle.pages.specs.PageHead.{countOf};
+ghost use Rattle.rows.specs.PageHead.{countOf};
 ghost use Rattle.pages.specs.PageLayout.{ifBit, bit, EntryFits, entryAt, putEntry};
-ghost use Rattle.pages.specs.PageRows.{rowsOf, Divided, asTheyAre};
+ghost use Rattle.rows.specs.PageRows.{rowsOf, Divided, asTheyAre};
 ghost use Rattle.pages.specs.PageChanges.{entryRow, entryPut, entryTaken, endOf, leafSettled};
 ghost use Rattle.pages.specs.LeafSteps.{RowSettled, PackedAs};
-ghost use Rattle.pages.specs.Places.{EntryPlace};
-use super::head;
+ghost use Rattle.pages.specs.KeyPlaces.{EntryPlace};
 use entries::Entry;
-use entries::Key;
 use entries::Value;
+use keys::Key;
 use limits::ENTRY_SIZE;
 use limits::HEAD_SIZE;
 use limits::KEY_SIZE;
 use limits::LEAF_GO;
 use limits::LEAF_STAY;
+use rows::head;
 
 // The entry at a place.
 pub fn entry_at(p: &[u8], i: usize) -> Entry
@@ -99,7 +99,7 @@ pub fn insert_entry(p: &mut [u8], i: usize, e: Entry)
     ensures { λ _. ⌜ EntryFits (bookEntry e) ⌝ }
 {
     let n = head::count_of(p);
-    numbers::rows::open_row(p, HEAD_SIZE, ENTRY_SIZE, i, n);
+    rows::open_row(p, HEAD_SIZE, ENTRY_SIZE, i, n);
     put_entry(p, i, e);
     head::put_count(p, n + 1);
 }
@@ -112,7 +112,7 @@ pub fn take_entry(p: &mut [u8], i: usize)
     ensures { λ _. ⌜ now (p .exit) ≡ entryTaken (now (p .entry)) i ⌝ }
 {
     let n = head::count_of(p);
-    numbers::rows::close_row(p, HEAD_SIZE, ENTRY_SIZE, i, n);
+    rows::close_row(p, HEAD_SIZE, ENTRY_SIZE, i, n);
     head::put_count(p, n - 1);
 }
 
@@ -127,11 +127,11 @@ pub fn split_leaf(left: &mut [u8], right: &mut [u8], i: usize, e: Entry)
     ensures { λ _. ⌜ EntryFits (bookEntry e) ⌝ }
 {
     if i < LEAF_STAY {
-        super::part_rows(left, right, ENTRY_SIZE, LEAF_STAY - 1, LEAF_GO);
+        rows::part_rows(left, right, ENTRY_SIZE, LEAF_STAY - 1, LEAF_GO);
         insert_entry(left, i, e);
         return;
     }
-    super::part_rows(left, right, ENTRY_SIZE, LEAF_STAY, LEAF_GO - 1);
+    rows::part_rows(left, right, ENTRY_SIZE, LEAF_STAY, LEAF_GO - 1);
     insert_entry(right, i - LEAF_STAY, e);
 }
 
@@ -149,7 +149,7 @@ pub fn settle_leaf(p: &mut [u8], owner: u16, commits: bool)
         j = settle_row(p, i, j, owner, commits);
         i += 1;
     }
-    super::keep_rows(p, ENTRY_SIZE, j, n);
+    rows::keep_rows(p, ENTRY_SIZE, j, n);
 }
 
 // Puts what is left of the entry at i to place j, and gives the place behind it.
@@ -162,7 +162,7 @@ fn settle_row(p: &mut [u8], i: usize, j: usize, owner: u16, commits: bool) -> us
     if owner_at(p, i) == owner {
         return settle_own(p, i, j, owner, commits);
     }
-    numbers::rows::move_row(p, HEAD_SIZE, ENTRY_SIZE, i, j);
+    rows::move_row(p, HEAD_SIZE, ENTRY_SIZE, i, j);
     j + 1
 }
 

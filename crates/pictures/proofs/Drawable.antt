@@ -25,12 +25,12 @@ use Rattle.rules.proofs.GoodKept.{good-kept}
 use Rattle.trees.specs.Trees.{documentSizes}
 use Rattle.trees.specs.Growth.{withItem, fits}
 use Rattle.index.specs.Pictures.{Item, indexOf, entriesIn}
-use Rattle.desks.specs.States.{book, stateOf}
-use Rattle.desks.specs.Fitting.{AskFits}
-use Rattle.desks.proofs.Itself.{itself-fits}
-use Rattle.desks.specs.Whole.{Whole}
+use Rattle.states.specs.States.{book, stateOf}
+use Rattle.states.specs.Fitting.{AskFits}
+use Rattle.states.proofs.Itself.{itself-fits}
+use Rattle.states.specs.Whole.{Whole}
 use Rattle.pictures.specs.Drawing.{RecordsFit, Drawable}
-use Rattle.pictures.proofs.Bytes.{whole-entries-fit}
+use Rattle.pictures.proofs.PictureBytes.{whole-entries-fit}
 use Rattle.pictures.proofs.Shown.{shape-whole, shape-flat, Shown, shown-put, shown-changed, shown-settled}
 
 -- ---- what a whole picture says

@@ -1,6 +1,6 @@
 pub mod Once
-pub mod Pages
-pub mod Bytes
+pub mod DrawnPages
+pub mod PictureBytes
 pub mod Pictures
 pub mod Shown
 pub mod Drawable

@@ -21,12 +21,12 @@ use Rattle.numbers.proofs.Agree.{Agree}
 use Rattle.numbers.proofs.Parts.{part-ext, part-all}
 use Rattle.numbers.proofs.Splices.{agree-row}
 use Rattle.trees.specs.Trees.{Child, Tree, Index, EachOnce, documentSizes, summed, isPage, above, times, counted}
-use Rattle.trees.proofs.Pages.{summed-append, summed-in, above-yes, above-next}
+use Rattle.trees.proofs.PageCounts.{summed-append, summed-in, above-yes, above-next}
 use Rattle.trees.proofs.Counts.{counted-filled}
 use Rattle.index.specs.Pictures.{Item, pageAt}
 use Rattle.index.proofs.Heads.{length-head}
-use Rattle.index.proofs.Inners.{inner-length}
-use Rattle.index.proofs.Leaves.{leaf-length}
+use Rattle.index.proofs.InnerPages.{inner-length}
+use Rattle.index.proofs.LeafPages.{leaf-length}
 use Rattle.index.proofs.Subtrees.{used-page}
 use Rattle.pictures.specs.Drawing.{Drawn, topPage, childOf, drawnTree, drawnIndex, bytesIf, drawnPage, pagesOf}
 

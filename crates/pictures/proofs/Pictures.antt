@@ -22,7 +22,7 @@ use Rattle.rules.specs.Desk.{runs}
 use Rattle.rules.specs.Good.{below, ascending, Good}
 use Rattle.rules.specs.Document.{endMark}
 use Rattle.rules.proofs.Orders.{numbers-ordered}
-use Rattle.rules.proofs.Keys.{atMost-itself}
+use Rattle.rules.proofs.KeyTests.{atMost-itself}
 use Rattle.rules.proofs.Waits.{runs-known}
 use Rattle.rules.proofs.Sound.{OwnerHolds}
 use Rattle.rules.proofs.Unblocked.{good-sound}
@@ -30,17 +30,17 @@ use Rattle.trees.specs.Trees.{Tree, Index, WholeIndex, documentSizes, flat}
 use Rattle.trees.specs.Growth.{withTree, leaves, inLeaves}
 use Rattle.trees.specs.Shapes.{shape}
 use Rattle.trees.proofs.Thinning.{map-thins, flat-leaves, leaves-whole}
-use Rattle.trees.proofs.Settling.{leaves-twice}
+use Rattle.trees.proofs.ShapeSettling.{leaves-twice}
 use Rattle.pages.specs.PageLayout.{EntryFits}
 use Rattle.index.specs.Pictures.{Item, keyOf, indexOf, entriesIn, WholePages}
-use Rattle.desks.specs.States.{book, stateOf}
-use Rattle.desks.specs.Fitting.{AskFits, Fitting}
-use Rattle.desks.proofs.Desks.{desk-says}
-use Rattle.desks.proofs.Itself.{desk-itself, desk-state}
-use Rattle.desks.proofs.Good.{RecordFits, good-fits}
-use Rattle.desks.specs.Whole.{Whole}
+use Rattle.states.specs.States.{book, stateOf}
+use Rattle.states.specs.Fitting.{AskFits, Fitting}
+use Rattle.states.proofs.DeskBytes.{desk-says}
+use Rattle.states.proofs.Itself.{desk-itself, desk-state}
+use Rattle.states.proofs.Good.{RecordFits, good-fits}
+use Rattle.states.specs.Whole.{Whole}
 use Rattle.pictures.specs.Drawing.{orAbsent, entryOf, indexWith, pagesFor, deskFor, Drawable}
-use Rattle.pictures.proofs.Pages.{drawn-pages}
+use Rattle.pictures.proofs.DrawnPages.{drawn-pages}
 
 -- ---- the shape with its entries
 leaves-itself : (K A : Type 0) (n : ℕ) (t : Tree K A n) → leaves K A A (λ xs. xs) n t ≡ t

@@ -22,12 +22,12 @@ use Rattle.rules.proofs.Index.{put-in, changed-in, settled-in}
 use Rattle.trees.specs.Trees.{Index, WholeIndex, documentSizes, flat}
 use Rattle.trees.specs.Growth.{missing, withItem, fits, inLeaves}
 use Rattle.trees.specs.Shapes.{shape, without}
-use Rattle.trees.proofs.Order.{flat-sorted}
+use Rattle.trees.proofs.ItemOrder.{flat-sorted}
 use Rattle.trees.proofs.Wholes.{document-fair, with-whole, with-flat}
 use Rattle.trees.proofs.Thinning.{map-thins, settled-thins, changed-key, flat-leaves, leaves-whole}
-use Rattle.trees.proofs.Settling.{shape-settled}
+use Rattle.trees.proofs.ShapeSettling.{shape-settled}
 use Rattle.index.specs.Pictures.{Item, keyOf}
-use Rattle.desks.specs.States.{book}
+use Rattle.states.specs.States.{book}
 use Rattle.pictures.specs.Drawing.{indexWith, RecordsFit}
 use Rattle.pictures.proofs.Pictures.{with-entries-whole, with-entries-shape, with-entries-flat}
 

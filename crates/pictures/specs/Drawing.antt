@@ -17,8 +17,8 @@ use Rattle.trees.specs.Growth.{inLeaves}
 use Rattle.entries.specs.Absent.{orZero}
 use Rattle.pages.specs.declared.Child as P
 use Rattle.index.specs.Pictures.{Item, keyOf, headPage, leafPage, innerPage}
-use Rattle.desks.specs.States.{book, deskWith}
-use Rattle.desks.specs.Fitting.{AskFits}
+use Rattle.states.specs.States.{book, deskWith}
+use Rattle.states.specs.Fitting.{AskFits}
 
 -- ---- the pages of an index
 -- a page by its number, with its bytes

@@ -15,13 +15,13 @@ use Rattle.rules.specs.Queue.{St, Q}
 use Rattle.rules.specs.Runs.{waiting, waitsAlready, circle, run}
 use Rattle.rules.specs.Desk.{Cl}
 use Rattle.rules.specs.Good.{Good}
-use Rattle.rules.proofs.Keys.{atMost-itself}
+use Rattle.rules.proofs.KeyTests.{atMost-itself}
 use Rattle.rules.proofs.Cover.{Covers}
 use Rattle.promises.specs.Story.{Deed, Range, range, toldKey, told, within, ends}
 use Rattle.promises.specs.Demand3.{nowAt, ownChange, SameAgain}
 use Rattle.promises.proofs.Deeds.{Acts, begins, commits, rollsBack, goes, givesWay, refuses, queues, good-after, Later, story-later}
 use Rattle.promises.proofs.Told.{key-range, tells-none, refusal-told, told-covered}
-use Rattle.promises.proofs.Ranges.{stays}
+use Rattle.promises.proofs.ToldRanges.{stays}
 use Rattle.promises.proofs.Gets.{Gets, is-asked, gets-it}
 use Rattle.promises.proofs.ReadAgain.{given-stands, read-gets, told-stands}
 use Rattle.promises.proofs.KeyAgain.{insert-told, delete-told}

@@ -16,7 +16,7 @@ use Rattle.rules.specs.Locks.{Slots, holds, raised, behind, added, taken, targe
 use Rattle.rules.specs.Queue.{St, Q, Wait, waits}
 use Rattle.rules.specs.Runs.{done, found, nothing, waiting, runsAlready, runsNot, waitsAlready, isPresent, locksShort, pagesShort, circle, Sy, En, Ran, unmoved, locked, given, taking, readSays, insertMissing, insertThere, insertAs, deleteThere, deleteAs, runOn, run}
 use Rattle.rules.specs.Good.{Lk, ascending, Good}
-use Rattle.rules.proofs.Keys.{same-equal, same-itself}
+use Rattle.rules.proofs.KeyTests.{same-equal, same-itself}
 use Rattle.rules.proofs.Index.{atOrAbove, missing}
 use Rattle.rules.proofs.LockTable.{lockOf, x-conflicts}
 use Rattle.rules.proofs.Sound.{owner-holds}

@@ -15,7 +15,7 @@ use Rattle.rules.specs.Queue.{St, Q, Wait, waits, oldest, newest, onCircle}
 use Rattle.rules.specs.Runs.{done, found, nothing, waiting, runsAlready, runsNot, waitsAlready, isPresent, locksShort, pagesShort, circle, Sy, En, Ran, unmoved, run, Turn, left, refused, served, turn, Worked, worked, AtRest}
 use Rattle.rules.specs.Desk.{An, refusal, afterDone, waitingLast, acts, step, isTransaction, legalRequest}
 use Rattle.rules.specs.Good.{Good}
-use Rattle.rules.proofs.Keys.{same-itself}
+use Rattle.rules.proofs.KeyTests.{same-itself}
 use Rattle.rules.proofs.Waits.{oldest-waits, newest-waits}
 use Rattle.rules.proofs.Rest.{worked-turn, worked-done}
 use Rattle.rules.proofs.Chains.{found-is-circle, circle-is-found}

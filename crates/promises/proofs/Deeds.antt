@@ -25,7 +25,7 @@ use Rattle.rules.proofs.Waits.{newest-waits}
 use Rattle.rules.proofs.Did.{waits-in}
 use Rattle.rules.proofs.GoodKept.{good-kept, fresh-good, after-good}
 use Rattle.promises.specs.Story.{Deed, Asked, nothingAsked, askedThen, turnDeed, andOn, turnDeeds, queueDeeds, idleDeed, lastDeed, actDeeds, deedsUnless, callDeeds, storyFrom, story, Seamless, ends}
-use Rattle.promises.proofs.Asked.{Known, turn-shrinks, queue-shrinks, known-worked, known-begun, known-ended, known-joined, refusal-turns, acts-stand}
+use Rattle.promises.proofs.AskedThen.{Known, turn-shrinks, queue-shrinks, known-worked, known-begun, known-ended, known-joined, refusal-turns, acts-stand}
 
 module _ (B : Book) where
   abbrev pub deedOf : St B → ℕ → Request (B .Key) (B .Rec) → Sy B → St B → Deed B

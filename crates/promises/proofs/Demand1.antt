@@ -11,13 +11,13 @@ use native.Mathlib.Omega.{arith}
 use lib.ListN.{length, getD, drop}
 use Rattle.limits.specs.Limits.{spaceLeast}
 use Rattle.rules.specs.Kinds.{Call}
-use Rattle.entries.specs.RequestRecord.{heard}
-use Rattle.entries.proofs.Written.{length-written, written-rest}
-use Rattle.desks.specs.States.{stateOf}
-use Rattle.desks.specs.Whole.{Whole}
+use Rattle.requests.specs.RequestRecord.{heard}
+use Rattle.answers.proofs.AnswersWritten.{length-written, written-rest}
+use Rattle.states.specs.States.{stateOf}
+use Rattle.states.specs.Whole.{Whole}
 use Rattle.calls.specs.Promise.{Lent, wrongSizes, returned, stepOf, Answered, Served}
 use Rattle.calls.proofs.Determined.{served-ten, served-eleven, served-twelve}
-use Rattle.calls.proofs.Runs.{few-bytes}
+use Rattle.calls.proofs.CallRuns.{few-bytes}
 use Rattle.promises.specs.Demand1.{Demand1, ShutsOut}
 
 module _ (q : List ℕ) (x y : Lent) (r : ℕ) where

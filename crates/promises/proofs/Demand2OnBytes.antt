@@ -18,12 +18,12 @@ use Rattle.trees.specs.Trees.{documentSizes}
 use Rattle.trees.specs.Growth.{fits}
 use Rattle.trees.proofs.Shaped.{fits-shape}
 use Rattle.index.specs.Pictures.{keyOf, indexOf}
-use Rattle.entries.specs.RequestRecord.{heard}
-use Rattle.entries.specs.AnswerRecord.{written}
-use Rattle.entries.proofs.Number12.{heard-legal}
-use Rattle.desks.specs.States.{book, stateOf}
-use Rattle.desks.specs.Whole.{Whole}
-use Rattle.desks.proofs.Tell.{whole-inj}
+use Rattle.requests.specs.RequestRecord.{heard}
+use Rattle.answers.specs.AnswerRecord.{written}
+use Rattle.requests.proofs.Number12.{heard-legal}
+use Rattle.states.specs.States.{book, stateOf}
+use Rattle.states.specs.Whole.{Whole}
+use Rattle.states.proofs.Tell.{whole-inj}
 use Rattle.calls.specs.Promise.{Lent, lent, returned, stepOf}
 use Rattle.calls.proofs.Determined.{served-good}
 use Rattle.promises.specs.Demand2.{Demand2}

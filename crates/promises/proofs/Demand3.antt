@@ -12,7 +12,7 @@ use Rattle.rules.specs.Desk.{Cl, fresh, after}
 use Rattle.rules.specs.Good.{Lk, together}
 use Rattle.rules.specs.Chains.{ChainsEnd}
 use Rattle.rules.specs.Document.{document}
-use Rattle.rules.proofs.Keys.{name-equal}
+use Rattle.rules.proofs.KeyTests.{name-equal}
 use Rattle.rules.proofs.Orders.{numbers-ordered}
 use Rattle.rules.proofs.LockTable.{together-apart, apart-turn}
 use Rattle.rules.proofs.GoodKept.{after-good}
@@ -21,7 +21,7 @@ use Rattle.rules.proofs.Chains.{chains-end}
 use Rattle.promises.specs.Demand3.{NoConflict, Demand3}
 use Rattle.promises.proofs.Faithful.{faithful}
 use Rattle.promises.proofs.Deeds.{seamless}
-use Rattle.promises.proofs.Ranges.{nothing-changed}
+use Rattle.promises.proofs.ToldRanges.{nothing-changed}
 use Rattle.promises.proofs.Again.{same-again}
 
 module _ (B : Book) (L : Ordered (B .Key) (B .compare)) (cs : List (Cl B)) where

@@ -17,7 +17,7 @@ use Rattle.rules.specs.Queue.{St, Q, Wait, waits}
 use Rattle.rules.specs.Runs.{done, nothing, isPresent, pagesShort, Sy, En, unmoved, locked, given, insertMissing, insertThere, insertAs, deleteThere, deleteAs, runOn, run}
 use Rattle.rules.specs.Desk.{runs}
 use Rattle.rules.specs.Good.{Lk, together, ascending, Good}
-use Rattle.rules.proofs.Keys.{same-equal, name-equal}
+use Rattle.rules.proofs.KeyTests.{same-equal, name-equal}
 use Rattle.rules.proofs.Index.{atOrAbove}
 use Rattle.rules.proofs.LockTable.{Held, holds-held, held-holds, alone}
 use Rattle.rules.proofs.Sound.{owner-holds}

@@ -1,8 +1,8 @@
 pub mod Faithful
-pub mod Asked
+pub mod AskedThen
 pub mod Deeds
 pub mod Told
-pub mod Ranges
+pub mod ToldRanges
 pub mod Gets
 pub mod ReadAgain
 pub mod KeyAgain
@@ -18,4 +18,4 @@ pub mod Namesake
 pub mod Demand1
 pub mod OnBytes
 pub mod Demand2OnBytes
-pub mod Pins
+pub mod StoryPins

@@ -3,7 +3,7 @@
 use mathlib.Core.Path.{refl}
 use Rattle.lists.specs.Lists.{all}
 use Rattle.rules.specs.Cases as C
-use Rattle.cases.proofs.Computing.{the-book, the-pages, the-records, the-answers}
+use Rattle.cases.proofs.CaseComputing.{the-book, the-pages, the-records, the-answers}
 use Rattle.cases.proofs.Overs.{Plays, plays-on-bytes}
 use Rattle.promises.specs.Namesake as N
 

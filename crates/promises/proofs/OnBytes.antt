@@ -22,13 +22,13 @@ use Rattle.rules.specs.Chains.{ChainsEnd}
 use Rattle.rules.proofs.Orders.{numbers-ordered}
 use Rattle.rules.proofs.Rest.{after-rests}
 use Rattle.rules.proofs.GoodKept.{step-good, fresh-good}
-use Rattle.entries.specs.RequestRecord.{heard}
-use Rattle.entries.proofs.Number12.{heard-legal}
-use Rattle.desks.specs.States.{book, stateOf}
+use Rattle.requests.specs.RequestRecord.{heard}
+use Rattle.requests.proofs.Number12.{heard-legal}
+use Rattle.states.specs.States.{book, stateOf}
 use Rattle.calls.specs.Promise.{shortSpace}
 use Rattle.calls.specs.Calls.{Sent, Back, Runs, FromFresh, callIn, with, callsIn, refuses, backIf, backOf, onward, backsFrom, wrote, bytesOf}
-use Rattle.calls.proofs.Bytes.{refusal-wrote, answers-wrote}
-use Rattle.calls.proofs.Runs.{legal-called, run-back, run-from-fresh, few-bytes, never-eleven}
+use Rattle.calls.proofs.AnswerBytes.{refusal-wrote, answers-wrote}
+use Rattle.calls.proofs.CallRuns.{legal-called, run-back, run-from-fresh, few-bytes, never-eleven}
 use Rattle.promises.specs.Story.{Deed, given, answerOf, story, Seamless}
 use Rattle.promises.specs.Demand3.{nowAt}
 use Rattle.promises.specs.OnBytes.{Demand3OnBytes, ThenAndNowOnBytes, BetweenOnBytes}

@@ -21,7 +21,7 @@ use Rattle.rules.specs.Queue.{St}
 use Rattle.rules.specs.Runs.{done, found, nothing, waiting, runsAlready, runsNot, waitsAlready, isPresent, locksShort, pagesShort, circle, Sy, En, readSays, run}
 use Rattle.rules.specs.Desk.{runs, begun, joined}
 use Rattle.rules.specs.Good.{below, ascending, Good}
-use Rattle.rules.proofs.Keys.{atMost-itself, atMost-other, atMost-along}
+use Rattle.rules.proofs.KeyTests.{atMost-itself, atMost-other, atMost-along}
 use Rattle.rules.proofs.Sound.{committed-settles, rolledBack-settles}
 use Rattle.rules.proofs.Did.{run-did}
 use Rattle.rules.proofs.GoodKept.{good-kept}

@@ -15,7 +15,7 @@ use Rattle.promises.specs.Story.{Deed, story, told, ends}
 use Rattle.promises.specs.Demand3.{KnowsOf, leavesAlone, ThenAndNow}
 use Rattle.promises.proofs.Deeds.{tells-at, good-after, good-at, story-tells, moreDeeds, story-more, more-tells}
 use Rattle.promises.proofs.Told.{told-covered}
-use Rattle.promises.proofs.Ranges.{still-covers, stays}
+use Rattle.promises.proofs.ToldRanges.{still-covers, stays}
 
 module _ (B : Book) (L : Ordered (B .Key) (B .compare)) where
   -- who knows of x covers it

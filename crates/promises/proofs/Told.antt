@@ -15,7 +15,7 @@ use Rattle.rules.specs.Queue.{St, Q, Wait, waits}
 use Rattle.rules.specs.Runs.{done, found, nothing, waiting, runsAlready, runsNot, waitsAlready, isPresent, locksShort, pagesShort, circle, Sy, En, Ran, readSays, run, left}
 use Rattle.rules.specs.Desk.{runs, waitsNow, ifSo, unlessRuns, refusal}
 use Rattle.rules.specs.Good.{Good}
-use Rattle.rules.proofs.Keys.{atMost-equal, atMost-along, atMost-other}
+use Rattle.rules.proofs.KeyTests.{atMost-equal, atMost-along, atMost-other}
 use Rattle.rules.proofs.LockTable.{held-holds, held-took}
 use Rattle.rules.proofs.Did.{Did, refused, looked, putIn, broughtBack, tookAway, run-did}
 use Rattle.rules.proofs.Cover.{cover, Covers}

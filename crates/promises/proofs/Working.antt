@@ -19,7 +19,7 @@ use Rattle.rules.proofs.Waits.{oldest-none, oldest-waits, newest-waits}
 use Rattle.rules.proofs.Rest.{worked-by-turns}
 use Rattle.rules.proofs.Chains.{found-is-circle, circle-is-found, rest-choices, chains-end}
 use Rattle.rules.proofs.GoodKept.{good-kept}
-use Rattle.circles.proofs.Known.{waits-known}
+use Rattle.circles.proofs.WaitsKnown.{waits-known}
 use Rattle.promises.specs.Demand2.{MayRun, MustGiveWay, Rests, Works, rests, ran, gaveWay}
 use Rattle.promises.proofs.Causes.{runs-rightly}
 

@@ -8,8 +8,8 @@ use mathlib.Core.List.{List}
 use mathlib.Core.Option.{none}
 use lib.ListN.{length, getD, drop}
 use Rattle.limits.specs.Limits.{spaceLeast}
-use Rattle.entries.specs.RequestRecord.{heard}
-use Rattle.desks.specs.Whole.{Whole}
+use Rattle.requests.specs.RequestRecord.{heard}
+use Rattle.states.specs.Whole.{Whole}
 use Rattle.calls.specs.Promise.{Lent, wrongSizes, returned}
 
 -- a call with request q, lent x, that left y and returned r

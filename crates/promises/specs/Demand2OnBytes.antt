@@ -12,10 +12,10 @@ use Rattle.rules.specs.Runs.{Answer}
 use Rattle.trees.specs.Trees.{documentSizes}
 use Rattle.trees.specs.Growth.{needed}
 use Rattle.index.specs.Pictures.{keyOf, indexOf}
-use Rattle.entries.specs.RequestRecord.{heard}
-use Rattle.entries.specs.AnswerRecord.{written}
-use Rattle.desks.specs.States.{book, stateOf}
-use Rattle.desks.specs.Whole.{Whole}
+use Rattle.requests.specs.RequestRecord.{heard}
+use Rattle.answers.specs.AnswerRecord.{written}
+use Rattle.states.specs.States.{book, stateOf}
+use Rattle.states.specs.Whole.{Whole}
 use Rattle.calls.specs.Promise.{Lent, wrongSizes, returned, Served}
 use Rattle.promises.specs.Demand2.{Demand2}
 

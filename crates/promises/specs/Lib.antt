@@ -5,4 +5,4 @@ pub mod Namesake
 pub mod Demand1
 pub mod OnBytes
 pub mod Demand2OnBytes
-pub mod Pins
+pub mod StoryPins

@@ -10,10 +10,10 @@ use Rattle.rules.specs.Locks.{inUse, sameName, conflict}
 use Rattle.rules.specs.Runs.{AtRest}
 use Rattle.rules.specs.Desk.{fresh, after}
 use Rattle.rules.specs.Chains.{ChainsEnd}
-use Rattle.tables.specs.SlotLayout.{slotsOf}
+use Rattle.locks.specs.SlotLayout.{slotsOf}
 use Rattle.index.specs.Pictures.{entriesIn}
-use Rattle.desks.specs.States.{book, stateOf}
-use Rattle.desks.specs.Whole.{Whole}
+use Rattle.states.specs.States.{book, stateOf}
+use Rattle.states.specs.Whole.{Whole}
 use Rattle.calls.specs.Promise.{returned}
 use Rattle.calls.specs.Calls.{Sent, Back, Runs, FromFresh, callsIn, backsFrom, wrote, bytesOf}
 use Rattle.promises.specs.Story.{Deed, story, answerOf, Seamless}

@@ -19,7 +19,7 @@ use Rattle.rules.specs.Queue.{St, Wait, waits}
 use Rattle.rules.specs.Runs.{En, Ran, run}
 use Rattle.rules.specs.Desk.{runs, begun, ended, joined}
 use Rattle.rules.specs.Good.{Lk, Good}
-use Rattle.rules.proofs.Keys.{same-equal}
+use Rattle.rules.proofs.KeyTests.{same-equal}
 use Rattle.rules.proofs.Index.{atOrAbove, first-put, first-changed, named-changed, first-settled}
 use Rattle.rules.proofs.LockTable.{Held, conflicts-x, holds-held, held-holds, held-weaker, held-kept, held-took, held-released, alone}
 use Rattle.rules.proofs.Sound.{Settles, committed-settles, rolledBack-settles, owner-holds}

@@ -17,7 +17,7 @@ use Rattle.rules.specs.Locks.{Slots, inUse, conflict, sameName, taken, t
 use Rattle.rules.specs.Queue.{St, Q, Wait, waitsFrom, waits}
 use Rattle.rules.specs.Runs.{done, isPresent, nothing, locksShort, pagesShort, Sy, En, Ran, unmoved, locked, given, taking, insertMissing, insertThere, insertAs, deleteThere, deleteAs, runOn, run}
 use Rattle.rules.specs.Good.{Lk, isName}
-use Rattle.rules.proofs.Keys.{same-itself, name-itself}
+use Rattle.rules.proofs.KeyTests.{same-itself, name-itself}
 use Rattle.rules.proofs.Index.{atOrAbove, in-name}
 use Rattle.rules.proofs.LockTable.{Clear, Took, taken-took}
 

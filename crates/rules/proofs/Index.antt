@@ -17,7 +17,7 @@ use Rattle.rules.specs.Entries.{Entries, atMost, same, present, left, se
 use Rattle.rules.specs.Locks.{named, itself}
 use Rattle.rules.specs.Runs.{En}
 use Rattle.rules.specs.Good.{below, ascending, isName}
-use Rattle.rules.proofs.Keys.{same-equal, same-itself, atMost-itself, atMost-equal, atMost-along}
+use Rattle.rules.proofs.KeyTests.{same-equal, same-itself, atMost-itself, atMost-equal, atMost-along}
 
 -- the end of t, entry by entry: whether it stays, and what it is then
 module _ {K R : Type 0} (f : Entry K R → Entry K R) (t : ℕ) where

@@ -1,12 +1,12 @@
 pub mod Computing
 pub mod Table
-pub mod Pins
+pub mod ScenePins
 pub mod Waits
 pub mod Rest
-pub mod Answers
+pub mod AnswersOnce
 pub mod Chains
 pub mod Keeps
-pub mod Keys
+pub mod KeyTests
 pub mod Index
 pub mod LockTable
 pub mod Did

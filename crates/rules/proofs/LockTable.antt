@@ -16,7 +16,7 @@ use Rattle.lists.proofs.Pairs.{pairs-in, pairs-weaker, pairs-keep, pairs-insert
 use Rattle.rules.specs.Kinds.{Book, Ordered, Mode, S, X, Name}
 use Rattle.rules.specs.Locks.{Slots, conflict, stronger, inUse, sameName, isOf, holds, raised, behind, added, taken, freed, released}
 use Rattle.rules.specs.Good.{Lk, isX, together, holdsX}
-use Rattle.rules.proofs.Keys.{name-equal, name-itself}
+use Rattle.rules.proofs.KeyTests.{name-equal, name-itself}
 
 -- modes
 pub conflict-turn : (a b : Mode) → conflict a b ≡ conflict b a

@@ -13,7 +13,7 @@ use Rattle.rules.specs.Entries.{Entries, same, inserted, committed, roll
 use Rattle.rules.specs.Locks.{Slots, inUse, released}
 use Rattle.rules.specs.Runs.{En}
 use Rattle.rules.specs.Good.{Lk, ascending, isName, together, Settled}
-use Rattle.rules.proofs.Keys.{same-equal, same-itself}
+use Rattle.rules.proofs.KeyTests.{same-equal, same-itself}
 use Rattle.rules.proofs.Index.{settled-in, settled-other, put-in, in-put, changed-in, in-name, name-in, name-put, name-changed, ascending-changed, ascending-settled, ascending-put}
 use Rattle.rules.proofs.LockTable.{Held, Clear, alone, Took, took-length, took-in, held-kept, held-took, took-together, released-length, released-in, held-released, released-together}
 

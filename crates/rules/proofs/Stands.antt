@@ -18,7 +18,7 @@ use Rattle.rules.specs.Queue.{St, Q, Wait, waits}
 use Rattle.rules.specs.Runs.{done, nothing, locksShort, Sy, En, Ran, given, locked, readSays, runOn, run, left}
 use Rattle.rules.specs.Desk.{runs, ended}
 use Rattle.rules.specs.Good.{Lk, ascending, Good}
-use Rattle.rules.proofs.Keys.{same-equal, atMost-itself, atMost-along, name-equal}
+use Rattle.rules.proofs.KeyTests.{same-equal, atMost-itself, atMost-along, name-equal}
 use Rattle.rules.proofs.Index.{kept-key, named-map}
 use Rattle.rules.proofs.LockTable.{Took, taken-took, Held, holds-held, held-holds, held-kept, held-took, held-released, alone}
 use Rattle.rules.proofs.Sound.{Settles}

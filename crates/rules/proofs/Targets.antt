@@ -20,7 +20,7 @@ use Rattle.rules.specs.Queue.{St}
 use Rattle.rules.specs.Runs.{En}
 use Rattle.rules.specs.Desk.{runs}
 use Rattle.rules.specs.Good.{below, ascending, Good}
-use Rattle.rules.proofs.Keys.{same-equal, atMost-itself, atMost-other, atMost-along}
+use Rattle.rules.proofs.KeyTests.{same-equal, atMost-itself, atMost-other, atMost-along}
 use Rattle.rules.proofs.Index.{atOrAbove, missing}
 use Rattle.rules.proofs.LockTable.{held-holds}
 use Rattle.rules.proofs.Sound.{owner-holds}

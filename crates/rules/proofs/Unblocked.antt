@@ -19,7 +19,7 @@ use Rattle.rules.specs.Desk.{runs, legalAsk}
 use Rattle.rules.specs.Good.{lockStands, ownerHolds, queueStands, otherAsker, Good}
 use Rattle.rules.proofs.LockTable.{Took, Held, Clear, x-conflicts, holdsX-held, held-kept, held-took}
 use Rattle.rules.proofs.Index.{missing, in-name}
-use Rattle.rules.proofs.Keys.{same-itself}
+use Rattle.rules.proofs.KeyTests.{same-itself}
 use Rattle.rules.proofs.Sound.{Sound, owner-holds, sound-taken, sound-changed, sound-put}
 use Rattle.rules.proofs.Did.{Did, refused, looked, putIn, broughtBack, tookAway, target-in, wanted-name, waits-in, unblocked}
 

@@ -8,4 +8,4 @@ pub mod Good
 pub mod Chains
 pub mod Document
 pub mod Cases
-pub mod Pins
+pub mod ScenePins

@@ -14,7 +14,7 @@ use Rattle.lists.proofs.Places.{all-insertBefore}
 use Rattle.rules.specs.Kinds.{Ordered}
 use Rattle.trees.specs.Trees.{atMost, under, inside}
 use Rattle.trees.specs.Growth.{missing}
-use Rattle.trees.proofs.Keys.{at-most-itself, at-most-along, at-most-other, under-at-most, under-along, under-then, then-under, inside-under}
+use Rattle.trees.proofs.KeyOrder.{at-most-itself, at-most-along, at-most-other, under-at-most, under-along, under-then, then-under, inside-under}
 
 module _ {K A : Type 0} (compare : K → K → Ordering) (key : A → K) where
   abbrev pub ascends : A → A → Bool

@@ -17,9 +17,9 @@ use Rattle.rules.specs.Kinds.{Book, Entry}
 use Rattle.rules.specs.Entries.{present, left, settled, changed}
 use Rattle.trees.specs.Trees.{Sizes, Child, Tree, Index, WholeIndex, summed, isPage, above, flat, times, counted, atMost, under, inside, firstLow, ranged}
 use Rattle.trees.specs.Growth.{withTree, leaves, inLeaves}
-use Rattle.trees.proofs.Pages.{summed-map}
+use Rattle.trees.proofs.PageCounts.{summed-map}
 use Rattle.trees.proofs.Sorted.{Sorted, sorted-test, test-sorted}
-use Rattle.trees.proofs.Ranges.{ranges-map, ranges-weaker, ranged-in, in-ranged}
+use Rattle.trees.proofs.ChildRanges.{ranges-map, ranges-weaker, ranged-in, in-ranged}
 use Rattle.trees.proofs.Counts.{counted-filled, filled-counted}
 
 module _ {K A B : Type 0} (keyA : A → K) (keyB : B → K) where

@@ -13,12 +13,12 @@ use Rattle.rules.specs.Kinds.{Ordered}
 use Rattle.trees.specs.Trees.{Sizes, documentSizes, Fair, Child, Tree, Index, WholeIndex, flat, times, counted, atMost, inside, ranges, ranged}
 use Rattle.trees.specs.Growth.{Grown, beside, missing, grown, rooted, withItem, needed, fits}
 use Rattle.trees.specs.Shapes.{bare}
-use Rattle.trees.proofs.Keys.{same-itself}
-use Rattle.trees.proofs.Ranges.{in-ranged}
-use Rattle.trees.proofs.Pages.{above-next, with-once}
+use Rattle.trees.proofs.KeyOrder.{same-itself}
+use Rattle.trees.proofs.ChildRanges.{in-ranged}
+use Rattle.trees.proofs.PageCounts.{above-next, with-once}
 use Rattle.trees.proofs.Counts.{with-counted}
 use Rattle.trees.proofs.Need.{with-needed}
-use Rattle.trees.proofs.Order.{grown-flat, grown-ranged}
+use Rattle.trees.proofs.ItemOrder.{grown-flat, grown-ranged}
 
 pub document-fair : Fair documentSizes
 document-fair =

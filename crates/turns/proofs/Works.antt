@@ -9,14 +9,14 @@ use lib.ListN.{length}
 use Rattle.limits.specs.Limits.{answerSize}
 use Rattle.rules.specs.Runs.{Worked, turn}
 use Rattle.rules.proofs.Rest.{turn-takes-one, worked-turn, worked-done}
-use Rattle.entries.specs.declared.Answer.{Answer}
-use Rattle.entries.specs.AnswerMeaning.{bookAnswer}
-use Rattle.entries.specs.AnswerRecord.{putAnswer, written}
-use Rattle.entries.proofs.Answers.{length-putAnswer}
-use Rattle.tables.specs.QueueLayout.{queued}
-use Rattle.tables.proofs.Queues.{length-queue}
-use Rattle.desks.specs.States.{book, stateOf}
-use Rattle.desks.specs.Whole.{Whole}
+use Rattle.answers.specs.declared.Answer.{Answer}
+use Rattle.answers.specs.AnswerMeaning.{bookAnswer}
+use Rattle.answers.specs.AnswerRecord.{putAnswer, written}
+use Rattle.answers.proofs.AnswerPut.{length-putAnswer}
+use Rattle.queue.specs.QueueLayout.{queued}
+use Rattle.queue.proofs.QueueBytes.{length-queue}
+use Rattle.states.specs.States.{book, stateOf}
+use Rattle.states.specs.Whole.{Whole}
 use Rattle.turns.specs.declared.Turned.{Turned}
 use Rattle.turns.specs.declared.Turned.the-variants.{Said, Rest}
 use Rattle.turns.specs.Working.{Wrote, workedOf, bookTurn, StillAt, Turns}

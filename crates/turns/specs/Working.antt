@@ -7,12 +7,12 @@ use lib.ListN.{length}
 use Rattle.limits.specs.Limits.{answerSize}
 use Rattle.rules.specs.Queue.{St}
 use Rattle.rules.specs.Runs.{circle, unmoved, left, Turn, turn, Worked, worked}
-use Rattle.entries.specs.declared.Answer.{Answer}
-use Rattle.entries.specs.AnswerMeaning.{bookAnswer}
-use Rattle.entries.specs.AnswerRecord.{written}
-use Rattle.tables.specs.QueueLayout.{queuedAt}
-use Rattle.desks.specs.States.{book, stateOf}
-use Rattle.desks.specs.Whole.{Whole, Says}
+use Rattle.answers.specs.declared.Answer.{Answer}
+use Rattle.answers.specs.AnswerMeaning.{bookAnswer}
+use Rattle.answers.specs.AnswerRecord.{written}
+use Rattle.queue.specs.QueueLayout.{queuedAt}
+use Rattle.states.specs.States.{book, stateOf}
+use Rattle.states.specs.Whole.{Whole, Says}
 use Rattle.turns.specs.declared.Turned.{Turned}
 use Rattle.turns.specs.declared.Turned.the-variants as TV
 

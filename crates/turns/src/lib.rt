@@ -5,15 +5,14 @@ ghost use mathlib.Core.Option.{none};
 ghost use lib.ListN.{length};
 ghost use Rattle.limits.specs.Limits.{transactionsMost, answerSize};
 ghost use Rattle.rules.specs.Queue.{oldest};
-ghost use Rattle.tables.specs.QueueLayout.{queued};
-ghost use Rattle.desks.specs.States.{book, stateOf};
-ghost use Rattle.desks.specs.Whole.{Whole};
+ghost use Rattle.queue.specs.QueueLayout.{queued};
+ghost use Rattle.states.specs.States.{book, stateOf};
+ghost use Rattle.states.specs.Whole.{Whole};
 ghost use Rattle.waits.specs.Notes.{Noted};
 ghost use Rattle.turns.specs.Working.{GaveWay, Turns, Wrote, workedOf};
-use entries::Answer;
-use entries::Says;
+use answers::Answer;
+use answers::Says;
 use limits::TRANSACTIONS;
-use tables::queue;
 use waits::Place;
 use waits::Turn;
 
@@ -62,7 +61,7 @@ fn turn_noting(pages: &mut [u8], desk: &mut [u8], names: &mut [u64], modes: &mut
     let Turn::Runs(next) = oldest else {
         return circle_turn(pages, desk, names, modes);
     };
-    Turned::Said(acts::run_at(pages, desk, next))
+    Turned::Said(runs::run_at(pages, desk, next))
 }
 
 // One turn.
@@ -87,7 +86,7 @@ pub fn work(pages: &mut [u8], desk: &mut [u8], answers: &mut [u8], at: usize) ->
         let Turned::Said(answer) = turned else {
             return end;
         };
-        entries::put_answer(answers, end, answer);
+        answers::put_answer(answers, end, answer);
         end += limits::ANSWER_SIZE;
     }
 }

@@ -14,14 +14,14 @@ use Rattle.rules.specs.Kinds.{Name, Paging}
 use Rattle.rules.specs.Locks as K
 use Rattle.trees.specs.Trees.{documentSizes}
 use Rattle.trees.specs.Shapes.{treePaging}
-use Rattle.tables.specs.QueueLayout.{queuedAt}
-use Rattle.tables.specs.SlotLayout.{slotsOf, bookMode}
-use Rattle.tables.specs.SlotMoves.{isSlotAgainst, heldIn}
-use Rattle.tables.proofs.LockValues.{same-name}
-use Rattle.tables.proofs.Holders.{holders-none}
-use Rattle.tables.proofs.Takes.{holds-is}
+use Rattle.queue.specs.QueueLayout.{queuedAt}
+use Rattle.locks.specs.SlotLayout.{slotsOf, bookMode}
+use Rattle.locks.specs.SlotMoves.{isSlotAgainst, heldIn}
+use Rattle.locks.proofs.LockValues.{same-name}
+use Rattle.locks.proofs.Holders.{holders-none}
+use Rattle.locks.proofs.Takes.{holds-is}
 use Rattle.index.specs.Pictures.{entriesIn}
-use Rattle.desks.specs.States.{book}
+use Rattle.states.specs.States.{book}
 use Rattle.waits.specs.declared.Want.{Want}
 use Rattle.waits.specs.declared.Seen.{Seen}
 use Rattle.waits.specs.Choices.{bookWant}

@@ -1,8 +1,8 @@
 pub mod Wants
-pub mod Known
+pub mod QueueKnown
 pub mod Noting
 pub mod Scanning
 pub mod Blocks
 pub mod Queue
-pub mod Sets
-pub mod Rows
+pub mod BlockerSets
+pub mod WaitRows

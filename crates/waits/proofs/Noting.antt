@@ -10,10 +10,10 @@ use lib.Dec.{eqb}
 use lib.ListN.{length, getD, set, length-set}
 use lib.Seq.{getD-set-same, getD-set-other}
 use Rattle.limits.specs.Limits.{transactionsMost}
-use Rattle.tables.specs.declared.Mode.{Mode}
-use Rattle.tables.specs.QueueLayout.{queued, inPlace}
-use Rattle.tables.specs.SlotLayout.{nameIn, modeIn, modeNumber, bookMode}
-use Rattle.tables.proofs.SlotBack.{mode-there}
+use Rattle.locks.specs.declared.Mode.{Mode}
+use Rattle.queue.specs.QueueLayout.{queued, inPlace}
+use Rattle.locks.specs.SlotLayout.{nameIn, modeIn, modeNumber, bookMode}
+use Rattle.locks.proofs.SlotBack.{mode-there}
 use Rattle.waits.specs.declared.Want.{Want}
 use Rattle.waits.specs.declared.Looked.{Looked}
 use Rattle.waits.specs.declared.Next.{Next}

@@ -13,11 +13,11 @@ use Rattle.lists.proofs.Tables.{tab-next, tab-done, tab-last}
 use Rattle.rules.specs.Kinds.{Entry}
 use Rattle.rules.specs.Locks as K
 use Rattle.rules.specs.Queue.{Wait, waitsFrom, waits, oldest}
-use Rattle.tables.specs.QueueLayout.{queued, queuedAt, queueOf}
-use Rattle.tables.specs.SlotLayout.{slotsOf}
-use Rattle.tables.specs.SlotMoves.{isSlotAgainst, heldIn}
+use Rattle.queue.specs.QueueLayout.{queued, queuedAt, queueOf}
+use Rattle.locks.specs.SlotLayout.{slotsOf}
+use Rattle.locks.specs.SlotMoves.{isSlotAgainst, heldIn}
 use Rattle.index.specs.Pictures.{entriesIn}
-use Rattle.desks.specs.States.{book, stateOf}
+use Rattle.states.specs.States.{book, stateOf}
 use Rattle.waits.specs.declared.Want.{Want}
 use Rattle.waits.specs.declared.Looked.{Looked}
 use Rattle.waits.specs.declared.Seen.{Seen}

@@ -16,10 +16,10 @@ use Rattle.lists.proofs.Elements.{in-any, in-tab}
 use Rattle.rules.specs.Kinds.{Name, Lock}
 use Rattle.rules.specs.Entries.{isThere}
 use Rattle.rules.specs.Locks as K
-use Rattle.tables.specs.declared.Slot.{Slot}
-use Rattle.tables.specs.SlotLayout.{slotAt, slotsOf, bookSlot}
-use Rattle.tables.specs.SlotMoves.{isSlotOf, isSlotAgainst, heldIn, freeIn}
-use Rattle.desks.specs.States.{book}
+use Rattle.locks.specs.declared.Slot.{Slot}
+use Rattle.locks.specs.SlotLayout.{slotAt, slotsOf, bookSlot}
+use Rattle.locks.specs.SlotMoves.{isSlotOf, isSlotAgainst, heldIn, freeIn}
+use Rattle.states.specs.States.{book}
 use Rattle.waits.specs.declared.Seen.{Seen}
 use Rattle.waits.specs.declared.Sight.{Sight}
 use Rattle.waits.specs.declared.Sight.the-variants.{Against, Clear}

@@ -17,21 +17,21 @@ use Rattle.rules.specs.Locks.{target, named, itself, modeIf, mode, wanted}
 use Rattle.rules.specs.Good.{ascending, below}
 use Rattle.rules.specs.Document.{endMark}
 use Rattle.rules.proofs.Did.{target-in}
-use Rattle.entries.specs.declared.Key.{Key}
+use Rattle.keys.specs.declared.Key.{Key}
 use Rattle.entries.specs.declared.Entry as E
-use Rattle.entries.specs.declared.Ask as A
-use Rattle.entries.specs.declared.Ask.the-variants as AV
-use Rattle.entries.specs.RequestMeaning.{bookAsk}
-use Rattle.tables.specs.declared.Mode as M
-use Rattle.tables.specs.SlotLayout.{nameIn, nameNumber, bookMode}
-use Rattle.tables.specs.QueueLayout.{askAt, inPlace, queuedAt}
+use Rattle.requests.specs.declared.Ask as A
+use Rattle.requests.specs.declared.Ask.the-variants as AV
+use Rattle.requests.specs.RequestMeaning.{bookAsk}
+use Rattle.locks.specs.declared.Mode as M
+use Rattle.locks.specs.SlotLayout.{nameIn, nameNumber, bookMode}
+use Rattle.queue.specs.QueueLayout.{askAt, inPlace, queuedAt}
 use Rattle.index.specs.declared.Found.{Found}
 use Rattle.index.specs.declared.Found.the-variants.{Here}
 use Rattle.index.specs.Pictures.{entriesIn}
 use Rattle.index.specs.Searches.{seeks, bookFound}
-use Rattle.desks.specs.States.{book}
-use Rattle.desks.specs.Fitting.{NameFits}
-use Rattle.desks.proofs.Values.{name-read}
+use Rattle.states.specs.States.{book}
+use Rattle.states.specs.Fitting.{NameFits}
+use Rattle.states.proofs.ValuesFit.{name-read}
 use Rattle.waits.specs.declared.Want.{Want}
 use Rattle.waits.specs.Choices.{bookWant}
 use Rattle.waits.specs.Blocks.{targetAt, WantAt}

@@ -11,12 +11,12 @@ use Rattle.lists.specs.Lists.{any, tab}
 use Rattle.rules.specs.Kinds.{Entry, Queued, Lock}
 use Rattle.rules.specs.Locks as K
 use Rattle.rules.specs.Queue.{waits}
-use Rattle.tables.specs.QueueLayout.{inPlace, queuedAt}
-use Rattle.tables.specs.SlotLayout.{slotAt, slotsOf}
-use Rattle.tables.specs.SlotMoves.{isSlotAgainst}
+use Rattle.queue.specs.QueueLayout.{inPlace, queuedAt}
+use Rattle.locks.specs.SlotLayout.{slotAt, slotsOf}
+use Rattle.locks.specs.SlotMoves.{isSlotAgainst}
 use Rattle.index.specs.Pictures.{entriesIn}
-use Rattle.desks.specs.States.{book, stateOf}
-use Rattle.circles.specs.Sets.{RowOf}
+use Rattle.states.specs.States.{book, stateOf}
+use Rattle.circles.specs.CircleSets.{RowOf}
 use Rattle.circles.specs.Search.{withOne}
 use Rattle.waits.specs.declared.Want.{Want}
 use Rattle.waits.specs.Choices.{bookWant}

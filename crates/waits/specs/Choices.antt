@@ -6,12 +6,12 @@ use mathlib.Core.Option.{Option, none, some}
 use Rattle.rules.specs.Kinds.{Queued}
 use Rattle.rules.specs.Locks as K
 use Rattle.rules.specs.Queue.{Wait, oldest, newest}
-use Rattle.tables.specs.QueueLayout.{queued, queuedAt}
-use Rattle.tables.specs.SlotLayout.{nameIn, bookMode}
-use Rattle.tables.specs.SlotMoves.{heldIn, freeIn}
+use Rattle.queue.specs.QueueLayout.{queued, queuedAt}
+use Rattle.locks.specs.SlotLayout.{nameIn, bookMode}
+use Rattle.locks.specs.SlotMoves.{heldIn, freeIn}
 use Rattle.index.specs.Pictures.{entriesIn}
 use Rattle.index.specs.Searches.{bookFound}
-use Rattle.desks.specs.States.{book, stateOf}
+use Rattle.states.specs.States.{book, stateOf}
 use Rattle.waits.specs.declared.Want.{Want}
 use Rattle.waits.specs.declared.Place.{Place}
 use Rattle.waits.specs.declared.Place.the-variants.{At, Nowhere}

@@ -8,10 +8,10 @@ use lib.ListN.{length, getD}
 use Rattle.limits.specs.Limits.{transactionsMost}
 use Rattle.lists.specs.Lists.{isNil}
 use Rattle.rules.specs.Locks as K
-use Rattle.tables.specs.QueueLayout.{queued}
-use Rattle.tables.specs.SlotLayout.{nameIn, modeIn}
+use Rattle.queue.specs.QueueLayout.{queued}
+use Rattle.locks.specs.SlotLayout.{nameIn, modeIn}
 use Rattle.index.specs.Searches.{bookFound}
-use Rattle.desks.specs.States.{book}
+use Rattle.states.specs.States.{book}
 use Rattle.waits.specs.declared.Looked.{Looked}
 use Rattle.waits.specs.declared.Next.{Next}
 use Rattle.waits.specs.declared.Turn.{Turn}

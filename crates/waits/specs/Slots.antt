@@ -9,10 +9,10 @@ use Rattle.lists.specs.Lists.{any, tab, place}
 use Rattle.rules.specs.Kinds.{Name, Lock}
 use Rattle.rules.specs.Entries.{isThere}
 use Rattle.rules.specs.Locks as K
-use Rattle.tables.specs.SlotLayout.{slotAt}
-use Rattle.tables.specs.SlotMoves.{isSlotOf, isSlotAgainst}
-use Rattle.desks.specs.States.{book}
-use Rattle.circles.specs.Sets.{SetOf}
+use Rattle.locks.specs.SlotLayout.{slotAt}
+use Rattle.locks.specs.SlotMoves.{isSlotOf, isSlotAgainst}
+use Rattle.states.specs.States.{book}
+use Rattle.circles.specs.CircleSets.{SetOf}
 use Rattle.waits.specs.declared.Seen.{Seen}
 use Rattle.waits.specs.declared.Sight.{Sight}
 use Rattle.waits.specs.declared.Sight.the-variants.{Against, Clear}

@@ -2,8 +2,8 @@
 ghost use mathlib.Core.Path.{_≡_};
 ghost use Prim.Native.Nat.{_+_, _<_};
 ghost use Rattle.limits.specs.Limits.{transactionsMost, locksMost};
-ghost use Rattle.tables.specs.QueueLayout.{queued, queuedAt};
-ghost use Rattle.desks.specs.Whole.{Whole};
+ghost use Rattle.queue.specs.QueueLayout.{queued, queuedAt};
+ghost use Rattle.states.specs.Whole.{Whole};
 ghost use Rattle.waits.specs.Choices.{bookWant, OldestIs};
 ghost use Rattle.waits.specs.Blocks.{isRival, isBehind};
 ghost use Rattle.waits.specs.Notes.{Noted, NotedIn, LookedAt, TurnAt};
@@ -18,7 +18,6 @@ use super::notes;
 use super::slots;
 use super::targets;
 use limits::LOCKS;
-use tables::queue;
 
 // Whether the request at place i, whose want is noted, is another's and wants the same, in a conflicting mode.
 pub fn is_rival(pages: &[u8], desk: &[u8], names: &[u64], modes: &[u16], i: usize, w: Want) -> bool

@@ -4,11 +4,11 @@ ghost use mathlib.Core.Path.{_≡_};
 ghost use mathlib.Core.Bool.{not, _&&_};
 ghost use lib.Dec.{eqb};
 ghost use Rattle.rules.specs.Locks.{clash};
-ghost use Rattle.desks.specs.States.{book};
+ghost use Rattle.states.specs.States.{book};
 ghost use Rattle.waits.specs.Choices.{bookWant};
-use entries::Key;
 use index::Found;
-use tables::Mode;
+use keys::Key;
+use locks::Mode;
 
 mod blocked;
 mod newest;

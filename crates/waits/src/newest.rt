@@ -4,12 +4,12 @@ ghost use mathlib.Core.Path.{_≡_};
 ghost use Prim.Native.Nat.{_+_, _<_};
 ghost use Rattle.limits.specs.Limits.{locksMost, deskSize};
 ghost use Rattle.rules.specs.Locks.{earlier};
-ghost use Rattle.tables.specs.QueueLayout.{queued, queuedAt};
-ghost use Rattle.tables.specs.SlotLayout.{bookSlot};
+ghost use Rattle.queue.specs.QueueLayout.{queued, queuedAt};
+ghost use Rattle.locks.specs.SlotLayout.{bookSlot};
 ghost use Rattle.index.specs.Pictures.{entriesIn};
-ghost use Rattle.desks.specs.States.{book};
-ghost use Rattle.desks.specs.Whole.{Whole};
-ghost use Rattle.circles.specs.Sets.{SetOf};
+ghost use Rattle.states.specs.States.{book};
+ghost use Rattle.states.specs.Whole.{Whole};
+ghost use Rattle.circles.specs.CircleSets.{SetOf};
 ghost use Rattle.waits.specs.Choices.{bookWant, NewestAt};
 ghost use Rattle.waits.specs.Blocks.{ahead, blockersAt, HolderKnown, HoldersKnown, holderOf, withHolder, withRival, Rows};
 ghost use Rattle.waits.specs.Notes.{Noted};
@@ -22,9 +22,7 @@ use super::notes;
 use super::slots;
 use limits::LOCKS;
 use limits::TRANSACTIONS;
-use tables::Slot;
-use tables::locks;
-use tables::queue;
+use locks::Slot;
 
 // Who holds a slot; 0, nobody, where it is free.
 fn holder_of(slot: Slot) -> usize

@@ -2,13 +2,12 @@
 // The pages are what the promises speak of; a want that is noted is not searched for again.
 ghost use Prim.Native.Nat.{_+_, _<_};
 ghost use Rattle.limits.specs.Limits.{transactionsMost};
-ghost use Rattle.desks.specs.Whole.{Whole};
+ghost use Rattle.states.specs.Whole.{Whole};
 ghost use Rattle.waits.specs.Blocks.{WantAt};
 ghost use Rattle.waits.specs.Notes.{Noted};
 use super::Want;
-use entries::Key;
-use tables::Mode;
-use tables::queue;
+use keys::Key;
+use locks::Mode;
 
 // Notes what the request at place q wants, where those before it are noted.
 pub fn note(pages: &[u8], desk: &[u8], names: &mut [u64], modes: &mut [u16], q: usize, w: Want)

@@ -2,15 +2,14 @@
 ghost use mathlib.Core.Path.{_≡_};
 ghost use Prim.Native.Nat.{_<_};
 ghost use Rattle.limits.specs.Limits.{locksMost, deskSize};
-ghost use Rattle.tables.specs.SlotLayout.{bookSlot};
-ghost use Rattle.tables.specs.SlotMoves.{isSlotOf, isSlotAgainst};
+ghost use Rattle.locks.specs.SlotLayout.{bookSlot};
+ghost use Rattle.locks.specs.SlotMoves.{isSlotOf, isSlotAgainst};
 ghost use Rattle.waits.specs.Choices.{bookWant};
 ghost use Rattle.waits.specs.Slots.{firstTo, seenWith, SeenTo, SightAt};
 use super::Seen;
 use super::Sight;
 use super::Want;
-use tables::Slot;
-use tables::locks;
+use locks::Slot;
 
 // Whether a slot is another's lock on what is wanted, in a conflicting mode.
 pub fn is_against(slot: Slot, w: Want) -> bool

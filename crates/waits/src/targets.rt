@@ -4,22 +4,21 @@ ghost use Prim.Native.Nat.{_<_, _≤_};
 ghost use lib.Dec.{leb};
 ghost use Rattle.lists.specs.Lists.{first};
 ghost use Rattle.rules.specs.Locks.{target, named, itself, modeIf, mode};
-ghost use Rattle.entries.specs.RequestMeaning.{bookAsk};
-ghost use Rattle.tables.specs.QueueLayout.{queued};
-ghost use Rattle.tables.specs.SlotLayout.{nameNumber, bookMode};
+ghost use Rattle.requests.specs.RequestMeaning.{bookAsk};
+ghost use Rattle.queue.specs.QueueLayout.{queued};
+ghost use Rattle.locks.specs.SlotLayout.{nameNumber, bookMode};
 ghost use Rattle.index.specs.Pictures.{entriesIn, WholePages};
 ghost use Rattle.index.specs.Searches.{bookFound};
-ghost use Rattle.desks.specs.States.{book};
-ghost use Rattle.desks.specs.Whole.{Whole};
+ghost use Rattle.states.specs.States.{book};
+ghost use Rattle.states.specs.Whole.{Whole};
 ghost use Rattle.waits.specs.Blocks.{targetAt, WantAt};
 use super::Want;
-use entries::Ask;
-use entries::Key;
 use index::Found;
 use index::Sought;
-use tables::Mode;
-use tables::queue;
-use tables::transactions;
+use keys::Key;
+use locks::Mode;
+use queue::transactions;
+use requests::Ask;
 
 // The entry that a request of t aims at, or nothing, which is the end.
 pub fn target_of(pages: &[u8], t: u16, ask: Ask) -> Found

@@ -1,5 +1,5 @@
-//! Every door of the crate `shelves`, declared once. Nothing checks a declaration here against the
-//! source in crates/shelves but these tests. A slice passes as a pointer and a length; the door
+//! Every door of the crate `testing_index`, declared once. Nothing checks a declaration here against the
+//! source in crates/testing_index but these tests. A slice passes as a pointer and a length; the door
 //! itself judges the bytes, so that any arguments are safe.
 
 use model::entry::Entry;

@@ -1,6 +1,6 @@
 //! The proved index, called from Rust and compared with the model's own.
 //!
-//! `doors` has the functions of the crate `shelves`, on the model's values; `beside` makes each
+//! `doors` has the functions of the crate `testing_index`, on the model's values; `beside` makes each
 //! change in both indexes and compares all their bytes; `changes` picks what to do next.
 
 pub mod beside;

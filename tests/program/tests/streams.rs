@@ -88,8 +88,8 @@ fn the_streams_beside_the_program_are_answered_as_the_model_does() {
         include_bytes!("../../../crates/keydesk/stdout"),
     );
     let stops: (&[u8], &[u8]) = (
-        include_bytes!("../../../crates/keydesk_stops/stdin"),
-        include_bytes!("../../../crates/keydesk_stops/stdout"),
+        include_bytes!("../../../crates/testing_stops/stdin"),
+        include_bytes!("../../../crates/testing_stops/stdout"),
     );
     for (input, expected) in [ends, stops] {
         assert_eq!(program(input), expected);

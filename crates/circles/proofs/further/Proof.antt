@@ -6,7 +6,7 @@ use mathlib.Core.Logic.{⊎-elim}
 use Prim.Native.Nat.{_-_, _≤_}
 use lib.ListN.{length}
 use Rattle.circles.specs.Search.{gathered, furtherOn}
-use Rattle.circles.proofs.Turns.{gather-start, gather-in, gather-out, gather-end}
+use Rattle.circles.proofs.CircleTurns.{gather-start, gather-in, gather-out, gather-end}
 use Rattle.circles.proofs.further.Statement.{statement}
 use Rattle.circles.proofs.further.Tie as tie
 

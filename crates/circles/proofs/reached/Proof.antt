@@ -3,7 +3,7 @@
 use borrow.Author.Needs.{needs}
 use mathlib.Core.Path.{_≡_}
 use Rattle.circles.specs.Search.{reachedOn}
-use Rattle.circles.proofs.Turns.{reach-turn, reach-stop, reach-end}
+use Rattle.circles.proofs.CircleTurns.{reach-turn, reach-stop, reach-end}
 use Rattle.circles.proofs.reached.Statement.{statement}
 use Rattle.circles.proofs.reached.Tie as tie
 

@@ -5,7 +5,7 @@ use mathlib.Core.Path.{_≡_}
 use mathlib.Core.Bool.{_&&_}
 use Prim.Native.Nat.{_+_, _-_, _≤_}
 use Rattle.numbers.specs.Numbers.{zeroAt}
-use Rattle.numbers.proofs.Turns.{test-start, test-turn, test-end}
+use Rattle.numbers.proofs.ByteTurns.{test-start, test-turn, test-end}
 use Rattle.numbers.proofs.is_zero.Statement.{statement}
 use Rattle.numbers.proofs.is_zero.Tie as tie
 

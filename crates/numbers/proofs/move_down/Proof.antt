@@ -5,8 +5,8 @@ use mathlib.Core.Path.{_≡_}
 use Prim.Native.Nat.{_-_, _≤_}
 use lib.ListN.{length, length-set}
 use Rattle.numbers.specs.Numbers.{moved}
-use Rattle.numbers.proofs.Moves.{copied-none}
-use Rattle.numbers.proofs.Turns.{move-down-turn, copy-end}
+use Rattle.numbers.proofs.ByteMoves.{copied-none}
+use Rattle.numbers.proofs.ByteTurns.{move-down-turn, copy-end}
 use Rattle.numbers.proofs.move_down.Statement.{statement}
 use Rattle.numbers.proofs.move_down.Tie as tie
 

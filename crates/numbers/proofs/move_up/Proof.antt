@@ -5,7 +5,7 @@ use mathlib.Core.Path.{_≡_}
 use Prim.Native.Nat.{_+_, _-_, _≤_}
 use lib.ListN.{length, length-set}
 use Rattle.numbers.specs.Numbers.{moved}
-use Rattle.numbers.proofs.Turns.{move-up-start, move-up-turn, move-up-end}
+use Rattle.numbers.proofs.ByteTurns.{move-up-start, move-up-turn, move-up-end}
 use Rattle.numbers.proofs.move_up.Statement.{statement}
 use Rattle.numbers.proofs.move_up.Tie as tie
 

@@ -5,8 +5,8 @@ use mathlib.Core.Path.{_≡_}
 use Prim.Native.Nat.{_-_, _≤_}
 use lib.ListN.{length, length-set}
 use Rattle.numbers.specs.Numbers.{zeroed}
-use Rattle.numbers.proofs.Moves.{zeroed-none}
-use Rattle.numbers.proofs.Turns.{zero-turn, zero-end}
+use Rattle.numbers.proofs.ByteMoves.{zeroed-none}
+use Rattle.numbers.proofs.ByteTurns.{zero-turn, zero-end}
 use Rattle.numbers.proofs.zero_bytes.Statement.{statement}
 use Rattle.numbers.proofs.zero_bytes.Tie as tie
 

@@ -1,7 +1,7 @@
 -- `turns::circle_turn` meets its contract: the place found has the newest on a circle.
 -- Assumes nothing.
 use borrow.Author.Needs.{needs}
-use Rattle.turns.proofs.Turns.{newest-inside, turned-way, turned-rest}
+use Rattle.turns.proofs.OneTurn.{newest-inside, turned-way, turned-rest}
 use Rattle.turns.proofs.circle_turn.Statement.{statement}
 use Rattle.turns.proofs.circle_turn.Tie as tie
 

@@ -1,9 +1,9 @@
 -- `turns::give_way` meets its contract: the request leaves, and nothing else moves.
 -- Assumes nothing.
 use borrow.Author.Needs.{needs}
-use Rattle.acts.proofs.Tables.{whole-few}
-use Rattle.waits.proofs.Known.{place-low}
-use Rattle.turns.proofs.Turns.{place-high, gave-way}
+use Rattle.states.proofs.TablesSay.{whole-few}
+use Rattle.waits.proofs.QueueKnown.{place-low}
+use Rattle.turns.proofs.OneTurn.{place-high, gave-way}
 use Rattle.turns.proofs.give_way.Statement.{statement}
 use Rattle.turns.proofs.give_way.Tie as tie
 

@@ -1,7 +1,7 @@
 -- `turns::turn_noting` meets its contract: nobody blocks the oldest that was found; where each is blocked, a circle is looked for.
 -- Assumes nothing.
 use borrow.Author.Needs.{needs}
-use Rattle.turns.proofs.Turns.{next-known, next-clear, turned-ran, nobody-runs, nobody-noted}
+use Rattle.turns.proofs.OneTurn.{next-known, next-clear, turned-ran, nobody-runs, nobody-noted}
 use Rattle.turns.proofs.turn_noting.Statement.{statement}
 use Rattle.turns.proofs.turn_noting.Tie as tie
 

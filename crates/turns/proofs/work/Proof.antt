@@ -1,7 +1,7 @@
 -- `turns::work` meets its contract. The invariant: what the whole queue says is what has been written and what the rest will say.
 -- The measure is how many are queued. Assumes nothing.
 use borrow.Author.Needs.{needs}
-use Rattle.tables.specs.QueueLayout.{queued}
+use Rattle.queue.specs.QueueLayout.{queued}
 use Rattle.turns.proofs.Works.{Left, left-start, left-room, left-less, left-turn, left-done, left-pages, left-desk}
 use Rattle.turns.proofs.work.Statement.{statement}
 use Rattle.turns.proofs.work.Tie as tie

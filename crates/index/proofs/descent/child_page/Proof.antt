@@ -1,7 +1,7 @@
 -- `index::descent::child_page` meets its contract: the part that is lent is the page.
 -- Assumes nothing.
 use borrow.Author.Needs.{needs}
-use Rattle.index.proofs.Turns.{child-lent}
+use Rattle.index.proofs.SearchTurns.{child-lent}
 use Rattle.index.proofs.descent.child_page.Statement.{statement}
 use Rattle.index.proofs.descent.child_page.Tie as tie
 

@@ -1,7 +1,7 @@
 -- `index::descent::low_at` meets its contract: the part that is lent is the page.
 -- Assumes nothing.
 use borrow.Author.Needs.{needs}
-use Rattle.index.proofs.Turns.{low-lent}
+use Rattle.index.proofs.SearchTurns.{low-lent}
 use Rattle.index.proofs.descent.low_at.Statement.{statement}
 use Rattle.index.proofs.descent.low_at.Tie as tie
 

@@ -1,7 +1,7 @@
 -- `index::descent::step_to` meets its contract: the part that is lent is the page.
 -- Assumes nothing.
 use borrow.Author.Needs.{needs}
-use Rattle.index.proofs.Turns.{lent-some, lent-many, step-for}
+use Rattle.index.proofs.SearchTurns.{lent-some, lent-many, step-for}
 use Rattle.index.proofs.descent.step_to.Statement.{statement}
 use Rattle.index.proofs.descent.step_to.Tie as tie
 

@@ -1,7 +1,7 @@
 -- `index::descent::top` meets its contract: the height is the root's level and one.
 -- Assumes nothing.
 use borrow.Author.Needs.{needs}
-use Rattle.index.proofs.Turns.{tall-one, top-of}
+use Rattle.index.proofs.SearchTurns.{tall-one, top-of}
 use Rattle.index.proofs.descent.top.Statement.{statement}
 use Rattle.index.proofs.descent.top.Tie as tie
 

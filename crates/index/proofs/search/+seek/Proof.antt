@@ -9,7 +9,7 @@ use Rattle.trees.specs.Trees.{flat}
 use Rattle.index.specs.Pictures.{Item, treeOf}
 use Rattle.index.specs.Searches.{seeks}
 use Rattle.index.proofs.Subtrees.{inner-in, child-in}
-use Rattle.index.proofs.Turns.{at-leaf, found-leaf, foundFrom, seek-start, seek-here, seek-on, seek-none}
+use Rattle.index.proofs.SearchTurns.{at-leaf, found-leaf, foundFrom, seek-start, seek-here, seek-on, seek-none}
 use borrow.Fn.Kinds.{In}
 use borrow.Fn.PlainCycle.{Measures, is, falls, and}
 use Rattle.index.proofs.search.seek.Reads as seek

@@ -1,7 +1,7 @@
 -- `index::search::find` meets its contract: the search from the root finds what the index has first.
 -- Assumes nothing.
 use borrow.Author.Needs.{needs}
-use Rattle.index.proofs.Turns.{find-from, found-all}
+use Rattle.index.proofs.SearchTurns.{find-from, found-all}
 use Rattle.index.proofs.search.find.Statement.{statement}
 use Rattle.index.proofs.search.find.Tie as tie
 

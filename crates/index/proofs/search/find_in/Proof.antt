@@ -7,7 +7,7 @@ use mathlib.Core.Path.{_≡_}
 use Rattle.lists.specs.Lists.{first, tab}
 use Rattle.pages.specs.PageLayout.{entryAt, entriesOf}
 use Rattle.index.specs.Searches.{seeks}
-use Rattle.index.proofs.Turns.{leaf-start, leaf-here, leaf-on, leaf-none}
+use Rattle.index.proofs.SearchTurns.{leaf-start, leaf-here, leaf-on, leaf-none}
 use Rattle.index.proofs.search.find_in.Statement.{statement}
 use Rattle.index.proofs.search.find_in.Tie as tie
 

@@ -1,7 +1,7 @@
 -- `index::search::seek_leaf` meets its contract: the part that is lent is the leaf.
 -- Assumes nothing.
 use borrow.Author.Needs.{needs}
-use Rattle.index.proofs.Turns.{lent-few, lent-ascends, leaf-found}
+use Rattle.index.proofs.SearchTurns.{lent-few, lent-ascends, leaf-found}
 use Rattle.index.proofs.search.seek_leaf.Statement.{statement}
 use Rattle.index.proofs.search.seek_leaf.Tie as tie
 

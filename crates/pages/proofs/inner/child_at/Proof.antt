@@ -1,7 +1,7 @@
 -- `pages::inner::child_at` meets its contract: the fields are read in their order.
 -- Assumes nothing.
 use borrow.Author.Needs.{needs}
-use Rattle.pages.proofs.Children.{child-read}
+use Rattle.pages.proofs.ChildRows.{child-read}
 use Rattle.pages.proofs.inner.child_at.Statement.{statement}
 use Rattle.pages.proofs.inner.child_at.Tie as tie
 

@@ -2,7 +2,7 @@
 -- The measure is what is left of the children. Assumes nothing.
 use borrow.Author.Needs.{needs}
 use Prim.Native.Nat.{_-_, _<_}
-use Rattle.pages.proofs.Searches.{ChildFrom, child-start, child-on, child-here, child-end}
+use Rattle.pages.proofs.PageSearches.{ChildFrom, child-start, child-on, child-here, child-end}
 use Rattle.pages.proofs.inner.child_for.Statement.{statement}
 use Rattle.pages.proofs.inner.child_for.Tie as tie
 

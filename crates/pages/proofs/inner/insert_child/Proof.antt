@@ -1,7 +1,7 @@
 -- `pages::inner::insert_child` meets its contract: a row is put in.
 -- Assumes nothing.
 use borrow.Author.Needs.{needs}
-use Rattle.pages.proofs.Changes.{child-in}
+use Rattle.pages.proofs.PageChanges.{child-in}
 use Rattle.pages.proofs.inner.insert_child.Statement.{statement}
 use Rattle.pages.proofs.inner.insert_child.Tie as tie
 

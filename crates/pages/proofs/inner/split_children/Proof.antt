@@ -1,7 +1,7 @@
 -- `pages::inner::split_children` meets its contract: the rows are parted, the new one is put into its half, and the first separator of
 -- the half that goes is taken. Assumes nothing.
 use borrow.Author.Needs.{needs}
-use Rattle.pages.proofs.Changes.{children-low, low-low, children-high, low-high}
+use Rattle.pages.proofs.PageChanges.{children-low, low-low, children-high, low-high}
 use Rattle.pages.proofs.inner.split_children.Statement.{statement}
 use Rattle.pages.proofs.inner.split_children.Tie as tie
 

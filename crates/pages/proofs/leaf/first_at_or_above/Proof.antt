@@ -2,7 +2,7 @@
 -- The measure is what is left of the entries. Assumes nothing.
 use borrow.Author.Needs.{needs}
 use Prim.Native.Nat.{_-_, _≤_}
-use Rattle.pages.proofs.Searches.{EntryFrom, entry-start, entry-on, entry-here, entry-end}
+use Rattle.pages.proofs.PageSearches.{EntryFrom, entry-start, entry-on, entry-here, entry-end}
 use Rattle.pages.proofs.leaf.first_at_or_above.Statement.{statement}
 use Rattle.pages.proofs.leaf.first_at_or_above.Tie as tie
 

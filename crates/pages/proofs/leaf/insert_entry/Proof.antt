@@ -1,7 +1,7 @@
 -- `pages::leaf::insert_entry` meets its contract: a row is put in.
 -- Assumes nothing.
 use borrow.Author.Needs.{needs}
-use Rattle.pages.proofs.Changes.{entry-in}
+use Rattle.pages.proofs.PageChanges.{entry-in}
 use Rattle.pages.proofs.leaf.insert_entry.Statement.{statement}
 use Rattle.pages.proofs.leaf.insert_entry.Tie as tie
 

@@ -5,7 +5,7 @@ use mathlib.Core.Path.{_≡_}
 use Prim.Native.Nat.{_-_, _≤_}
 use lib.ListN.{length}
 use Rattle.limits.specs.Limits.{pageSize}
-use Rattle.pages.proofs.Settling.{SettledTo, settled-none, settled-turn, settled-all}
+use Rattle.pages.proofs.LeafSettling.{SettledTo, settled-none, settled-turn, settled-all}
 use Rattle.pages.proofs.leaf.settle_leaf.Statement.{statement}
 use Rattle.pages.proofs.leaf.settle_leaf.Tie as tie
 

@@ -1,7 +1,7 @@
 -- `pages::leaf::settle_own` meets its contract: the entry is left absent, or written.
 -- Assumes nothing.
 use borrow.Author.Needs.{needs}
-use Rattle.pages.proofs.Settling.{passed-gone, passed-kept}
+use Rattle.pages.proofs.LeafSettling.{passed-gone, passed-kept}
 use Rattle.pages.proofs.leaf.settle_own.Statement.{statement}
 use Rattle.pages.proofs.leaf.settle_own.Tie as tie
 

@@ -1,7 +1,7 @@
 -- `pages::leaf::settle_row` meets its contract: another's row is moved as it is.
 -- Assumes nothing.
 use borrow.Author.Needs.{needs}
-use Rattle.pages.proofs.Settling.{passed-other}
+use Rattle.pages.proofs.LeafSettling.{passed-other}
 use Rattle.pages.proofs.leaf.settle_row.Statement.{statement}
 use Rattle.pages.proofs.leaf.settle_row.Tie as tie
 

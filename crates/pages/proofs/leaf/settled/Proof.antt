@@ -1,7 +1,7 @@
 -- `pages::leaf::settled` meets its contract, by the two ways to end.
 -- Assumes nothing.
 use borrow.Author.Needs.{needs}
-use Rattle.pages.proofs.Settling.{ends-yes, ends-no}
+use Rattle.pages.proofs.LeafSettling.{ends-yes, ends-no}
 use Rattle.pages.proofs.leaf.settled.Statement.{statement}
 use Rattle.pages.proofs.leaf.settled.Tie as tie
 

@@ -1,7 +1,7 @@
 -- `pages::leaf::split_leaf` meets its contract: the rows are parted, and the new one is put into its half.
 -- Assumes nothing.
 use borrow.Author.Needs.{needs}
-use Rattle.pages.proofs.Changes.{leaf-low, leaf-high}
+use Rattle.pages.proofs.PageChanges.{leaf-low, leaf-high}
 use Rattle.pages.proofs.leaf.split_leaf.Statement.{statement}
 use Rattle.pages.proofs.leaf.split_leaf.Tie as tie
 

@@ -1,7 +1,7 @@
 -- `pages::leaf::take_entry` meets its contract: a row is taken out.
 -- Assumes nothing.
 use borrow.Author.Needs.{needs}
-use Rattle.pages.proofs.Changes.{entry-out}
+use Rattle.pages.proofs.PageChanges.{entry-out}
 use Rattle.pages.proofs.leaf.take_entry.Statement.{statement}
 use Rattle.pages.proofs.leaf.take_entry.Tie as tie
 

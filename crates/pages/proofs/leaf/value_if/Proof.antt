@@ -1,7 +1,7 @@
 -- `pages::leaf::value_if` meets its contract, by the two values of the test.
 -- Assumes nothing.
 use borrow.Author.Needs.{needs}
-use Rattle.pages.proofs.Entries.{value-there, value-gone}
+use Rattle.pages.proofs.EntryRows.{value-there, value-gone}
 use Rattle.pages.proofs.leaf.value_if.Statement.{statement}
 use Rattle.pages.proofs.leaf.value_if.Tie as tie
 

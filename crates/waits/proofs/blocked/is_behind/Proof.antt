@@ -5,7 +5,7 @@ use Prim.Native.Nat.{_≤_, _-_}
 use mathlib.Core.Path.{_≡_}
 use Rattle.lists.specs.Lists.{any, tab}
 use Rattle.lists.proofs.Scans.{any-step, any-hit, any-end}
-use Rattle.tables.specs.QueueLayout.{queuedAt}
+use Rattle.queue.specs.QueueLayout.{queuedAt}
 use Rattle.waits.specs.Choices.{bookWant}
 use Rattle.waits.specs.Blocks.{isRival, isBehind}
 use Rattle.waits.proofs.Noting.{noted-to}

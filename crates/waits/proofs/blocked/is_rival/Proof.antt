@@ -1,7 +1,7 @@
 -- `waits::blocked::is_rival` meets its contract: the two wants clash as in the rule book.
 -- Assumes nothing.
 use borrow.Author.Needs.{needs}
-use Rattle.waits.proofs.Known.{place-low}
+use Rattle.waits.proofs.QueueKnown.{place-low}
 use Rattle.waits.proofs.Blocks.{rival-at}
 use Rattle.waits.proofs.blocked.is_rival.Statement.{statement}
 use Rattle.waits.proofs.blocked.is_rival.Tie as tie

@@ -1,7 +1,7 @@
 -- `waits::blocked::look_at` meets its contract: a search, the want by what it found, and the note.
 -- Assumes nothing.
 use borrow.Author.Needs.{needs}
-use Rattle.waits.proofs.Known.{place-low}
+use Rattle.waits.proofs.QueueKnown.{place-low}
 use Rattle.waits.proofs.blocked.look_at.Statement.{statement}
 use Rattle.waits.proofs.blocked.look_at.Tie as tie
 

@@ -6,7 +6,7 @@ use Prim.Native.Nat.{_≤_, _-_}
 use mathlib.Core.Path.{_≡_}
 use Rattle.limits.specs.Limits.{locksMost}
 use Rattle.rules.specs.Queue.{oldest}
-use Rattle.desks.specs.States.{book, stateOf}
+use Rattle.states.specs.States.{book, stateOf}
 use Rattle.waits.specs.declared.Turn.the-variants.{Nobody}
 use Rattle.waits.specs.Choices.{bookWant}
 use Rattle.waits.specs.Notes.{Noted}

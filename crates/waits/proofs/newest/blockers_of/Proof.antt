@@ -1,8 +1,8 @@
 -- `waits::newest::blockers_of` meets its contract: the holders, and the earlier ones where the asker holds no lock on what it wants.
 -- Assumes nothing.
 use borrow.Author.Needs.{needs}
-use Rattle.waits.proofs.Known.{place-low, whole-holders}
-use Rattle.waits.proofs.Sets.{blockers-held, blockers-both}
+use Rattle.waits.proofs.QueueKnown.{place-low, whole-holders}
+use Rattle.waits.proofs.BlockerSets.{blockers-held, blockers-both}
 use Rattle.waits.proofs.newest.blockers_of.Statement.{statement}
 use Rattle.waits.proofs.newest.blockers_of.Tie as tie
 

@@ -1,7 +1,7 @@
 -- `waits::newest::collected_with` meets its contract: each of the two with slot i.
 -- Assumes nothing.
 use borrow.Author.Needs.{needs}
-use Rattle.waits.proofs.Sets.{collected-next}
+use Rattle.waits.proofs.BlockerSets.{collected-next}
 use Rattle.waits.proofs.newest.collected_with.Statement.{statement}
 use Rattle.waits.proofs.newest.collected_with.Tie as tie
 

@@ -4,8 +4,8 @@ use borrow.Author.Needs.{needs}
 use Prim.Native.Nat.{_≤_, _-_}
 use mathlib.Core.Path.{_≡_}
 use Rattle.rules.specs.Queue.{newest}
-use Rattle.desks.specs.States.{book, stateOf}
-use Rattle.waits.proofs.Rows.{newestTo, newest-start, newest-end, newest-here, newest-on, next-under, next-low, next-high, rows-fit}
+use Rattle.states.specs.States.{book, stateOf}
+use Rattle.waits.proofs.WaitRows.{newestTo, newest-start, newest-end, newest-here, newest-on, next-under, next-low, next-high, rows-fit}
 use Rattle.waits.proofs.newest.newest_on_circle.Statement.{statement}
 use Rattle.waits.proofs.newest.newest_on_circle.Tie as tie
 

@@ -4,12 +4,12 @@ use borrow.Author.Needs.{needs}
 use Prim.Native.Nat.{_≤_, _-_}
 use Rattle.rules.specs.Locks.{earlier}
 use Rattle.index.specs.Pictures.{entriesIn}
-use Rattle.desks.specs.States.{book}
-use Rattle.circles.specs.Sets.{SetOf}
+use Rattle.states.specs.States.{book}
+use Rattle.circles.specs.CircleSets.{SetOf}
 use Rattle.waits.specs.Choices.{bookWant}
 use Rattle.waits.specs.Blocks.{ahead}
 use Rattle.waits.proofs.Noting.{noted-to}
-use Rattle.waits.proofs.Sets.{rivals-start, rivals-turn, rivals-end}
+use Rattle.waits.proofs.BlockerSets.{rivals-start, rivals-turn, rivals-end}
 use Rattle.waits.proofs.newest.rivals_of.Statement.{statement}
 use Rattle.waits.proofs.newest.rivals_of.Tie as tie
 

@@ -5,11 +5,11 @@ use Prim.Native.Nat.{_+_, _≤_, _-_}
 use mathlib.Core.Path.{_≡_}
 use lib.ListN.{length}
 use Rattle.limits.specs.Limits.{transactionsMost}
-use Rattle.desks.specs.States.{book}
-use Rattle.circles.specs.Sets.{RowOf}
-use Rattle.waits.proofs.Known.{place-under, asker-under}
+use Rattle.states.specs.States.{book}
+use Rattle.circles.specs.CircleSets.{RowOf}
+use Rattle.waits.proofs.QueueKnown.{place-under, asker-under}
 use Rattle.waits.proofs.Noting.{noted-queued}
-use Rattle.waits.proofs.Rows.{waitsTo, rows-start, rows-turn, rows-end}
+use Rattle.waits.proofs.WaitRows.{waitsTo, rows-start, rows-turn, rows-end}
 use Rattle.waits.proofs.newest.rows_of.Statement.{statement}
 use Rattle.waits.proofs.newest.rows_of.Tie as tie
 

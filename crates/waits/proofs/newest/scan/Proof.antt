@@ -5,7 +5,7 @@ use Prim.Native.Nat.{_≤_, _-_}
 use Rattle.limits.specs.Limits.{locksMost}
 use Rattle.waits.specs.Choices.{bookWant}
 use Rattle.waits.specs.Slots.{Scanned}
-use Rattle.waits.proofs.Sets.{holder-at, scan-start, scan-turn, scan-end}
+use Rattle.waits.proofs.BlockerSets.{holder-at, scan-start, scan-turn, scan-end}
 use Rattle.waits.proofs.newest.scan.Statement.{statement}
 use Rattle.waits.proofs.newest.scan.Tie as tie
 

@@ -1,7 +1,7 @@
 -- `waits::newest::with_holder` meets its contract: a lock that stands against the want has a transaction for its holder.
 -- Assumes nothing.
 use borrow.Author.Needs.{needs}
-use Rattle.waits.proofs.Sets.{slot-against, holder-low, holder-fits, slot-not}
+use Rattle.waits.proofs.BlockerSets.{slot-against, holder-low, holder-fits, slot-not}
 use Rattle.waits.proofs.newest.with_holder.Statement.{statement}
 use Rattle.waits.proofs.newest.with_holder.Tie as tie
 

@@ -1,7 +1,7 @@
 -- `waits::targets::target_at` meets its contract: the request is the queue's.
 -- Assumes nothing.
 use borrow.Author.Needs.{needs}
-use Rattle.waits.proofs.Known.{place-low, asker-low, asker-high}
+use Rattle.waits.proofs.QueueKnown.{place-low, asker-low, asker-high}
 use Rattle.waits.proofs.Wants.{target-queued}
 use Rattle.waits.proofs.targets.target_at.Statement.{statement}
 use Rattle.waits.proofs.targets.target_at.Tie as tie

@@ -1,7 +1,7 @@
 -- `waits::targets::want_at` meets its contract: the request is the queue's, and a key of the index fits its name.
 -- Assumes nothing.
 use borrow.Author.Needs.{needs}
-use Rattle.waits.proofs.Known.{whole-keys, place-low, asker-high}
+use Rattle.waits.proofs.QueueKnown.{whole-keys, place-low, asker-high}
 use Rattle.waits.proofs.Wants.{want-queued}
 use Rattle.waits.proofs.targets.want_at.Statement.{statement}
 use Rattle.waits.proofs.targets.want_at.Tie as tie

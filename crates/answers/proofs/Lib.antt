@@ -1,0 +1,3 @@
+pub mod AnswerOneToOne
+pub mod AnswerPut
+pub mod AnswersWritten

@@ -1,0 +1,2 @@
+pub mod AnswerMeaning
+pub mod AnswerRecord

@@ -1,0 +1,2 @@
+pub mod PictureTurns
+pub mod Judging

@@ -1,0 +1,3 @@
+pub mod LockTurns
+pub mod Fines
+pub mod Flats

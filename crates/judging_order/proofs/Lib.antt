@@ -1,0 +1,4 @@
+pub mod Ascending
+pub mod LockWalks
+pub mod Passing
+pub mod Verdicts

@@ -1,0 +1,12 @@
+pub mod PageTurns
+pub mod Layouts
+pub mod EntriesJudged
+pub mod LeavesJudged
+pub mod InnersJudged
+pub mod WalkTurns
+pub mod Fronts
+pub mod Tops
+pub mod PagesMarked
+pub mod TreesJudged
+pub mod PageZero
+pub mod PagesJudged

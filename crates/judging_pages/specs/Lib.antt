@@ -1,0 +1,2 @@
+pub mod PageChecks
+pub mod Walks

@@ -1,0 +1,24 @@
+-- `locks::mode_at` meets its contract: the number is read behind the holder.
+-- Assumes nothing.
+use borrow.Author.Needs.{needs}
+use Rattle.locks.proofs.slots.mode_at.Statement.{statement}
+use Rattle.locks.proofs.slots.mode_at.Tie as tie
+
+slot-place-requires : tie.Need-slot-place-requires
+slot-place-requires c κs = search needs
+
+add-read-u16 : tie.Need-add-read-u16
+add-read-u16 c = search needs
+
+add-read-u16-2 : tie.Need-add-read-u16-2
+add-read-u16-2 c = search needs
+
+read-u16-requires : tie.Need-read-u16-requires
+read-u16-requires c κs = search needs
+
+returns : tie.Need-returns
+returns c = cc
+
+pub mode-at-spec : {M : Type 1} → statement M
+mode-at-spec =
+    tie.close (tie.spec slot-place-requires add-read-u16 add-read-u16-2 read-u16-requires returns)

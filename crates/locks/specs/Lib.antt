@@ -1,0 +1,2 @@
+pub mod SlotLayout
+pub mod SlotMoves

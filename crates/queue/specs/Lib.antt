@@ -1,0 +1,2 @@
+pub mod QueueLayout
+pub mod QueueMoves

@@ -1,0 +1,4 @@
+pub mod RequestOneToOne
+pub mod Legal
+pub mod RequestRead
+pub mod Number12

@@ -1,0 +1,2 @@
+pub mod RequestMeaning
+pub mod RequestRecord

@@ -1,0 +1,6 @@
+pub mod RowWidths
+pub mod PageRows
+pub mod WithRows
+pub mod RowMoves
+pub mod RowDivisions
+pub mod RowReadings

@@ -1,0 +1,4 @@
+pub mod RowMoves
+pub mod PageHead
+pub mod PageRows
+pub mod RowSteps

@@ -1,0 +1,2 @@
+pub mod RunsAt
+pub mod Exchanges

@@ -1,0 +1,5 @@
+pub mod Settles
+pub mod OneLeaf
+pub mod Replaces
+pub mod KeySettles
+pub mod KeysSettled

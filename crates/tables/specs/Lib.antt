@@ -1,4 +1,0 @@
-pub mod SlotLayout
-pub mod QueueLayout
-pub mod SlotMoves
-pub mod QueueMoves

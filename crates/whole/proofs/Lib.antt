@@ -1,9 +1,0 @@
-pub mod LockTurns
-pub mod PictureTurns
-pub mod Fines
-pub mod Flats
-pub mod Ascending
-pub mod Walks
-pub mod Passing
-pub mod Verdicts
-pub mod Judging
