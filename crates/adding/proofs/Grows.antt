@@ -120,7 +120,7 @@ module _ (s : List ℕ) (pg u : ℕ) (e : Item) (g : GrowIn s 0 pg u e) (i : ℕ
   divided-grew : (s′ : List ℕ) (r : Grown) → LeafFull s pg u i e → LeafSplit s s′ pg u i e r → Grew 0 s s′ pg u e r
   divided-grew s′ r h d =
       let t = g .sub in
-      let n : length new ≡ 25 = length-insertAt i e old ∙ ap (λ v. v + 1) (h .full) in
+      let n : length new ≡ leafMost + 1 = length-insertAt i e old ∙ ap (λ v. v + 1) (h .full) in
       let a = leafPage (take leafStay new) in
       let b = leafPage (drop leafStay new) in
       let j : length (take leafStay new) ≡ leafStay = length-take-le leafStay new (omega arith) in

@@ -71,7 +71,7 @@ pub data Freshened (p d p′ d′ : List ℕ) (r : ℕ) : Type 0 where
   sizes : wrongPicture p d ≡ true → p′ ≡ p → d′ ≡ d → r ≡ returned 10 0 → Freshened p d p′ d′ r
   made : wrongPicture p d ≡ false → Whole p′ d′ → stateOf p′ d′ ≡ fresh book → r ≡ 0 → Freshened p d p′ d′ r
 
--- an outcome that keeps the promise. That there is one, for any bytes in all four slices, is proved in proofs/Outcomes.antt; that there is no
+-- an outcome that keeps the promise. That there is one, for any bytes in all four slices, is proved in outcomes/proofs/Outcomes.antt; that there is no
 -- second, in proofs/Determined.antt: the promise is a function of bytes.
 pub record Outcome (q : List ℕ) (x : Lent) : Type 0 where
   pub lent : Lent

@@ -1,5 +1,5 @@
 -- The end of a transaction on a whole picture: the rule book's. The index is then settled in every leaf, which is all entries settled and the
--- tree without the keys taken out; the desk by the laws of desks; the invariants by those of sound tables. Assumes nothing.
+-- tree without the keys taken out; the desk by the laws of `states`; the invariants by those of sound tables. Assumes nothing.
 use Prim.Native.Nat.{ℕ, _≤_, _<_}
 use mathlib.Core.Path.{_≡_, sym, ap, ap₂, _∙_}
 use mathlib.Core.Bool.{Bool, true, false, cond}

@@ -1,9 +1,9 @@
 -- An inner page as it is written from children, and as the inner code changes it: it is then the page written from the children changed.
 -- Its rows are those of its children, and a child that fits is read back as it was written. Assumes nothing.
-use Rattle.limits.specs.Limits.{pageSize, childSize, innerMost, innerStay}
+use Rattle.limits.specs.Limits.{keySize, pageSize, childSize, innerMost, innerStay}
 use Rattle.pages.specs.PageLayout.{ChildFits, childWidths, childFields, childrenOf}
 use Rattle.rows.specs.PageHead.{countOf}
-use Prim.Native.Nat.{ℕ, _-_, _≤_}
+use Prim.Native.Nat.{ℕ, _-_, _≤_, _+_}
 use mathlib.Core.Path.{_≡_, refl, sym, ap, ap₂, subst, _∙_}
 use mathlib.Core.Logic.{inl, inr}
 use mathlib.Core.List.{List, [], _∷_, map}
@@ -42,22 +42,22 @@ unfolding childRow widthOf
 row-fields c s = fields-same childWidths (replicate childSize 0) 0 (childFields c) (child-fits c s) (lit≤ tt)
 
 -- ---- the first separator becomes 0
-low-zero : (c : Child) → ChildFits c → putNumber 8 (childRow c) 0 0 ≡ childRow (record { low = record { 0 = 0 }; page = c .page })
+low-zero : (c : Child) → ChildFits c → putNumber keySize (childRow c) 0 0 ≡ childRow (record { low = record { 0 = 0 }; page = c .page })
 unfolding fieldsAt widthOf childFields
 low-zero c s =
     let d : Child = record { low = record { 0 = 0 }; page = c .page } in
-    let p = putNumber 8 (childRow c) 0 0 in
-    let n : length p ≡ childSize = length-putNumber 8 (childRow c) 0 0 ∙ length-childRow c in
-    let f = touches-putNumber 8 (childRow c) 0 0 in
-    let a : numberAt 8 p 0 ≡ 0 = number-same 8 (childRow c) 0 0 (lit< tt) (omega (arith, length-childRow c)) in
-    let x = number-apart 2 8 f (lit< tt) in
-    let y = number-apart 2 10 f (lit< tt) in
-    let z = number-apart 4 12 f (lit< tt) in
+    let p = putNumber keySize (childRow c) 0 0 in
+    let n : length p ≡ childSize = length-putNumber keySize (childRow c) 0 0 ∙ length-childRow c in
+    let f = touches-putNumber keySize (childRow c) 0 0 in
+    let a : numberAt keySize p 0 ≡ 0 = number-same keySize (childRow c) 0 0 (lit< tt) (omega (arith, length-childRow c)) in
+    let x = number-apart 2 keySize f (lit< tt) in
+    let y = number-apart 2 (keySize + 2) f (lit< tt) in
+    let z = number-apart 4 (keySize + 2 + 2) f (lit< tt) in
     let g : fieldsAt childWidths p 0 ≡ fieldsAt childWidths (childRow d) 0 =
     ap₂ (λ v vs. v ∷ vs) a (ap₂ (λ v vs. v ∷ vs) x (ap₂ (λ v vs. v ∷ vs) y (ap₂ (λ v vs. v ∷ vs) z refl)))
     ∙ ap (λ vs. 0 ∷ drop 1 vs) (row-fields c s)
     ∙ sym (row-fields d (record { low = lit< tt; page = s .page })) in
-    let k = fields-inj childWidths {s = p} {t = childRow d} {a = 0} {b = 0} (bytes-putNumber 8 (childRow c) 0 0 (bytes-childRow c)) (bytes-childRow d) g in
+    let k = fields-inj childWidths {s = p} {t = childRow d} {a = 0} {b = 0} (bytes-putNumber keySize (childRow c) 0 0 (bytes-childRow c)) (bytes-childRow d) g in
     agree-all p (childRow d) (n ∙ sym (length-childRow d)) (record { byte = λ i h. k .byte i (omega arith) })
 
 zero-rows : (cs : List Child) → Smalls cs → fromZero (map childRow cs) ≡ map childRow (zeroFirst cs)

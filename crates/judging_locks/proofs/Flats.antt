@@ -8,7 +8,7 @@ use Prim.Native.Nat.{ℕ, zero, suc, _+_, _*_, _≤_, _<_, compare}
 use native.Mathlib.Omega.{arith}
 use borrow.Author.Tests.{leb-true, le-leb}
 use lib.Dec.{leb}
-use Rattle.limits.specs.Limits.{pageSize, headSize, entrySize}
+use Rattle.limits.specs.Limits.{keySize, pageSize, headSize, entrySize}
 use Rattle.lists.specs.Lists.{all, any, join, In}
 use Rattle.lists.proofs.Tests.{all-append, any-append, all-both}
 use Rattle.lists.proofs.Elements.{all-in}
@@ -66,8 +66,8 @@ unfolding entriesOf entryAt entryIn fieldsAt pageAt
 leaf-small s q g =
     all-of-tab small (countOf (pageAt s q)) 0 (entryAt (pageAt s q))
     (λ i _ _.
-    let b : numberAt 8 (pageAt s q) (headSize + entrySize * i) < 18446744073709551616 = number-below 8 (pageAt s q) (headSize + entrySize * i) (bytes-part (pageSize * q) pageSize s g) in
-    le-leb (numberAt 8 (pageAt s q) (headSize + entrySize * i)) endMark (omega arith))
+    let b : numberAt keySize (pageAt s q) (headSize + entrySize * i) < 18446744073709551616 = number-below keySize (pageAt s q) (headSize + entrySize * i) (bytes-part (pageSize * q) pageSize s g) in
+    le-leb (numberAt keySize (pageAt s q) (headSize + entrySize * i)) endMark (omega arith))
 
 small-kids : (n : ℕ) (s : List ℕ) → ((q : ℕ) → all small (flat ℕ Item n (treeOf n s q)) ≡ true) → (cs : List P.Child)
     → all small (join (λ c. flat ℕ Item n (c .tree)) (map (kid n s) cs)) ≡ true

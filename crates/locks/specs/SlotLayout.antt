@@ -51,7 +51,7 @@ slotAt d i = slotIn (fieldsAt lockWidths d (lockPlace i))
 unfoldable pub putSlot : List ℕ → ℕ → Option (Lock ℕ) → List ℕ
 putSlot d i x = putFields lockWidths d (lockPlace i) (slotFields x)
 
--- the desk as the rule book's tables
+-- the lock table
 unfoldable pub slotsOf : List ℕ → List (Option (Lock ℕ))
 slotsOf d = tab locksMost 0 (slotAt d)
 

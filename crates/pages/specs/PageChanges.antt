@@ -43,6 +43,7 @@ rowLeft commits t r =
 unfoldable pub leafSettled : Bool → ℕ → List ℕ → List ℕ
 leafSettled commits t p = withRows entrySize p (join (rowLeft commits t) (rowsOf entrySize p))
 
+-- the rows of a new inner page, and the separator that goes up
 abbrev pub fromZero : List (List ℕ) → List (List ℕ)
 fromZero [] = []
 fromZero (r ∷ rs) = putNumber keySize r 0 0 ∷ rs

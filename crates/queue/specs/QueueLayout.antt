@@ -66,6 +66,7 @@ askFields (delete k) = 6 ∷ 0 ∷ k ∷ 0 ∷ []
 unfoldable pub putAsk : List ℕ → ℕ → List ℕ → List ℕ
 putAsk d t vs = putFields askWidths d (recordPlace t + 2) vs
 
+-- the queue and the marks, as the rule book's
 unfoldable pub queuedAt : List ℕ → ℕ → Queued ℕ ℕ
 queuedAt d i = record { asker = inPlace d i; asks = askAt d (inPlace d i) }
 

@@ -1,5 +1,5 @@
 -- Document 01's "from 15" and demand 3's "a running transaction that isn't waiting", held to a scene: that of the fourth case, where 2
--- still waits, now at 30, behind 3. The claim `Pinned` is proved in proofs/Pins.antt. Assumes nothing.
+-- still waits, now at 30, behind 3. The claim `Pinned` is proved in proofs/ScenePins.antt. Assumes nothing.
 use mathlib.Core.Path.{_≡_}
 use mathlib.Core.List.{map}
 use Rattle.rules.specs.Queue.{St, linksMost}

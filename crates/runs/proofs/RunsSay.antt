@@ -1,5 +1,5 @@
 -- A run on a whole picture, from what the code does: a lock taken, the pages perhaps changed, the request taken from the queue.
--- What the rule book's run comes to is told by whether the lock is given; the desk by the laws of desks. Assumes nothing.
+-- What the rule book's run comes to is told by whether the lock is given; the desk by the laws of `states`. Assumes nothing.
 use Prim.Native.Nat.{ℕ, _≤_, _<_}
 use mathlib.Core.Path.{_≡_, refl, sym, ap, ap₂, subst, _∙_}
 use mathlib.Core.Bool.{Bool, true, false, cond}

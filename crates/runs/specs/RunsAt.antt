@@ -1,4 +1,4 @@
--- What an act makes of a whole picture: it is whole again, and says what the rule book's move makes of what it said before. Assumes nothing.
+-- What a run makes of a whole picture: it is whole again, and says what the rule book's run makes of what it said before. Assumes nothing.
 use Prim.Native.Nat.{ℕ, _<_}
 use mathlib.Core.Path.{_≡_}
 use mathlib.Core.List.{List, []}

@@ -8,7 +8,7 @@ use native.Mathlib.Omega.{arith}
 use borrow.Author.Tests.{ltb-true, leb-true}
 use lib.Dec.{eqb, ltb, leb}
 use lib.ListN.{length, getD}
-use Rattle.limits.specs.Limits.{transactionsMost}
+use Rattle.limits.specs.Limits.{keySize, transactionsMost}
 use Rattle.lists.specs.Lists.{In, all, pairs}
 use Rattle.lists.proofs.Tests.{and-left, and-right}
 use Rattle.lists.proofs.Elements.{all-in, any-in, tab-in}
@@ -109,10 +109,10 @@ unfolding recordAt fieldsAt askIn
 record-small d t h = go (eqb (numberAt 2 d (recordPlace t + 2)) 4) (eqb (numberAt 2 d (recordPlace t + 2)) 5)
   where
     lo : ℕ
-    lo = numberAt 8 d (recordPlace t + 2 + 2 + 4)
+    lo = numberAt keySize d (recordPlace t + 2 + 2 + 4)
 
     hi : ℕ
-    hi = numberAt 8 d (recordPlace t + 2 + 2 + 4 + 8)
+    hi = numberAt keySize d (recordPlace t + 2 + 2 + 4 + keySize)
 
     r : ℕ
     r = numberAt 4 d (recordPlace t + 2 + 2)

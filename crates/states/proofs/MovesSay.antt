@@ -1,5 +1,5 @@
 -- Moves of the desk alone, from a whole picture: a transaction begins, a request joins the queue, one gives way on a circle.
--- Each is the rule book's move of the state: the desk by the laws of desks, the invariants by those of the rule book. Assumes nothing.
+-- Each is the rule book's move of the state: the desk by the laws of `states`, the invariants by those of the rule book. Assumes nothing.
 use Prim.Native.Nat.{ℕ, _≤_, _<_}
 use mathlib.Core.Path.{_≡_, refl, sym, ap, _∙_}
 use mathlib.Core.Bool.{true, false}

@@ -10,6 +10,7 @@ use native.Mathlib.Omega.{arith}
 use borrow.Author.Tests.{eq-eqb, not-true}
 use lib.Dec.{eqb, lit<}
 use lib.ListN.{getD}
+use Rattle.limits.specs.Limits.{keySize}
 use Rattle.lists.specs.Lists.{In, first, pairs}
 use Rattle.lists.proofs.Tests.{first-hit, first-miss}
 use Rattle.lists.proofs.Elements.{first-in, all-in}
@@ -38,7 +39,7 @@ slot-of (none ∷ ls) f (suc i) = slot-of ls f i
 slot-of (some l ∷ ls) f zero = f l (inl refl)
 slot-of (some l ∷ ls) f (suc i) = slot-of ls (λ k j. f k (inr j)) i
 
-pub name-small : (n : Name ℕ) → NameFits n → nameNumber n < 256 ^ 8
+pub name-small : (n : Name ℕ) → NameFits n → nameNumber n < 256 ^ keySize
 name-small (on k) h = omega arith
 name-small end h = lit< tt
 

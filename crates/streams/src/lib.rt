@@ -1,9 +1,10 @@
 // The desk on a stream: starts fresh, reads request records from standard input, writes only the answer records, and stops at the first
 // number 12 or at the end. (Document 01, "Records and pages".) What is read and written no contract can speak of, so that is tested and not
 // proved; the desk that it calls is proved.
-ghost use Prim.Native.Nat.{_≤_, _<_, _+_};
+ghost use Prim.Native.Nat.{_≤_, _+_};
 ghost use mathlib.Core.Path.{_≡_};
 ghost use lib.ListN.{length};
+ghost use Rattle.limits.specs.Limits.{readSize};
 use libc::STDIN_FILENO;
 use libc::STDOUT_FILENO;
 
@@ -21,7 +22,7 @@ struct Rest {
 fn wanted(input: &[u8], at: usize, end: usize) -> usize
     requires { ⌜ at ≤ end ⌝ }
     requires { ⌜ end ≤ length (now input) ⌝ }
-    ensures { λ r. ⌜ (2 ≤ r) × (r < 25) ⌝ }
+    ensures { λ r. ⌜ (2 ≤ r) × (r ≤ readSize) ⌝ }
 {
     if end - at < 2 {
         return 2;
@@ -60,7 +61,7 @@ fn answer_piece(
     end: usize,
 ) -> Rest
     requires { ⌜ end ≤ length (now input) ⌝ }
-    ensures { λ r. ⌜ (r .bytes ≤ end) × (r .bytes < 25) ⌝ }
+    ensures { λ r. ⌜ (r .bytes ≤ end) × (r .bytes ≤ readSize) ⌝ }
 {
     let mut at: usize = 0;
     while at < end {
@@ -88,7 +89,7 @@ fn answer_piece(
 // Reads more of the input behind what is left of it. How much there is then; as before at the end of the input.
 fn read_more(input: &mut [u8], left: usize) -> usize
     requires { ⌜ length (now input) ≡ 65536 ⌝ }
-    requires { ⌜ left < 25 ⌝ }
+    requires { ⌜ left ≤ readSize ⌝ }
     ensures { λ r. ⌜ (left ≤ r) × (r ≤ 65536) ⌝ }
 {
     let got = libc::read(STDIN_FILENO, &mut input[left..65536]);
@@ -104,8 +105,8 @@ fn go_on(
     left: usize,
 ) -> Rest
     requires { ⌜ length (now input) ≡ 65536 ⌝ }
-    requires { ⌜ left < 25 ⌝ }
-    ensures { λ r. ⌜ r .bytes < 25 ⌝ }
+    requires { ⌜ left ≤ readSize ⌝ }
+    ensures { λ r. ⌜ r .bytes ≤ readSize ⌝ }
 {
     let end = read_more(input, left);
     if end == left {
