@@ -1,13 +1,13 @@
 -- Demand 1 as one statement: for any bytes of any lengths in the four slices, what comes back, and which bytes may have changed. "Each
 -- refusal has its number, and says exactly which bytes have changed": none. Assumes nothing.
-use Prim.Native.Nat.{ℕ, _≤_, _<_}
+use Prim.Native.Nat.{ℕ, _+_, _≤_, _<_}
 use mathlib.Core.Path.{_≡_}
 use mathlib.Core.Logic.{_≢_}
 use mathlib.Core.Bool.{true, false}
 use mathlib.Core.List.{List}
 use mathlib.Core.Option.{none}
 use lib.ListN.{length, getD, drop}
-use Rattle.limits.specs.Limits.{spaceLeast}
+use Rattle.limits.specs.Limits.{answerSize, spaceLeast}
 use Rattle.requests.specs.RequestRecord.{heard}
 use Rattle.states.specs.Whole.{Whole}
 use Rattle.calls.specs.Promise.{Lent, wrongSizes, returned}
@@ -53,7 +53,7 @@ pub record ShutsOut (q : List ℕ) (x y : Lent) : Type 0 where
   -- a refusal that changed something
   pub touched : (r : ℕ) → returned 1 0 ≤ r → y ≢ x → Demand1 q x y r → ⊥
   -- more than sixteen answers; a byte changed behind the answers; a picture spoilt; a buffer that grew or shrank
-  pub seventeen : Demand1 q x y 340 → ⊥
+  pub seventeen : Demand1 q x y (spaceLeast + answerSize) → ⊥
   pub behind : (r i : ℕ) → r < returned 1 0 → getD (drop r (y .answers)) i 0 ≢ getD (drop r (x .answers)) i 0 → Demand1 q x y r → ⊥
   pub spoilt : (r : ℕ) → wrongSizes x ≡ false → Whole (x .pages) (x .desk) → (Whole (y .pages) (y .desk) → ⊥) → Demand1 q x y r → ⊥
   pub pages : (r : ℕ) → length (y .pages) ≢ length (x .pages) → Demand1 q x y r → ⊥

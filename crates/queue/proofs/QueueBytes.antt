@@ -11,7 +11,7 @@ use native.Mathlib.Omega.{arith}
 use borrow.Author.Tests.{eqb-true, eqb-false, eq-eqb, ne-eqb, lt-ltb, le-ltb, not-true}
 use lib.Dec.{eqb, ltb}
 use lib.ListN.{length, getD, set}
-use Rattle.limits.specs.Limits.{transactionsMost, deskHeadSize, deskSize}
+use Rattle.limits.specs.Limits.{transactionsMost, deskHeadSize, recordsPlace, deskSize}
 use Rattle.lists.specs.Lists.{all, any, keep, pairs, tab, removeAt}
 use Rattle.lists.proofs.Tests.{and-left, and-right, all-at, all-each, keep-all, not-any}
 use Rattle.lists.proofs.Tables.{length-tab, getD-tab, tab-remove}
@@ -54,9 +54,9 @@ module _ (d : List ℕ) (t : ℕ) (a : Ask ℕ ℕ) (size : length d ≡ deskSiz
   touches-counted = touches-putNumber 2 placed 4 (queued d + 1)
 
   -- but for the request, the bytes between the kind and the records
-  pub touches-joined : Touches 4 60 asked (queueJoined d t a)
+  pub touches-joined : Touches 4 (recordsPlace - 4) asked (queueJoined d t a)
   touches-joined =
-      touches-then (touches-wider 4 60 (omega arith) (omega arith) touches-placed) (touches-wider 4 60 (omega arith) (omega arith) touches-counted)
+      touches-then (touches-wider 4 (recordsPlace - 4) (omega arith) (omega arith) touches-placed) (touches-wider 4 (recordsPlace - 4) (omega arith) (omega arith) touches-counted)
 
   -- the places: the new one at the end, the others as they were
   pub place-joined : (i : ℕ) → i < transactionsMost → i ≢ queued d → inPlace (queueJoined d t a) i ≡ inPlace d i
@@ -126,7 +126,7 @@ module _ (d : List ℕ) (q : ℕ) (size : length d ≡ deskSize) (order : InOrde
   closed = moved (2 * (transactionsMost - 1 - q)) (queuePlace (q + 1)) (queuePlace q) cleared
 
   abbrev blanked : List ℕ
-  blanked = zeroed 2 62 closed
+  blanked = zeroed 2 (queuePlace (transactionsMost - 1)) closed
 
   q-low : q < transactionsMost
   q-low = let l = order .few in omega arith
@@ -140,19 +140,19 @@ module _ (d : List ℕ) (q : ℕ) (size : length d ≡ deskSize) (order : InOrde
       let n = touches-cleared .len in
       touches-copied (2 * (transactionsMost - 1 - q)) cleared (queuePlace (q + 1)) (queuePlace q) cleared (omega arith) (omega arith)
 
-  touches-blanked : Touches 62 2 closed blanked
-  touches-blanked = touches-zeroed 2 62 closed (omega (arith, touches-closed .len, touches-cleared .len))
+  touches-blanked : Touches (queuePlace (transactionsMost - 1)) 2 closed blanked
+  touches-blanked = touches-zeroed 2 (queuePlace (transactionsMost - 1)) closed (omega (arith, touches-closed .len, touches-cleared .len))
 
   touches-recounted : Touches 4 2 blanked (queueLeft d q)
   unfolding queueLeft
   touches-recounted = touches-putNumber 2 blanked 4 (queued d - 1)
 
   -- but for the request, the bytes between the kind and the records
-  pub touches-left : Touches 4 60 cleared (queueLeft d q)
+  pub touches-left : Touches 4 (recordsPlace - 4) cleared (queueLeft d q)
   touches-left =
       let l = q-low in
-      touches-then (touches-wider 4 60 (omega arith) (omega arith) touches-closed)
-      (touches-then (touches-wider 4 60 (omega arith) (omega arith) touches-blanked) (touches-wider 4 60 (omega arith) (omega arith) touches-recounted))
+      touches-then (touches-wider 4 (recordsPlace - 4) (omega arith) (omega arith) touches-closed)
+      (touches-then (touches-wider 4 (recordsPlace - 4) (omega arith) (omega arith) touches-blanked) (touches-wider 4 (recordsPlace - 4) (omega arith) (omega arith) touches-recounted))
 
   blanked-len : length blanked ≡ deskSize
   blanked-len = touches-blanked .len ∙ touches-closed .len ∙ touches-cleared .len ∙ size
@@ -192,7 +192,7 @@ module _ (d : List ℕ) (q : ℕ) (size : length d ≡ deskSize) (order : InOrde
   unfolding numberAt
   place-last =
       place-beside touches-recounted (transactionsMost - 1) (omega arith)
-      ∙ numberAt-ext 2 (agree-zeroed 2 62 closed (omega (arith, touches-closed .len, touches-cleared .len)))
+      ∙ numberAt-ext 2 (agree-zeroed 2 (queuePlace (transactionsMost - 1)) closed (omega (arith, touches-closed .len, touches-cleared .len)))
 
   ask-left : (s : ℕ) → 1 ≤ s → s ≢ leaver → askAt (queueLeft d q) s ≡ askAt d s
   ask-left s h e = ask-beside touches-left s (omega arith) ∙ ask-beside touches-cleared s (omega arith)

@@ -240,8 +240,8 @@ module _ {d : List ℕ} {ls : List (Option (Lock ℕ))} {qs : List (Queued ℕ �
         let clear : Bytes cleared = bytes-putFields askWidths d (recordPlace (inPlace d i) + 2) (0 ∷ 0 ∷ 0 ∷ 0 ∷ []) (f .bytes) in
         let closed = moved n (queuePlace (i + 1)) (queuePlace i) cleared in
         let same = length-copied n cleared (queuePlace (i + 1)) (queuePlace i) cleared (omega arith) (omega arith) in
-        bytes-putNumber 2 (zeroed 2 62 closed) 4 (queued d - 1)
-        (bytes-zeroed 2 62 closed (omega arith) (bytes-copied n cleared (queuePlace (i + 1)) (queuePlace i) cleared (omega arith) (omega arith) clear clear))
+        bytes-putNumber 2 (zeroed 2 (queuePlace (transactionsMost - 1)) closed) 4 (queued d - 1)
+        (bytes-zeroed 2 (queuePlace (transactionsMost - 1)) closed (omega arith) (bytes-copied n cleared (queuePlace (i + 1)) (queuePlace i) cleared (omega arith) (omega arith) clear clear))
 
     pub says-left : Says left ls rest ms
     unfolding widthOf
