@@ -12,7 +12,7 @@ use native.Mathlib.Omega.{arith}
 use borrow.Author.Tests.{eqb-true, eqb-false, eq-eqb, ltb-true, lt-ltb, not-true}
 use lib.Dec.{eqb, ltb}
 use lib.ListN.{length, getD, List·getD-eq-default}
-use Rattle.limits.specs.Limits.{locksMost, deskSize}
+use Rattle.limits.specs.Limits.{keySize, locksMost, deskSize}
 use Rattle.lists.specs.Lists.{tab, all, pairs}
 use Rattle.lists.proofs.Tests.{both, and-both, either, or-left, or-right, fails, eqb-turn}
 use Rattle.lists.proofs.Tables.{all-tab, all-of-tab}
@@ -153,8 +153,8 @@ pairs-in-tab r (suc n) i f h a b l k u =
 none-past : (d : List ℕ) (i : ℕ) → length d ≡ deskSize → locksMost ≤ i → slotAt d i ≡ none
 unfolding slotAt slotIn fieldsAt
 none-past d i size h =
-    let z : numberAt 2 d (lockPlace i + 8) ≡ 0 =
-    numberAt-ext 2 {t = []} {b = 0} (record { byte = λ k l. List·getD-eq-default d 0 {n = lockPlace i + 8 + k} (omega arith) }) ∙ number-none 2 0 in
+    let z : numberAt 2 d (lockPlace i + keySize) ≡ 0 =
+    numberAt-ext 2 {t = []} {b = 0} (record { byte = λ k l. List·getD-eq-default d 0 {n = lockPlace i + keySize + k} (omega arith) }) ∙ number-none 2 0 in
     rw z refl
 
 -- so where a test fails or passes other than of a free slot, it is of a slot

@@ -15,7 +15,7 @@ use Rattle.numbers.proofs.Agree.{Touches, touches-wider}
 use Rattle.numbers.proofs.Numbers.{number-apart, number-same, number-other, touches-putNumber}
 use Rattle.numbers.proofs.Fields.{fields-apart, touches-putFields}
 use Rattle.rules.specs.Kinds.{Mode, Name, Lock}
-use Rattle.queue.specs.QueueLayout.{headWidths, queued, queuePlace, inPlace, recordPlace, askAt, askWidths, putAsk}
+use Rattle.queue.specs.QueueLayout.{headWidths, queued, queuePlace, inPlace, recordPlace, askAt, askWidths, askSize, putAsk}
 use Rattle.locks.specs.SlotLayout.{lockWidths, lockPlace, slotFields, slotAt, putSlot}
 use Rattle.locks.specs.SlotMoves.{heldIn, freeIn, strengthened, lockTaken, locksReleased}
 use Rattle.queue.specs.QueueMoves.{markPut, markNumber}
@@ -27,7 +27,7 @@ module _ {b m : ℕ} {d u : List ℕ} (f : Touches b m d u) where
   unfolding widthOf
   head-beside h = fields-apart headWidths 0 f (omega arith)
 
-  pub ask-beside : (t : ℕ) → Apart (recordPlace t + 2) 22 b m → askAt u t ≡ askAt d t
+  pub ask-beside : (t : ℕ) → Apart (recordPlace t + 2) askSize b m → askAt u t ≡ askAt d t
   unfolding widthOf
   ask-beside t h = ask-of u t ∙ ap askOf (fields-apart askWidths (recordPlace t + 2) f h) ∙ sym (ask-of d t)
 
@@ -37,7 +37,7 @@ module _ {b m : ℕ} {d u : List ℕ} (f : Touches b m d u) where
   pub queued-beside : Apart 4 2 b m → queued u ≡ queued d
   queued-beside h = number-apart 2 4 f h
 
-pub touches-ask : (d : List ℕ) (t : ℕ) (vs : List ℕ) → Touches (recordPlace t + 2) 22 d (putAsk d t vs)
+pub touches-ask : (d : List ℕ) (t : ℕ) (vs : List ℕ) → Touches (recordPlace t + 2) askSize d (putAsk d t vs)
 unfolding putAsk widthOf
 touches-ask d t vs = touches-putFields askWidths d (recordPlace t + 2) vs
 

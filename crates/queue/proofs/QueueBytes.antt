@@ -25,7 +25,7 @@ use Rattle.rules.specs.Kinds.{Paging, Ask, Queued}
 use Rattle.rules.specs.Queue.{leave}
 use Rattle.rules.specs.Good.{otherAsker}
 use Rattle.rules.specs.Document.{document}
-use Rattle.queue.specs.QueueLayout.{headWidths, queued, queuePlace, inPlace, recordPlace, askAt, askFields, putAsk, queuedAt, queueOf}
+use Rattle.queue.specs.QueueLayout.{headWidths, queued, queuePlace, inPlace, recordPlace, askAt, askFields, putAsk, queuedAt, queueOf, askSize}
 use Rattle.queue.specs.QueueMoves.{waitsIn, queueJoined, queueLeft}
 use Rattle.queue.proofs.QueueOrder.{InOrder}
 use Rattle.queue.proofs.Frames.{touches-ask, ask-beside, place-beside, head-beside, head-count}
@@ -43,7 +43,7 @@ module _ (d : List ℕ) (t : ℕ) (a : Ask ℕ ℕ) (size : length d ≡ deskSiz
   abbrev placed : List ℕ
   placed = putNumber 2 asked (queuePlace (queued d)) t
 
-  abbrev touches-asked : Touches (recordPlace t + 2) 22 d asked
+  abbrev touches-asked : Touches (recordPlace t + 2) askSize d asked
   touches-asked = touches-ask d t (askFields a)
 
   abbrev touches-placed : Touches (queuePlace (queued d)) 2 asked placed
@@ -131,7 +131,7 @@ module _ (d : List ℕ) (q : ℕ) (size : length d ≡ deskSize) (order : InOrde
   q-low : q < transactionsMost
   q-low = let l = order .few in omega arith
 
-  touches-cleared : Touches (recordPlace leaver + 2) 22 d cleared
+  touches-cleared : Touches (recordPlace leaver + 2) askSize d cleared
   touches-cleared = touches-ask d leaver (0 ∷ 0 ∷ 0 ∷ 0 ∷ [])
 
   touches-closed : Touches (queuePlace q) (2 * (transactionsMost - 1 - q)) cleared closed

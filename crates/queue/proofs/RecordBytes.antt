@@ -14,7 +14,7 @@ use Rattle.numbers.proofs.Agree.{Touches}
 use Rattle.numbers.proofs.Numbers.{number-apart, number-same, touches-putNumber}
 use Rattle.numbers.proofs.Fields.{fields-apart, fields-same}
 use Rattle.rules.specs.Kinds.{Ask}
-use Rattle.queue.specs.QueueLayout.{queued, inPlace, recordPlace, recordWidths, recordAt, askWidths, askFields, putAsk}
+use Rattle.queue.specs.QueueLayout.{queued, inPlace, recordPlace, recordWidths, recordAt, askWidths, askSize, askFields, putAsk}
 use Rattle.queue.specs.QueueMoves.{queueJoined, queueLeft, markNumber, markPut}
 use Rattle.queue.proofs.QueueOrder.{InOrder}
 use Rattle.queue.proofs.Frames.{OnlyLocks, touches-ask}
@@ -58,7 +58,7 @@ record-asked d t vs size h fit =
     u : List ℕ
     u = putAsk d t vs
 
-    f : Touches p 22 d u
+    f : Touches p askSize d u
     f = touches-ask d t vs
 
     filler : List ℕ → ℕ

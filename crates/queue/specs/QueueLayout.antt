@@ -58,6 +58,9 @@ askAt d t = askIn (recordAt d t)
 abbrev pub askWidths : List ℕ
 askWidths = 2 ∷ 4 ∷ keySize ∷ keySize ∷ []
 
+abbrev pub askSize : ℕ
+askSize = 2 + 4 + keySize + keySize
+
 unfoldable pub askFields : Ask ℕ ℕ → List ℕ
 askFields (read lo hi) = 4 ∷ 0 ∷ lo ∷ hi ∷ []
 askFields (insert k r) = 5 ∷ r ∷ k ∷ 0 ∷ []

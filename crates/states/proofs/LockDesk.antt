@@ -12,7 +12,7 @@ use borrow.Author.Tests.{ltb-true}
 use lib.Dec.{eqb, ltb, lit≤}
 use lib.ListN.{getD, set, replicate, List·getD-map}
 use lib.Seq.{getD-set-same, getD-set-other}
-use Rattle.limits.specs.Limits.{locksMost, slotSize, slotsPlace, deskSize}
+use Rattle.limits.specs.Limits.{keySize, locksMost, slotSize, slotsPlace, deskSize}
 use Rattle.numbers.specs.Numbers.{numberAt, widthOf, fieldsAt, part, Bytes}
 use Rattle.numbers.proofs.Fields.{fields-same, fields-other}
 use Rattle.numbers.proofs.RecordTables.{rows-distinct}
@@ -100,14 +100,14 @@ module _ {d : List ℕ} {ls : List (Option (Lock ℕ))} {qs : List (Queued ℕ �
     freed-fields : (r : List ℕ) (x : Option (Lock ℕ)) → fieldsAt lockWidths r 0 ≡ slotFields x
         → fieldsAt lockWidths (rowFreed t r) 0 ≡ slotFields (freed (document P) t x)
     unfolding fieldsAt numberAt slotFields
-    freed-fields r none e = go (eqb (numberAt 2 r 8) t)
+    freed-fields r none e = go (eqb (numberAt 2 r keySize) t)
       where
         go : (b : Bool) → fieldsAt lockWidths (cond b (replicate slotSize 0) r) 0 ≡ 0 ∷ 0 ∷ 0 ∷ 0 ∷ []
         go true = refl
         go false = e
     freed-fields r (some l) e = go (eqb (l .holder) t) refl
       where
-        holder : numberAt 2 r 8 ≡ l .holder
+        holder : numberAt 2 r keySize ≡ l .holder
         holder = ap (λ vs. getD vs 1 0) e
 
         go : (b : Bool) → eqb (l .holder) t ≡ b → fieldsAt lockWidths (rowFreed t r) 0 ≡ slotFields (cond b none (some l))
@@ -126,7 +126,7 @@ module _ {d : List ℕ} {ls : List (Option (Lock ℕ))} {qs : List (Queued ℕ �
         fields s = fieldsAt-part lockWidths (lockPlace i) slotSize s 0 (lit≤ tt) ∙ ap (fieldsAt lockWidths s) (add-zero (lockPlace i))
 
     bytes-freed : (r : List ℕ) → Bytes r → Bytes (rowFreed t r)
-    bytes-freed r h = go (eqb (numberAt 2 r 8) t)
+    bytes-freed r h = go (eqb (numberAt 2 r keySize) t)
       where
         go : (b : Bool) → Bytes (cond b (replicate slotSize 0) r)
         go true = bytes-zeros slotSize
