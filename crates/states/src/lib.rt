@@ -1,1 +1,1 @@
-// The bytes of a desk as what they say: laws; no code of its own.
+// A picture as a state of the rule book, and when it is whole: definitions and laws; no code of its own.
