@@ -59,6 +59,96 @@ uint64_t keydesk_serve(uint8_t *pages, size_t pages_len, uint8_t *desk, size_t d
                        uint8_t *answers, size_t answers_len,
                        const uint8_t *request, size_t request_len);
 
+/* The two halves of what keydesk_serve returns. */
+static inline uint32_t keydesk_number(uint64_t returned) { return (uint32_t)(returned >> 32); }
+static inline uint32_t keydesk_answer_bytes(uint64_t returned) { return (uint32_t)returned; }
+
+/* ---- requests: each writes its record to `out` and returns its length. docs/FORMAT.md has every byte.
+ * A builder writes what it is given; keydesk_serve judges it and says 12 to what is no request. */
+#define KEYDESK_BEGIN 1
+#define KEYDESK_COMMIT 2
+#define KEYDESK_ROLLBACK 3
+#define KEYDESK_READ 4
+#define KEYDESK_INSERT 5
+#define KEYDESK_DELETE 6
+
+/* The longest request record, and an answer record. */
+#define KEYDESK_REQUEST 24
+#define KEYDESK_ANSWER 20
+
+/* Keys lie from 0 to KEYDESK_HIGHEST; the end of the index is no key. */
+#define KEYDESK_HIGHEST UINT64_C(18446744073709551614)
+#define KEYDESK_END UINT64_C(18446744073709551615)
+
+static inline void keydesk_put(uint8_t *out, size_t at, size_t width, uint64_t value) {
+    for (size_t i = 0; i < width; i++) out[at + i] = (uint8_t)(value >> (8 * i));
+}
+
+static inline uint64_t keydesk_get(const uint8_t *bytes, size_t at, size_t width) {
+    uint64_t value = 0;
+    for (size_t i = 0; i < width; i++) value |= (uint64_t)bytes[at + i] << (8 * i);
+    return value;
+}
+
+static inline size_t keydesk_head(uint8_t *out, size_t length, unsigned kind, uint16_t transaction) {
+    keydesk_put(out, 0, 2, length);
+    keydesk_put(out, 2, 2, kind);
+    keydesk_put(out, 4, 2, transaction);
+    keydesk_put(out, 6, 2, 0);
+    return length;
+}
+
+static inline size_t keydesk_begin(uint8_t out[KEYDESK_REQUEST], uint16_t transaction) {
+    return keydesk_head(out, 8, KEYDESK_BEGIN, transaction);
+}
+
+static inline size_t keydesk_commit(uint8_t out[KEYDESK_REQUEST], uint16_t transaction) {
+    return keydesk_head(out, 8, KEYDESK_COMMIT, transaction);
+}
+
+static inline size_t keydesk_rollback(uint8_t out[KEYDESK_REQUEST], uint16_t transaction) {
+    return keydesk_head(out, 8, KEYDESK_ROLLBACK, transaction);
+}
+
+static inline size_t keydesk_read(uint8_t out[KEYDESK_REQUEST], uint16_t transaction, uint64_t lo, uint64_t hi) {
+    keydesk_put(out, 8, 8, lo);
+    keydesk_put(out, 16, 8, hi);
+    return keydesk_head(out, 24, KEYDESK_READ, transaction);
+}
+
+static inline size_t keydesk_insert(uint8_t out[KEYDESK_REQUEST], uint16_t transaction, uint64_t key, uint32_t record) {
+    keydesk_put(out, 8, 8, key);
+    keydesk_put(out, 16, 4, record);
+    keydesk_put(out, 20, 4, 0);
+    return keydesk_head(out, 24, KEYDESK_INSERT, transaction);
+}
+
+static inline size_t keydesk_delete(uint8_t out[KEYDESK_REQUEST], uint16_t transaction, uint64_t key) {
+    keydesk_put(out, 8, 8, key);
+    return keydesk_head(out, 16, KEYDESK_DELETE, transaction);
+}
+
+/* ---- answers: what the call wrote, one record after the other. Each names the transaction that it is
+ * for: often another one than the caller's, since an end lets those run that waited. Whoever calls hands
+ * every answer on to the transaction that it names. */
+struct keydesk_answer {
+    uint16_t transaction;
+    uint16_t number; /* KEYDESK_DONE .. KEYDESK_CIRCLE */
+    uint64_t key;    /* in KEYDESK_FOUND and KEYDESK_KEY_PRESENT; otherwise 0 */
+    uint32_t record; /* likewise */
+};
+
+static inline uint32_t keydesk_answer_count(uint64_t returned) { return keydesk_answer_bytes(returned) / KEYDESK_ANSWER; }
+
+static inline struct keydesk_answer keydesk_answer_at(const uint8_t *answers, size_t i) {
+    const uint8_t *a = answers + KEYDESK_ANSWER * i;
+    struct keydesk_answer answer = {
+        (uint16_t)keydesk_get(a, 4, 2), (uint16_t)keydesk_get(a, 6, 2),
+        keydesk_get(a, 8, 8), (uint32_t)keydesk_get(a, 16, 4),
+    };
+    return answer;
+}
+
 #ifdef __cplusplus
 }
 #endif
