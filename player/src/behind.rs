@@ -45,25 +45,49 @@ pub fn target(standing: &Standing, waiting: &Waiting) -> Target {
     }
 }
 
-/// Everyone who blocks a waiting request, by number.
-pub fn behind(standing: &Standing, waiting: &Waiting) -> Vec<u16> {
+/// One who blocks a waiting request.
+#[derive(Clone, Copy, Debug, PartialEq, Eq)]
+pub struct Blocker {
+    pub transaction: u16,
+    pub why: Why,
+}
+
+/// Why someone blocks: a lock that is held, or else an earlier request for the same target.
+#[derive(Clone, Copy, Debug, PartialEq, Eq)]
+pub enum Why {
+    Holds(Mode),
+    AskedBefore,
+}
+
+/// Everyone who blocks a waiting request, by number. Of one who holds the target and has asked for
+/// more of it before, the lock is what is said.
+pub fn blockers(standing: &Standing, waiting: &Waiting) -> Vec<Blocker> {
     let asker = waiting.transaction;
     let wanted = target(standing, waiting);
     let on_target = || standing.locks.iter().filter(|lock| lock.name == wanted.name);
     let holders =
         on_target().filter(|lock| lock.holder != asker && conflict(lock.mode, wanted.mode));
-    let mut blockers: Vec<u16> = holders.map(|lock| lock.holder).collect();
+    let mut blockers: Vec<Blocker> = holders
+        .map(|lock| Blocker { transaction: lock.holder, why: Why::Holds(lock.mode) })
+        .collect();
     if on_target().all(|lock| lock.holder != asker) {
         let earlier = standing.queue.iter().take_while(|other| other.transaction != asker);
         let blocking = earlier.filter(|other| {
             let theirs = target(standing, other);
             theirs.name == wanted.name && conflict(theirs.mode, wanted.mode)
         });
-        blockers.extend(blocking.map(|other| other.transaction));
+        blockers.extend(
+            blocking.map(|other| Blocker { transaction: other.transaction, why: Why::AskedBefore }),
+        );
     }
-    blockers.sort();
-    blockers.dedup();
+    blockers.sort_by_key(|blocker| (blocker.transaction, blocker.why == Why::AskedBefore));
+    blockers.dedup_by_key(|blocker| blocker.transaction);
     blockers
+}
+
+/// The numbers of everyone who blocks a waiting request, ascending.
+pub fn behind(standing: &Standing, waiting: &Waiting) -> Vec<u16> {
+    blockers(standing, waiting).iter().map(|blocker| blocker.transaction).collect()
 }
 
 /// "S goes with S, everything else conflicts."

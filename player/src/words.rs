@@ -1,7 +1,10 @@
 //! What the desk says, in words (document 01, What the desk says).
 
+use crate::behind::{Blocker, Why, blockers, target};
 use crate::keys::{Form, Key, Written};
+use crate::picture::{Standing, Waiting};
 use crate::records::Answer;
+use crate::rows::numbers;
 use crate::text::{Asks, Request};
 use keydesk::number;
 
@@ -44,6 +47,29 @@ fn nothing(asks: &Asks) -> String {
         Asks::Delete { key } => format!("found no {key} to delete"),
         _ => "found nothing".to_string(),
     }
+}
+
+/// Behind whom a request waits, and why: "waits behind 1, who holds S on 7/30, and behind 3, who asked
+/// for it before".
+pub fn waits(standing: &Standing, waiting: &Waiting) -> String {
+    let name = standing.name(target(standing, waiting).name);
+    let (holding, asking): (Vec<Blocker>, Vec<Blocker>) = blockers(standing, waiting)
+        .into_iter()
+        .partition(|blocker| matches!(blocker.why, Why::Holds(_)));
+    let named = |those: &[Blocker]| {
+        numbers(&those.iter().map(|blocker| blocker.transaction).collect::<Vec<u16>>())
+    };
+    let mut behind = Vec::new();
+    // those who hold it and conflict with one request all hold it in one mode
+    if let Some(Blocker { why: Why::Holds(mode), .. }) = holding.first() {
+        let hold = if holding.len() == 1 { "holds" } else { "hold" };
+        behind.push(format!("behind {}, who {hold} {mode} on {name}", named(&holding)));
+    }
+    if !asking.is_empty() {
+        let it = if holding.is_empty() { name.as_str() } else { "it" };
+        behind.push(format!("behind {}, who asked for {it} before", named(&asking)));
+    }
+    format!("waits {}", behind.join(", and "))
 }
 
 /// A call that returned 10, 11 or 12, in words.

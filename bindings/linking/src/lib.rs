@@ -1,10 +1,12 @@
-//! For build scripts: builds the static library of a crate, which `rt` proves first, and links it;
-//! or a program. For tests: starts a program.
+//! For build scripts: has `rt` prove a crate and make its static library, which is then linked, or
+//! its program; where what was made before is still good, `rt` is not called. For tests: starts a
+//! program.
 
 use std::ffi::OsStr;
 use std::fs::{self, File};
 use std::path::{Path, PathBuf};
 use std::process::Command;
+use std::time::SystemTime;
 use std::{env, io};
 
 /// Builds and links the library of a crate, and gives the directory that it is linked from: a copy,
@@ -36,23 +38,64 @@ pub fn started(program: impl AsRef<OsStr>) -> Command {
     }
 }
 
-/// Has `rt` build a crate, and copies the file that it makes into the script's own directory.
+/// Has `rt` build a crate where that is due, and copies the file that it makes into the script's own
+/// directory.
 fn build(command: &str, name: &str, made: &Path) -> PathBuf {
     let out = PathBuf::from(env::var("OUT_DIR").expect("cargo names the directory"));
     let here = Path::new(env!("CARGO_MANIFEST_DIR"));
     let root = here.ancestors().nth(2).expect("the repository's root is two levels up");
+    let made = root.join(made);
+    let sources = sources(root, name);
     let turn = wait_for_turn(root).expect("a lock can be taken under target/");
-    eprintln!("rt {command} {name}: proves and compiles it, some minutes the first time");
-    let built = Command::new("rt").args([command, name]).current_dir(root).status();
-    assert!(built.expect("rt is to be found").success(), "rt {command} {name} failed");
+    if is_due(&made, &sources).expect("the sources can be looked at") {
+        eprintln!("rt {command} {name}: proves and compiles it, some minutes the first time");
+        make(root, command, name, &made);
+    }
     let file = made.file_name().expect("a file is made");
-    fs::copy(root.join(made), out.join(file)).expect("rt has written what it makes");
+    fs::copy(&made, out.join(file)).expect("rt has written what it makes");
     drop(turn);
-    println!("cargo::rerun-if-changed={}", root.join("crates.txt").display());
-    for known in crates_below(root, name) {
-        println!("cargo::rerun-if-changed={}", root.join("crates").join(known).display());
+    for source in sources {
+        println!("cargo::rerun-if-changed={}", source.display());
     }
     out
+}
+
+/// Has `rt` build a crate. What it makes gets the time at which it began, so that a source that is
+/// changed meanwhile is newer.
+fn make(root: &Path, command: &str, name: &str, made: &Path) {
+    let began = SystemTime::now();
+    let built = Command::new("rt").args([command, name]).current_dir(root).status();
+    assert!(built.expect("rt is to be found").success(), "rt {command} {name} failed");
+    let file = File::options().append(true).open(made).expect("rt has written what it makes");
+    file.set_modified(began).expect("a file of ours can be dated");
+}
+
+/// What a crate is made from: the list of the crates, and the folders of those that it reaches.
+fn sources(root: &Path, name: &str) -> Vec<PathBuf> {
+    let folders = crates_below(root, name).into_iter().map(|known| root.join("crates").join(known));
+    folders.chain([root.join("crates.txt")]).collect()
+}
+
+/// Whether a file is missing, or older than something that it is made from. A folder is newer when a
+/// file has been put into it or taken out.
+pub fn is_due(made: &Path, sources: &[PathBuf]) -> io::Result<bool> {
+    let made = match fs::metadata(made) {
+        Err(missing) if missing.kind() == io::ErrorKind::NotFound => return Ok(true),
+        found => found?.modified()?,
+    };
+    let mut rest = sources.to_vec();
+    while let Some(source) = rest.pop() {
+        let found = fs::metadata(&source)?;
+        if found.modified()? > made {
+            return Ok(true);
+        }
+        if found.is_dir() {
+            for inside in fs::read_dir(source)? {
+                rest.push(inside?.path());
+            }
+        }
+    }
+    Ok(false)
 }
 
 /// Cargo runs build scripts side by side, and `rt` must not prove one crate twice at a time.
