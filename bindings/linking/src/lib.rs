@@ -106,19 +106,20 @@ fn wait_for_turn(root: &Path) -> io::Result<File> {
     Ok(turn)
 }
 
-/// A crate and all that it knows, by the lines of crates.txt: a name, a colon, the names it knows.
+/// A crate and all that it reaches, by the lines of crates.txt: a name, a colon, the names it knows.
+/// A name that has no line of its own is one of the toolchain's libraries, and is left out.
 fn crates_below(root: &Path, top: &str) -> Vec<String> {
     let listed = fs::read_to_string(root.join("crates.txt")).expect("crates.txt can be read");
     let knows = |name: &str| {
         let lines = listed.lines().filter(|line| !line.starts_with('#'));
         let mut crates = lines.filter_map(|line| line.split_once(':'));
-        crates.find(|(listed, _)| listed.trim() == name).map_or("", |(_, known)| known)
+        crates.find(|(listed, _)| listed.trim() == name).map(|(_, known)| known)
     };
     let mut below = vec![top.to_string()];
     let mut next = 0;
     while let Some(name) = below.get(next).cloned() {
-        for known in knows(&name).split_whitespace() {
-            if below.iter().all(|listed| listed != known) {
+        for known in knows(&name).unwrap_or("").split_whitespace() {
+            if knows(known).is_some() && below.iter().all(|listed| listed != known) {
                 below.push(known.to_string());
             }
         }

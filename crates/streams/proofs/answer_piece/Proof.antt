@@ -22,8 +22,8 @@ wanted-requires c κs = search needs
 sub-if1 : tie.Need-sub-if1 Inv-loop μ-loop
 sub-if1 c = search needs
 
-sub-t10 : tie.Need-sub-t10 Inv-loop μ-loop
-sub-t10 c = search needs
+sub-t11 : tie.Need-sub-t11 Inv-loop μ-loop
+sub-t11 c = search needs
 
 same-length : tie.Need-same-length Inv-loop μ-loop
 same-length c = search needs
@@ -51,6 +51,9 @@ part-answer-end c = search needs
 
 answer-requires : tie.Need-answer-requires Inv-loop μ-loop
 answer-requires c κs = search needs
+
+enum-told : tie.Need-enum-told Inv-loop μ-loop
+enum-told c = search needs
 
 same-length-4 : tie.Need-same-length-4 Inv-loop μ-loop
 same-length-4 c = search needs
@@ -94,7 +97,7 @@ answer-piece-spec =
     loop-holds
     wanted-requires
     sub-if1
-    sub-t10
+    sub-t11
     same-length
     same-length-2
     same-length-3
@@ -104,6 +107,7 @@ answer-piece-spec =
     part-answer-start
     part-answer-end
     answer-requires
+    enum-told
     same-length-4
     same-length-5
     same-length-6

@@ -9,16 +9,25 @@ use Rattle.streams.proofs.go_through.Statement.{statement}
 use Rattle.streams.proofs.go_through.Tie as tie
 
 abbrev Inv-loop : tie.InvT-loop
-Inv-loop pages₀ desk₀ answers₀ input₀ left₀ turns₀ pages desk answers input left turns = (left ≤ readSize) × ((length input ≡ 65536) × ((length pages ≡ length pages₀) × ((length desk ≡ length desk₀) × (length answers ≡ length answers₀))))
+Inv-loop pages₀ desk₀ answers₀ input₀ left₀ at₀ turns₀ pages desk answers input left at turns = (left ≤ readSize) × ((length input ≡ 65536) × ((length pages ≡ length pages₀) × ((length desk ≡ length desk₀) × (length answers ≡ length answers₀))))
 
 abbrev μ-loop : tie.MeasureT-loop
-μ-loop pages₀ desk₀ answers₀ input₀ left₀ turns₀ pages desk answers input left turns = turns
+μ-loop pages₀ desk₀ answers₀ input₀ left₀ at₀ turns₀ pages desk answers input left at turns = turns
 
 loop-holds : tie.Need-loop-holds Inv-loop μ-loop
 loop-holds c = search needs
 
 go-on-requires : tie.Need-go-on-requires Inv-loop μ-loop
 go-on-requires c κs = search needs
+
+wrapping-add-u64-requires : tie.Need-wrapping-add-u64-requires Inv-loop μ-loop
+wrapping-add-u64-requires c κs = search needs
+
+enum-told : tie.Need-enum-told Inv-loop μ-loop
+enum-told c = search needs
+
+say-requires : tie.Need-say-requires Inv-loop μ-loop
+say-requires c κs = search needs
 
 same-length : tie.Need-same-length Inv-loop μ-loop
 same-length c = search needs
@@ -44,6 +53,9 @@ loop-less c = search needs
 loop-again : tie.Need-loop-again Inv-loop μ-loop
 loop-again c = search needs
 
+say-requires-2 : tie.Need-say-requires-2 Inv-loop μ-loop
+say-requires-2 c κs = search needs
+
 same-length-5 : tie.Need-same-length-5 Inv-loop μ-loop
 same-length-5 c = search needs
 
@@ -67,6 +79,9 @@ go-through-spec =
     μ-loop
     loop-holds
     go-on-requires
+    wrapping-add-u64-requires
+    enum-told
+    say-requires
     same-length
     same-length-2
     same-length-3
@@ -75,6 +90,7 @@ go-through-spec =
     sub-turns
     loop-less
     loop-again
+    say-requires-2
     same-length-5
     same-length-6
     same-length-7
