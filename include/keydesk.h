@@ -4,6 +4,24 @@
  * between calls, allocates nothing and reads and writes only what it is lent: everything stands in
  * the caller's pages and desk, together "the picture". Slices of one call must not overlap. A slice
  * may have any length and hold any bytes: what is wrong with it is said by the number.
+ *
+ * A call serves one request record and writes answer records. Each answer names the transaction
+ * that it is for, and ANSWERS TO OTHER TRANSACTIONS COME IN ONE'S OWN CALL: a commit lets those run
+ * that waited behind it. So whoever calls goes through all answers of the call and hands each to
+ * the transaction that it names. One that was told KEYDESK_STILL_QUEUED gets its answer so, in
+ * somebody else's call, and asks nothing until then; only a rollback is heard meanwhile.
+ *
+ *   uint8_t request[KEYDESK_REQUEST];
+ *   size_t length = keydesk_read(request, 2, 50, 150);
+ *   uint64_t returned = keydesk_serve(pages, sizeof pages, desk, sizeof desk,
+ *                                     answers, sizeof answers, request, length);
+ *   if (keydesk_number(returned) != KEYDESK_DONE) ... refused, nothing changed ...
+ *   for (uint32_t i = 0; i < keydesk_answer_count(returned); i++) {
+ *       struct keydesk_answer answer = keydesk_answer_at(answers, i);
+ *       ... hand it to answer.transaction ...
+ *   }
+ *
+ * docs/FORMAT.md has every byte, docs/USING.md the loop around it, examples/c/server.c a whole one.
  */
 #ifndef KEYDESK_H
 #define KEYDESK_H
@@ -20,9 +38,12 @@ extern "C" {
 #define KEYDESK_DESK 4672
 #define KEYDESK_ANSWERS 320
 
+/* Transactions are numbered 1 to 16, by the caller. */
+#define KEYDESK_TRANSACTIONS 16
+
 /* What the desk says. 0 and 10 to 12 are returned by a call; all but 10 to 12 stand in answer
  * records. With 17, 18 and 19 the transaction lives on and keeps what it has. */
-#define KEYDESK_DONE 0            /* begin, commit, rollback, insert or delete done; a call: served */
+#define KEYDESK_DONE 0            /* begin, commit, rollback, insert, delete done; a call: served */
 #define KEYDESK_FOUND 1           /* read: an entry from lo to hi, with its key and record */
 #define KEYDESK_NOTHING 2         /* read: nothing from lo to hi; delete: the key is absent */
 #define KEYDESK_STILL_QUEUED 3    /* the request waits */
@@ -59,12 +80,21 @@ uint64_t keydesk_serve(uint8_t *pages, size_t pages_len, uint8_t *desk, size_t d
                        uint8_t *answers, size_t answers_len,
                        const uint8_t *request, size_t request_len);
 
-/* The two halves of what keydesk_serve returns. */
-static inline uint32_t keydesk_number(uint64_t returned) { return (uint32_t)(returned >> 32); }
-static inline uint32_t keydesk_answer_bytes(uint64_t returned) { return (uint32_t)returned; }
+/* The two halves of what keydesk_serve returns: its number, and how many bytes of answers stand at
+ * the start of the answer space. */
+static inline uint32_t keydesk_number(uint64_t returned) {
+    return (uint32_t)(returned >> 32);
+}
 
-/* ---- requests: each writes its record to `out` and returns its length. docs/FORMAT.md has every byte.
- * A builder writes what it is given; keydesk_serve judges it and says 12 to what is no request. */
+static inline uint32_t keydesk_answer_bytes(uint64_t returned) {
+    return (uint32_t)returned;
+}
+
+/* Requests. Each function writes a record to the start of `out`, which has KEYDESK_REQUEST bytes,
+ * and returns the record's length. It writes what it is given: keydesk_serve judges, and says 12 to
+ * what is no request. */
+#define KEYDESK_REQUEST 24 /* the longest request record */
+
 #define KEYDESK_BEGIN 1
 #define KEYDESK_COMMIT 2
 #define KEYDESK_ROLLBACK 3
@@ -72,14 +102,24 @@ static inline uint32_t keydesk_answer_bytes(uint64_t returned) { return (uint32_
 #define KEYDESK_INSERT 5
 #define KEYDESK_DELETE 6
 
-/* The longest request record, and an answer record. */
-#define KEYDESK_REQUEST 24
-#define KEYDESK_ANSWER 20
-
-/* Keys lie from 0 to KEYDESK_HIGHEST; the end of the index is no key. */
+/* Keys: the pupil in the upper 32 bits, the delivery in the lower. They go from 0 to
+ * KEYDESK_HIGHEST; the end of the index is no key. */
 #define KEYDESK_HIGHEST UINT64_C(18446744073709551614)
 #define KEYDESK_END UINT64_C(18446744073709551615)
 
+static inline uint64_t keydesk_key(uint32_t pupil, uint32_t delivery) {
+    return (uint64_t)pupil << 32 | delivery;
+}
+
+static inline uint32_t keydesk_pupil(uint64_t key) {
+    return (uint32_t)(key >> 32);
+}
+
+static inline uint32_t keydesk_delivery(uint64_t key) {
+    return (uint32_t)key;
+}
+
+/* A number of `width` bytes at a place, the lowest byte first: written, and read. */
 static inline void keydesk_put(uint8_t *out, size_t at, size_t width, uint64_t value) {
     for (size_t i = 0; i < width; i++) out[at + i] = (uint8_t)(value >> (8 * i));
 }
@@ -90,7 +130,9 @@ static inline uint64_t keydesk_get(const uint8_t *bytes, size_t at, size_t width
     return value;
 }
 
-static inline size_t keydesk_head(uint8_t *out, size_t length, unsigned kind, uint16_t transaction) {
+/* The eight bytes that every request begins with. Returns the length. */
+static inline size_t keydesk_head(uint8_t *out, size_t length, unsigned kind,
+                                  uint16_t transaction) {
     keydesk_put(out, 0, 2, length);
     keydesk_put(out, 2, 2, kind);
     keydesk_put(out, 4, 2, transaction);
@@ -98,54 +140,59 @@ static inline size_t keydesk_head(uint8_t *out, size_t length, unsigned kind, ui
     return length;
 }
 
-static inline size_t keydesk_begin(uint8_t out[KEYDESK_REQUEST], uint16_t transaction) {
+static inline size_t keydesk_begin(uint8_t *out, uint16_t transaction) {
     return keydesk_head(out, 8, KEYDESK_BEGIN, transaction);
 }
 
-static inline size_t keydesk_commit(uint8_t out[KEYDESK_REQUEST], uint16_t transaction) {
+static inline size_t keydesk_commit(uint8_t *out, uint16_t transaction) {
     return keydesk_head(out, 8, KEYDESK_COMMIT, transaction);
 }
 
-static inline size_t keydesk_rollback(uint8_t out[KEYDESK_REQUEST], uint16_t transaction) {
+static inline size_t keydesk_rollback(uint8_t *out, uint16_t transaction) {
     return keydesk_head(out, 8, KEYDESK_ROLLBACK, transaction);
 }
 
-static inline size_t keydesk_read(uint8_t out[KEYDESK_REQUEST], uint16_t transaction, uint64_t lo, uint64_t hi) {
+/* The first entry from lo to hi. */
+static inline size_t keydesk_read(uint8_t *out, uint16_t transaction, uint64_t lo, uint64_t hi) {
     keydesk_put(out, 8, 8, lo);
     keydesk_put(out, 16, 8, hi);
     return keydesk_head(out, 24, KEYDESK_READ, transaction);
 }
 
-static inline size_t keydesk_insert(uint8_t out[KEYDESK_REQUEST], uint16_t transaction, uint64_t key, uint32_t record) {
+static inline size_t keydesk_insert(uint8_t *out, uint16_t transaction, uint64_t key,
+                                    uint32_t record) {
     keydesk_put(out, 8, 8, key);
     keydesk_put(out, 16, 4, record);
     keydesk_put(out, 20, 4, 0);
     return keydesk_head(out, 24, KEYDESK_INSERT, transaction);
 }
 
-static inline size_t keydesk_delete(uint8_t out[KEYDESK_REQUEST], uint16_t transaction, uint64_t key) {
+static inline size_t keydesk_delete(uint8_t *out, uint16_t transaction, uint64_t key) {
     keydesk_put(out, 8, 8, key);
     return keydesk_head(out, 16, KEYDESK_DELETE, transaction);
 }
 
-/* ---- answers: what the call wrote, one record after the other. Each names the transaction that it is
- * for: often another one than the caller's, since an end lets those run that waited. Whoever calls hands
- * every answer on to the transaction that it names. */
+/* Answers: how many a call has written, and each of them by its place from 0 on. */
+#define KEYDESK_ANSWER 20 /* an answer record */
+
 struct keydesk_answer {
-    uint16_t transaction;
-    uint16_t number; /* KEYDESK_DONE .. KEYDESK_CIRCLE */
-    uint64_t key;    /* in KEYDESK_FOUND and KEYDESK_KEY_PRESENT; otherwise 0 */
-    uint32_t record; /* likewise */
+    uint16_t transaction; /* whom it is for, which is often not the caller's */
+    uint16_t number;      /* KEYDESK_DONE to KEYDESK_CIRCLE, never 10 to 12 */
+    uint64_t key;         /* with KEYDESK_FOUND and KEYDESK_KEY_PRESENT; otherwise 0 */
+    uint32_t record;      /* likewise */
 };
 
-static inline uint32_t keydesk_answer_count(uint64_t returned) { return keydesk_answer_bytes(returned) / KEYDESK_ANSWER; }
+static inline uint32_t keydesk_answer_count(uint64_t returned) {
+    return keydesk_answer_bytes(returned) / KEYDESK_ANSWER;
+}
 
-static inline struct keydesk_answer keydesk_answer_at(const uint8_t *answers, size_t i) {
-    const uint8_t *a = answers + KEYDESK_ANSWER * i;
-    struct keydesk_answer answer = {
-        (uint16_t)keydesk_get(a, 4, 2), (uint16_t)keydesk_get(a, 6, 2),
-        keydesk_get(a, 8, 8), (uint32_t)keydesk_get(a, 16, 4),
-    };
+static inline struct keydesk_answer keydesk_answer_at(const uint8_t *answers, uint32_t place) {
+    const uint8_t *record = answers + (size_t)KEYDESK_ANSWER * place;
+    struct keydesk_answer answer;
+    answer.transaction = (uint16_t)keydesk_get(record, 4, 2);
+    answer.number = (uint16_t)keydesk_get(record, 6, 2);
+    answer.key = keydesk_get(record, 8, 8);
+    answer.record = (uint32_t)keydesk_get(record, 16, 4);
     return answer;
 }
 

@@ -33,5 +33,8 @@ int main(void) {
            (unsigned long)keydesk_answer_bytes(refused));
     printf("served %lu %lu\n", (unsigned long)keydesk_number(returned),
            (unsigned long)keydesk_answer_bytes(returned));
+    uint64_t key = keydesk_key(7, 25);
+    printf("key %llu of %lu and %lu\n", (unsigned long long)key, (unsigned long)keydesk_pupil(key),
+           (unsigned long)keydesk_delivery(key));
     return 0;
 }

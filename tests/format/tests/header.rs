@@ -15,6 +15,7 @@ fn the_lengths_are_the_limits() {
         ("KEYDESK_ANSWERS", "spaceLeast"),
         ("KEYDESK_ANSWER", "answerSize"),
         ("KEYDESK_REQUEST", "readSize"),
+        ("KEYDESK_TRANSACTIONS", "transactionsMost"),
     ];
     for (name, limit) in lengths {
         assert_eq!(defined[name], limits.value(limit) as u64, "{name}");
@@ -67,6 +68,7 @@ fn the_numbers_are_the_pages() {
         "KEYDESK_HIGHEST",
         "KEYDESK_PAGES",
         "KEYDESK_REQUEST",
+        "KEYDESK_TRANSACTIONS",
     ];
     assert_eq!(left, lengths_and_keys);
 }
@@ -98,7 +100,7 @@ fn the_builders_and_readers_are_the_pages_examples() {
         .collect();
     // 0x0102030405060708 and 0xff0b0a09, as the bytes of c/records.c have them
     let read = "answer 1 0 0 0\nanswer 258 16 72623859790382856 4278913545\n\
-                refused 11 0\nserved 0 40\n";
+                refused 11 0\nserved 0 40\nkey 30064771097 of 7 and 25\n";
     for language in [["-x", "c", "-std=c99"], ["-x", "c", "-std=c11"], ["-x", "c++", "-std=c++11"]]
     {
         assert_eq!(written(&language), format!("{requests}{read}"), "{language:?}");
