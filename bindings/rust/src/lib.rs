@@ -3,8 +3,8 @@
 //! its own. The rules are document 01's; `include/keydesk.h` declares the same for C.
 //!
 //! A [`Desk`] is asked one [`Request`] at a time and gives [`Answers`]. **Answers to other
-//! transactions come in one's own call**: a commit is followed by answers to those who waited behind
-//! it. So whoever asks hands every answer to the transaction that it names.
+//! transactions come in one's own call**: a commit is followed by answers to those who waited
+//! behind it. So whoever asks hands every answer to the transaction that it names.
 //!
 //! ```
 //! use keydesk::{Desk, Key, Number, Refusal, Request};
