@@ -84,39 +84,40 @@ static const char *refusal(uint32_t number) {
 }
 
 /* Builds what the tablet asks at its turn, and gives the length; 0 where it asks nothing. */
-static size_t built(const struct tablet *t) {
-    const struct step *step = t->work + t->step;
-    if (t->turn == RETRIES || t->turn == GIVES_UP) return keydesk_rollback(request, t->transaction);
-    if (t->turn == WAITS || t->step == t->steps) return 0;
+static size_t built(const struct tablet *tablet) {
+    const struct step *step = tablet->work + tablet->step;
+    uint16_t by = tablet->transaction;
+    if (tablet->turn == RETRIES || tablet->turn == GIVES_UP) return keydesk_rollback(request, by);
+    if (tablet->turn == WAITS || tablet->step == tablet->steps) return 0;
     switch (step->kind) {
-    case KEYDESK_BEGIN: return keydesk_begin(request, t->transaction);
-    case KEYDESK_READ: return keydesk_read(request, t->transaction, t->lo, step->hi);
-    case KEYDESK_INSERT: return keydesk_insert(request, t->transaction, step->lo, step->record);
-    case KEYDESK_DELETE: return keydesk_delete(request, t->transaction, step->lo);
-    default: return keydesk_commit(request, t->transaction);
+    case KEYDESK_BEGIN: return keydesk_begin(request, by);
+    case KEYDESK_READ: return keydesk_read(request, by, tablet->lo, step->hi);
+    case KEYDESK_INSERT: return keydesk_insert(request, by, step->lo, step->record);
+    case KEYDESK_DELETE: return keydesk_delete(request, by, step->lo);
+    default: return keydesk_commit(request, by);
     }
 }
 
 /* Goes on with a step of the work. Before the first and after the last one it has no transaction:
  * what it had is committed or rolled back, and the number is free again. */
-static void go_to(struct tablet *t, size_t step) {
-    t->step = step;
-    t->turn = ASKS;
-    if (step < t->steps) t->lo = t->work[step].lo;
-    if (step == 0 || step == t->steps) t->transaction = 0;
+static void go_to(struct tablet *tablet, size_t step) {
+    tablet->step = step;
+    tablet->turn = ASKS;
+    if (step < tablet->steps) tablet->lo = tablet->work[step].lo;
+    if (step == 0 || step == tablet->steps) tablet->transaction = 0;
 }
 
 /* A walk goes on above the key found; where that was hi, it has seen all. */
-static void walk_on(struct tablet *t, uint64_t found) {
-    t->turn = ASKS;
-    t->lo = found + 1;
-    if (found == t->work[t->step].hi) go_to(t, t->step + 1);
+static void walk_on(struct tablet *tablet, uint64_t found) {
+    tablet->turn = ASKS;
+    tablet->lo = found + 1;
+    if (found == tablet->work[tablet->step].hi) go_to(tablet, tablet->step + 1);
 }
 
 /* Rolls back, so that others can go on, and tries again after them, but not for ever. */
-static void try_again(struct tablet *t) {
-    t->tries++;
-    t->turn = t->tries <= TRIES ? RETRIES : GIVES_UP;
+static void try_again(struct tablet *tablet) {
+    tablet->tries++;
+    tablet->turn = tablet->tries <= TRIES ? RETRIES : GIVES_UP;
 }
 
 static void say_entry(const char *before, uint64_t key, const char *after, uint32_t record) {
@@ -124,49 +125,52 @@ static void say_entry(const char *before, uint64_t key, const char *after, uint3
 }
 
 /* A rollback is done: the work begins again, or is over. */
-static void rolled_back(struct tablet *t) {
-    int again = t->turn == RETRIES;
+static void rolled_back(struct tablet *tablet) {
+    int again = tablet->turn == RETRIES;
     printf("rolled back, and %s", again ? "begins its work again" : "gives up");
-    go_to(t, again ? 0 : t->steps);
+    go_to(tablet, again ? 0 : tablet->steps);
 }
 
 /* A step is done: says so, and goes on to the next one. */
-static void step_done(struct tablet *t) {
-    const struct step *step = t->work + t->step;
+static void step_done(struct tablet *tablet) {
+    const struct step *step = tablet->work + tablet->step;
     switch (step->kind) {
-    case KEYDESK_BEGIN: printf("begun as transaction %u", (unsigned)t->transaction); break;
+    case KEYDESK_BEGIN: printf("begun as transaction %u", (unsigned)tablet->transaction); break;
     case KEYDESK_INSERT: say_entry("inserted ", step->lo, " with record ", step->record); break;
     case KEYDESK_DELETE: printf("deleted %u/%u", PUPIL(step->lo), DELIVERY(step->lo)); break;
     default: printf("committed"); break;
     }
-    go_to(t, t->step + 1);
+    go_to(tablet, tablet->step + 1);
 }
 
 /* The tablet is told an answer: says it in words, and settles what the tablet does next. */
-static void told(struct tablet *t, struct keydesk_answer answer) {
+static void told(struct tablet *tablet, struct keydesk_answer answer) {
     switch (answer.number) {
     case KEYDESK_DONE:
-        if (t->turn == RETRIES || t->turn == GIVES_UP) rolled_back(t);
-        else step_done(t);
+        if (tablet->turn == RETRIES || tablet->turn == GIVES_UP) rolled_back(tablet);
+        else step_done(tablet);
         break;
     case KEYDESK_FOUND:
         say_entry("found ", answer.key, " with record ", answer.record);
-        walk_on(t, answer.key);
+        walk_on(tablet, answer.key);
         break;
-    case KEYDESK_NOTHING: printf("found nothing"); go_to(t, t->step + 1); break;
-    case KEYDESK_STILL_QUEUED: printf("waits"); t->turn = WAITS; break;
+    case KEYDESK_NOTHING: printf("found nothing"); go_to(tablet, tablet->step + 1); break;
+    case KEYDESK_STILL_QUEUED: printf("waits"); tablet->turn = WAITS; break;
     case KEYDESK_KEY_PRESENT:
         say_entry("", answer.key, " is there already, with record ", answer.record);
-        go_to(t, t->step + 1);
+        go_to(tablet, tablet->step + 1);
         break;
-    case KEYDESK_LOCKS_IN_USE: printf("turned away: all 256 locks are in use"); try_again(t); break;
+    case KEYDESK_LOCKS_IN_USE:
+        printf("turned away: all 256 locks are in use");
+        try_again(tablet);
+        break;
     case KEYDESK_PAGES_SHORT:
         printf("turned away: no page is left for another key");
-        t->turn = GIVES_UP;
+        tablet->turn = GIVES_UP;
         break;
     case KEYDESK_CIRCLE:
         printf("turned away: it was the newest in a circle of waits");
-        try_again(t);
+        try_again(tablet);
         break;
     case KEYDESK_ALREADY_RUNNING: stop("lost track of a tablet", "it has begun already"); break;
     case KEYDESK_NOT_RUNNING: stop("lost track of a tablet", "it isn't running"); break;
@@ -190,36 +194,38 @@ static uint16_t free_number(struct tablet *tablets, size_t count) {
     return number;
 }
 
-/* Asks for one tablet, and hands every answer to the tablet whose transaction it names. */
-static void call(struct tablet *tablets, size_t count, struct tablet *caller) {
+/* Asks for one tablet, and hands every answer to the tablet whose transaction it names. Gives 0
+ * where the tablet asks nothing. */
+static int call(struct tablet *tablets, size_t count, struct tablet *caller) {
     if (caller->step == 0 && caller->turn == ASKS)
         caller->transaction = free_number(tablets, count);
     size_t length = built(caller);
-    if (length == 0) return;
+    if (length == 0) return 0;
     uint64_t returned = serve(length);
     if (keydesk_number(returned) != KEYDESK_DONE)
         stop("the desk refused a call", refusal(keydesk_number(returned)));
     for (uint32_t i = 0; i < keydesk_answer_count(returned); i++) {
         struct keydesk_answer answer = keydesk_answer_at(answers, i);
-        struct tablet *t = named(tablets, count, answer.transaction);
-        if (t == NULL) stop("an answer", "it names nobody");
-        printf("tablet %d: ", t->number);
-        told(t, answer);
-        if (t != caller) printf(", in tablet %d's call", caller->number);
+        struct tablet *tablet = named(tablets, count, answer.transaction);
+        if (tablet == NULL) stop("an answer", "it names nobody");
+        printf("tablet %d: ", tablet->number);
+        told(tablet, answer);
+        if (tablet != caller) printf(", in tablet %d's call", caller->number);
         printf("\n");
     }
+    return 1;
 }
 
-/* Takes turns until every work has ended. Somebody can always ask: nobody waits in a circle. */
+/* Takes turns until nobody asks any more. All works have ended then, since nobody waits in a
+ * circle: whoever waits, waits for one who can ask. */
 static void take_turns(struct tablet *tablets, size_t count) {
-    size_t ended = 0;
-    while (ended < count) {
-        ended = 0;
-        for (size_t i = 0; i < count; i++) {
-            call(tablets, count, &tablets[i]);
-            ended += tablets[i].step == tablets[i].steps;
-        }
+    int asked = 1;
+    while (asked) {
+        asked = 0;
+        for (size_t i = 0; i < count; i++) asked |= call(tablets, count, &tablets[i]);
     }
+    for (size_t i = 0; i < count; i++)
+        if (tablets[i].step < tablets[i].steps) stop("lost track of a tablet", "it waits for ever");
 }
 
 /* Writes the picture to a new file, and then puts that in the place of the old one. */

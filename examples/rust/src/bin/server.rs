@@ -134,16 +134,21 @@ impl Tablet {
     }
 }
 
-/// Takes turns until every work has ended. Somebody can always ask: nobody waits in a circle.
+/// Takes turns until nobody asks any more. All works have ended then, since nobody waits in a
+/// circle: whoever waits, waits for one who can ask.
 fn take_turns(desk: &mut Desk, tablets: &mut [Tablet]) -> Result<(), String> {
-    while tablets.iter().any(|tablet| tablet.step < tablet.work.len()) {
+    let mut asked = true;
+    while asked {
+        asked = false;
         for caller in 0..tablets.len() {
             if let Some(asks) = tablets[caller].asks() {
                 call(desk, tablets, caller, asks)?;
+                asked = true;
             }
         }
     }
-    Ok(())
+    let ended = tablets.iter().all(|tablet| tablet.step == tablet.work.len());
+    ended.then_some(()).ok_or("lost track of a tablet: it waits for ever".to_string())
 }
 
 /// Asks for one tablet, and hands every answer to the tablet whose transaction it names.
