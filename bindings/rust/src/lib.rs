@@ -1,68 +1,65 @@
 //! The proved key desk, called from Rust. A thin cover over the static library that `rt` makes of
-//! the crate `desk`: it passes slices on and takes the returned value apart, and adds no rule of
-//! its own. The rules are document 01's; `include/keydesk.h` declares the same functions for C.
+//! the crate `desk`: it writes requests as records, reads answers from theirs, and adds no rule of
+//! its own. The rules are document 01's; `include/keydesk.h` declares the same for C.
+//!
+//! A [`Desk`] is asked one [`Request`] at a time and gives [`Answers`]. **Answers to other
+//! transactions come in one's own call**: a commit is followed by answers to those who waited
+//! behind it. So whoever asks hands every answer to the transaction that it names.
 //!
 //! ```
-//! let mut picture = keydesk::Picture::fresh();
-//! let mut answers = [0; keydesk::ANSWERS];
-//! let begin_1 = [8, 0, 1, 0, 1, 0, 0, 0];
-//! let returned = picture.serve(&begin_1, &mut answers);
-//! assert_eq!((returned.number, returned.bytes), (keydesk::number::DONE, 20));
+//! use keydesk::{Desk, Key, Number, Refusal, Request};
+//!
+//! /// A desk, and what each of the transactions 1 to 16 was told last.
+//! struct Server {
+//!     desk: Desk,
+//!     told: [Option<Number>; 17],
+//! }
+//!
+//! impl Server {
+//!     fn ask(&mut self, request: Request) -> Result<(), Refusal> {
+//!         for answer in self.desk.ask(request)? {
+//!             self.told[usize::from(answer.transaction)] = Some(answer.says);
+//!         }
+//!         Ok(())
+//!     }
+//! }
+//!
+//! let mut server = Server { desk: Desk::fresh(), told: [None; 17] };
+//!
+//! // A coach (1) puts in a ball of pupil 7.
+//! server.ask(Request::begin(1))?;
+//! server.ask(Request::insert(1, Key::of(7, 30), 503))?;
+//!
+//! // The night job (2) reads all that pupil 7 can have. The ball may yet be taken back: it waits.
+//! server.ask(Request::begin(2))?;
+//! server.ask(Request::read(2, Key::of(7, 0), Key::of(7, u32::MAX)))?;
+//! assert_eq!(server.told[2], Some(Number::StillQueued));
+//!
+//! // The coach commits, and that call answers both.
+//! server.ask(Request::commit(1))?;
+//! assert_eq!(server.told[1], Some(Number::Done));
+//! assert_eq!(server.told[2], Some(Number::Found { key: Key::of(7, 30), record: 503 }));
+//! # Ok::<(), Refusal>(())
 //! ```
+//!
+//! `examples/rust/src/bin/server.rs` is a whole loop. Below the types are the two functions of the
+//! library, [`fresh`] and [`serve`], over slices of any length and any bytes.
 
+#![deny(missing_docs)]
+
+mod answer;
+mod desk;
+mod key;
 mod library;
 pub mod number;
+mod picture;
+mod refusal;
+mod request;
 
-/// How many bytes the pages have: 64 pages of 512.
-pub const PAGES: usize = 32_768;
-/// How many bytes the desk has: its head, the queue, 16 transactions and 256 locks.
-pub const DESK: usize = 4_672;
-/// How many bytes of answer space a call asks for: 16 answers of 20. More is welcome.
-pub const ANSWERS: usize = 320;
-
-/// What a call returns: number 0 with the bytes of the answers written, or 10, 11 or 12 with 0
-/// bytes and nothing changed.
-#[derive(Clone, Copy, Debug, PartialEq, Eq)]
-pub struct Returned {
-    pub number: u32,
-    pub bytes: u32,
-}
-
-/// Makes the picture fresh: an empty index and nobody running. Gives 0, or 10 with nothing written
-/// where the pages are not `PAGES` or the desk not `DESK` bytes.
-pub fn fresh(pages: &mut [u8], desk: &mut [u8]) -> u32 {
-    taken_apart(library::fresh(pages, desk)).number
-}
-
-/// Serves one request record on a picture. The slices may have any length and hold any bytes: what
-/// is wrong with them is said by the number. Answer bytes beyond those written keep their values.
-pub fn serve(pages: &mut [u8], desk: &mut [u8], answers: &mut [u8], request: &[u8]) -> Returned {
-    taken_apart(library::serve(pages, desk, answers, request))
-}
-
-/// The library returns number * 2^32 + answer bytes.
-fn taken_apart(returned: u64) -> Returned {
-    Returned { number: (returned >> 32) as u32, bytes: returned as u32 }
-}
-
-/// A picture of its own: pages and desk.
-#[derive(Clone, Debug, PartialEq, Eq)]
-pub struct Picture {
-    pub pages: Vec<u8>,
-    pub desk: Vec<u8>,
-}
-
-impl Picture {
-    /// The picture that every desk starts from.
-    pub fn fresh() -> Picture {
-        let mut picture = Picture { pages: vec![0; PAGES], desk: vec![0; DESK] };
-        let number = fresh(&mut picture.pages, &mut picture.desk);
-        assert_eq!(number, number::DONE, "a picture of the right lengths is made fresh");
-        picture
-    }
-
-    /// Serves one request record, as `serve` does.
-    pub fn serve(&mut self, request: &[u8], answers: &mut [u8]) -> Returned {
-        serve(&mut self.pages, &mut self.desk, answers, request)
-    }
-}
+pub use answer::{Answer, Answers, Number};
+pub use desk::Desk;
+pub use key::Key;
+pub use library::{ANSWER, ANSWERS, DESK, PAGES, REQUEST, Returned, fresh, serve};
+pub use picture::Picture;
+pub use refusal::Refusal;
+pub use request::{Asks, Record, Request};
