@@ -23,9 +23,8 @@ static uint8_t request[KEYDESK_REQUEST];
  * again from higher up until all up to hi was found. */
 struct step { int kind; uint64_t lo, hi; uint32_t record; };
 
+/* keydesk_key, as the constants of the works need it. */
 #define KEY(pupil, delivery) ((uint64_t)(pupil) << 32 | (delivery))
-#define PUPIL(key) ((unsigned)((key) >> 32))
-#define DELIVERY(key) ((unsigned)((key) & UINT32_MAX))
 
 #define BEGIN {KEYDESK_BEGIN, 0, 0, 0}
 #define WALK(last) {KEYDESK_READ, KEY(7, 0), KEY(7, last), 0}
@@ -120,8 +119,14 @@ static void try_again(struct tablet *tablet) {
     tablet->turn = tablet->tries <= TRIES ? RETRIES : GIVES_UP;
 }
 
+static void say_key(const char *before, uint64_t key) {
+    printf("%s%lu/%lu", before, (unsigned long)keydesk_pupil(key),
+           (unsigned long)keydesk_delivery(key));
+}
+
 static void say_entry(const char *before, uint64_t key, const char *after, uint32_t record) {
-    printf("%s%u/%u%s%u", before, PUPIL(key), DELIVERY(key), after, (unsigned)record);
+    say_key(before, key);
+    printf("%s%lu", after, (unsigned long)record);
 }
 
 /* A rollback is done: the work begins again, or is over. */
@@ -137,7 +142,7 @@ static void step_done(struct tablet *tablet) {
     switch (step->kind) {
     case KEYDESK_BEGIN: printf("begun as transaction %u", (unsigned)tablet->transaction); break;
     case KEYDESK_INSERT: say_entry("inserted ", step->lo, " with record ", step->record); break;
-    case KEYDESK_DELETE: printf("deleted %u/%u", PUPIL(step->lo), DELIVERY(step->lo)); break;
+    case KEYDESK_DELETE: say_key("deleted ", step->lo); break;
     default: printf("committed"); break;
     }
     go_to(tablet, tablet->step + 1);
@@ -190,7 +195,7 @@ static struct tablet *named(struct tablet *tablets, size_t count, uint16_t trans
 static uint16_t free_number(struct tablet *tablets, size_t count) {
     uint16_t number = 1;
     while (named(tablets, count, number) != NULL) number++;
-    if (number > 16) stop("no number is free", "all 16 transactions run");
+    if (number > KEYDESK_TRANSACTIONS) stop("no number is free", "all transactions run");
     return number;
 }
 

@@ -59,7 +59,7 @@ mod request;
 pub use answer::{Answer, Answers, Number};
 pub use desk::Desk;
 pub use key::Key;
-pub use library::{ANSWER, ANSWERS, DESK, PAGES, REQUEST, Returned, fresh, serve};
+pub use library::{ANSWER, ANSWERS, DESK, PAGES, REQUEST, Returned, TRANSACTIONS, fresh, serve};
 pub use picture::Picture;
 pub use refusal::Refusal;
 pub use request::{Asks, Record, Request};

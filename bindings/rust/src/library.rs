@@ -11,6 +11,9 @@ pub const REQUEST: usize = 24;
 /// How many bytes an answer record has.
 pub const ANSWER: usize = 20;
 
+/// Transactions are numbered 1 to 16, by the caller.
+pub const TRANSACTIONS: u16 = 16;
+
 /// What a call returns: number 0 with the bytes of the answers written, or 10, 11 or 12 with 0
 /// bytes and nothing changed.
 #[derive(Clone, Copy, Debug, PartialEq, Eq)]

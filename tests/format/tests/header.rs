@@ -25,11 +25,20 @@ fn the_lengths_are_the_limits() {
 }
 
 #[test]
-fn the_bindings_lengths_are_the_headers() {
+fn the_bindings_constants_are_the_headers() {
     let defined = defined();
-    let lengths = [keydesk::PAGES, keydesk::DESK, keydesk::ANSWERS].map(|length| length as u64);
-    let header = ["KEYDESK_PAGES", "KEYDESK_DESK", "KEYDESK_ANSWERS"].map(|name| defined[name]);
-    assert_eq!(lengths, header);
+    let lengths = [
+        ("KEYDESK_PAGES", keydesk::PAGES),
+        ("KEYDESK_DESK", keydesk::DESK),
+        ("KEYDESK_ANSWERS", keydesk::ANSWERS),
+        ("KEYDESK_ANSWER", keydesk::ANSWER),
+        ("KEYDESK_REQUEST", keydesk::REQUEST),
+        ("KEYDESK_TRANSACTIONS", usize::from(keydesk::TRANSACTIONS)),
+    ];
+    for (name, length) in lengths {
+        assert_eq!(defined[name], length as u64, "{name}");
+    }
+    assert_eq!(defined["KEYDESK_HIGHEST"], keydesk::Key::HIGHEST.0);
 }
 
 /// The request record that fits all is as long as the longest of the kinds.

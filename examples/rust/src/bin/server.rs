@@ -5,7 +5,7 @@
 //! `examples/c/server.c` is the same in C. Run with
 //! `cargo run --offline --manifest-path examples/rust/Cargo.toml --bin server -- FILE`.
 
-use keydesk::{Asks, Desk, Key, Number, Request};
+use keydesk::{Asks, Desk, Key, Number, Request, TRANSACTIONS};
 use std::fs::{self, File};
 use std::io::{ErrorKind, Write};
 use std::process::ExitCode;
@@ -174,7 +174,7 @@ fn call(desk: &mut Desk, tablets: &mut [Tablet], caller: usize, asks: Asks) -> R
 /// The lowest transaction number that no tablet has.
 fn free_number(tablets: &[Tablet]) -> Result<u16, String> {
     let free = |number: &u16| tablets.iter().all(|tablet| tablet.transaction != *number);
-    (1..=16).find(free).ok_or("all 16 transactions run".to_string())
+    (1..=TRANSACTIONS).find(free).ok_or("no number is free: all transactions run".to_string())
 }
 
 /// Writes the picture to a new file, and then puts that in the place of the old one.
