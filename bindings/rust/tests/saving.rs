@@ -1,7 +1,7 @@
 //! Saving and loading: what was saved is loaded, what is not a picture is refused, and a refused
 //! call has changed nothing.
 
-use keydesk::{Answer, DESK, Desk, Key, Number, PAGES, Refusal, Request};
+use keydesk::{Answer, DESK, Desk, Key, Number, PAGES, Refusal, Request, TRANSACTIONS};
 
 /// A desk with settled keys, an entry that 1 has inserted, and 2, which waits to read it.
 fn in_a_session() -> Desk {
@@ -53,6 +53,31 @@ fn a_session_goes_on_where_it_was_saved() {
     let expected =
         [Answer { transaction: 1, says: Number::Done }, Answer { transaction: 2, says: found }];
     assert_eq!(answers.collect::<Vec<_>>(), expected);
+}
+
+/// Whoever ran when it was saved is rolled back on what was loaded: what is left is what was
+/// committed, and nobody runs.
+#[test]
+fn all_are_rolled_back_after_loading() {
+    let mut desk = Desk::load(&in_a_session().saved()).expect("it was saved");
+    for transaction in 1..=TRANSACTIONS {
+        let answers = desk.ask(Request::rollback(transaction)).expect("a request record");
+        let own = answers.into_iter().find(|answer| answer.transaction == transaction);
+        let says = own.expect("the asker is answered").says;
+        let ran = transaction <= 2;
+        assert_eq!(says, if ran { Number::Done } else { Number::NotRunning });
+    }
+    let mut committed = Desk::fresh();
+    let requests = [
+        Request::begin(1),
+        Request::insert(1, Key::of(7, 10), 501),
+        Request::insert(1, Key::of(7, 20), 502),
+        Request::commit(1),
+    ];
+    for request in requests {
+        committed.ask(request).expect("a request record");
+    }
+    assert_eq!(desk, committed);
 }
 
 #[test]
