@@ -60,14 +60,23 @@ fn build(command: &str, name: &str, made: &Path) -> PathBuf {
     out
 }
 
-/// Has `rt` build a crate. What it makes gets the time at which it began, so that a source that is
-/// changed meanwhile is newer.
+/// Has `rt` build a crate. What lies below it is proved first, by a command that proves two crates at
+/// a time. What is made gets the time at which this began, so that a source that is changed
+/// meanwhile is newer.
 fn make(root: &Path, command: &str, name: &str, made: &Path) {
     let began = SystemTime::now();
-    let built = Command::new("rt").args([command, name]).current_dir(root).status();
-    assert!(built.expect("rt is to be found").success(), "rt {command} {name} failed");
+    let below = crates_below(root, name);
+    rt(root, ["check"].into_iter().chain(below[1..].iter().map(String::as_str)));
+    rt(root, [command, name]);
     let file = File::options().append(true).open(made).expect("rt has written what it makes");
     file.set_modified(began).expect("a file of ours can be dated");
+}
+
+/// Runs `rt`, which must end well.
+fn rt<'a>(root: &Path, words: impl IntoIterator<Item = &'a str>) {
+    let mut command = Command::new("rt");
+    let ended = command.args(words).current_dir(root).status();
+    assert!(ended.expect("rt is to be found").success(), "{command:?} failed");
 }
 
 /// What a crate is made from: the list of the crates, and the folders of those that it reaches.
