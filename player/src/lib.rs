@@ -6,6 +6,7 @@
 
 pub mod behind;
 pub mod bytes;
+pub mod circle;
 pub mod keys;
 pub mod picture;
 pub mod records;
