@@ -87,8 +87,10 @@ fn who_waits_is_drawn_at_its_target_and_with_an_arrow_to_whom_it_waits_behind() 
     let picture = drawn(&(settled(3) + asked));
     assert_eq!(count(&picture, "card"), 1, "2 runs");
     assert_eq!(count(&picture, "card waits"), 2);
-    assert!(picture.contains(">waits behind 2: delete 2<"));
-    assert!(picture.contains(">waits behind 2, 3: read 2..2<"));
+    assert!(picture.contains(">waits behind 2, who holds X on 2<"));
+    assert!(picture.contains(">delete 2 wants X on 2<"));
+    assert!(picture.contains(">waits behind 2, who holds X on 2, and behind 3, who asked for<"));
+    assert!(picture.contains(">it before<") && picture.contains(">read 2..2 wants S on 2<"));
     assert!(picture.contains(">delete 2 wants X<"));
     assert!(picture.contains(">read 2..2 wants S<"));
     let (to_target, between_cards, legend) = (1, 3, 1);
