@@ -1,11 +1,11 @@
-//! The circle behind an answer 19, worked out once more for the words only: the desk has found it, and
-//! keeps nothing of it. From outside one sees how things stand before a call and after it, while a 19
-//! may be said in its middle (document 01, Working the queue).
+//! The circle behind an answer 19, worked out once more for the words only: the desk has found it
+//! and keeps nothing of it. From outside one sees how things stand before a call and after it,
+//! while a 19 may be said in its middle (document 01, Working the queue).
 //!
 //! A 19 is said only when everyone in the queue is blocked. The oldest who waits at a name is then
-//! blocked by a holder, and for the rest of the call holders keep what they hold: whoever wants X there
-//! stays blocked. So only requests for S can run after a 19, and those change no entry. The index stood
-//! as it stands after the call; only queue and locks have to be taken back.
+//! blocked by a holder of it, and holders keep what they hold for the rest of the call: whoever
+//! wants X there stays blocked. So only requests for S can run after a 19, and those change no
+//! entry. The index stood as it stands after the call; only queue and locks are to be taken back.
 
 use crate::behind::{behind, target};
 use crate::keys::Key;
@@ -25,10 +25,9 @@ pub struct Call {
 }
 
 impl Call {
-    /// How things stood when the 19 at this place among the answers was said, with its request still in
-    /// the queue. Whoever was in the queue then had done nothing in this call yet, and held what it held
-    /// before it. Everyone else has done what it does in this call: begin, commit and rollback act and
-    /// answer first.
+    /// How things stood when the 19 at this place was said, with its request still in the queue.
+    /// Whoever was queued had done nothing in this call yet, and held what it held before it;
+    /// everyone else had done its part: begin, commit and rollback act and answer first.
     pub fn stood_at(&self, place: usize) -> Standing {
         let answered = |transaction| {
             self.answers[..place].iter().any(|answer| answer.transaction == transaction)
@@ -53,8 +52,8 @@ pub struct Link {
     pub at: Key,
 }
 
-/// The shortest circle of waits that starts and ends with a transaction; of several that are equally
-/// short, the one with the lowest numbers. None where it lies on no circle.
+/// The shortest circle of waits that starts and ends with a transaction; of several that are
+/// equally short, the one with the lowest numbers. None where it lies on no circle.
 pub fn circle(standing: &Standing, start: u16) -> Option<Vec<Link>> {
     let mut reached = BTreeSet::from([start]);
     let mut ways = VecDeque::from([(start, Vec::new())]);

@@ -1,9 +1,9 @@
-//! Text from outside, such as a session's line or a file's name, made fit to be printed and drawn. A
-//! terminal obeys control characters, XML forbids most of them, and marks that turn the direction of
-//! writing make a line look like another one.
+//! Text from outside, such as a session's line or a file's name, made fit to be printed and drawn.
+//! A terminal obeys control characters, XML forbids most of them, and marks that turn the direction
+//! of writing make a line look like another one.
 
-/// The text with a blank for each tab, and with each character that isn't to be passed on written as
-/// its number: `\u{1b}`. That is one form for all of them, and every terminal and font has its letters.
+/// The text with a blank for each tab, and with each character that isn't to be passed on written
+/// as its number: `\u{1b}`. It is one form for all of them, in letters that every font has.
 pub fn plain(text: &str) -> String {
     text.chars().map(plain_character).collect()
 }
@@ -53,8 +53,8 @@ pub fn cut(text: &str, most: usize) -> String {
     kept
 }
 
-/// The text made plain, broken at its blanks into lines of so many columns at most. A longer word is
-/// cut, and so is the text where it has more lines than are allowed.
+/// The text made plain, broken at its blanks into lines of so many columns at most. A longer word
+/// is cut, and so is the text where it has more lines than are allowed.
 pub fn wrapped(text: &str, most: usize, lines_allowed: usize) -> Vec<String> {
     let mut lines = vec![String::new()];
     for word in plain(text).split_whitespace() {

@@ -1,6 +1,6 @@
 //! What both drawings say. Of the index, row by row: an entry with its state, who holds it and who
-//! waits at it; in a large index entries that look alike stand together in one row. And the words for
-//! how large things are and what a waiting request wants.
+//! waits at it; in a large index entries that look alike stand together in one row. And the words
+//! for how large things are and what a waiting request wants.
 
 use crate::behind::{Target, target};
 use crate::keys::Key;

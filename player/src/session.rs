@@ -87,8 +87,8 @@ impl Session {
         Outcome::Called { record, said }
     }
 
-    /// The answer at this place in words, with the request that it answers: the asker's is this line's,
-    /// any other's the one that it waited with. A transaction gets at most one answer in a call.
+    /// The answer at this place in words, with the request that it answers: the asker's is this
+    /// line's, any other's the one it waited with. A call answers a transaction at most once.
     fn said(&mut self, line: usize, call: &Call, place: usize) -> Said {
         let answer = &call.answers[place];
         let this = Asked { line, asks: call.request.asks };

@@ -102,8 +102,8 @@ const REQUESTS: &str = "begin, commit, rollback, read, insert or delete";
 /// So many columns of a line's own text are quoted: every key that is nearly right fits.
 const QUOTED: usize = 24;
 
-/// A line without the white space around it, and without the byte order mark that some editors put in
-/// front of a file.
+/// A line without the white space around it, and without the byte order mark that some editors put
+/// in front of a file.
 pub fn trimmed(line: &str) -> &str {
     line.trim_start_matches('\u{feff}').trim()
 }

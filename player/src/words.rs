@@ -9,8 +9,8 @@ use crate::rows::numbers;
 use crate::text::{Asks, Request};
 use keydesk::number;
 
-/// What is said at this place among a call's answers, by the request that it answers: who waits is told
-/// behind whom, who is turned away at 19 the whole circle.
+/// What is said at this place among a call's answers, by the request that it answers: who waits is
+/// told behind whom, who is turned away at 19 the whole circle.
 pub fn said(call: &Call, place: usize, asks: &Asks) -> String {
     let said = &call.answers[place];
     let told = match said.number {
@@ -26,8 +26,8 @@ pub fn said(call: &Call, place: usize, asks: &Asks) -> String {
     told.unwrap_or_else(|| answer(said, asks))
 }
 
-/// An answer in words as far as the answer alone tells, by the request that it answers. A key in it is
-/// written as that request writes keys.
+/// An answer in words as far as the answer alone tells, by the request that it answers. A key in it
+/// is written as that request writes keys.
 pub fn answer(answer: &Answer, asks: &Asks) -> String {
     let form = asks.keys().first().map_or(Form::Number, |written| written.form);
     let key = Written { key: answer.key, form };
@@ -67,8 +67,8 @@ fn nothing(asks: &Asks) -> String {
     }
 }
 
-/// Behind whom a request waits, and why: "waits behind 1, who holds S on 7/30, and behind 3, who asked
-/// for it before".
+/// Behind whom a request waits, and why: "waits behind 1, who holds S on 7/30, and behind 3, who
+/// asked for it before".
 pub fn waits(standing: &Standing, waiting: &Waiting) -> String {
     let name = standing.name(target(standing, waiting).name);
     let (holding, asking): (Vec<Blocker>, Vec<Blocker>) = blockers(standing, waiting)
@@ -92,8 +92,8 @@ pub fn waits(standing: &Standing, waiting: &Waiting) -> String {
 
 const CIRCLE: &str = "turned away, the newest in a circle";
 
-/// The circle of one that was turned away, link by link: "turned away, the newest in a circle: 2 waits
-/// behind 1 at 7/30, 1 behind 2 at 7/40".
+/// The circle of one that was turned away, link by link: "turned away, the newest in a circle: 2
+/// waits behind 1 at 7/30, 1 behind 2 at 7/40".
 pub fn turned_away(standing: &Standing, circle: &[Link]) -> String {
     let link = |link: &Link| {
         let Link { waits, behind, at } = *link;

@@ -1,8 +1,8 @@
-//! The circle that is said at a 19. The cases are worked out from document 01 by hand; random sessions
-//! check the rest: how things stood when it was said, and that each link is a wait.
+//! The circle that is said at a 19. The cases are worked out from document 01 by hand; random
+//! sessions check the rest: how things stood when it was said, and that each link is a wait.
 
 use play::behind::{behind, target};
-use play::circle::{Call, circle};
+use play::circle::{Call, Link, circle};
 use play::picture::Standing;
 use play::records;
 use play::session::{Outcome, Said, Session};
@@ -80,9 +80,10 @@ fn a_rollback_closes_a_circle() {
     assert_eq!(said[1..], [turned_away(3, "3 waits behind 2 at 50, 2 behind 3 at 30")]);
 }
 
-/// The commit of 1 takes out 20 and 40. Then 4 waits at 30, which 2 holds, and 5 at 50, which 3 holds;
-/// 2 waits at 60 behind 4 and 5, who hold it, and 3 behind the earlier request of 2. First 5 is the newest
-/// in a circle, then 2; then 3 runs. When 5 was turned away, 2 and 3 still waited, and 3 didn't hold 60.
+/// The commit of 1 takes out 20 and 40. Then 4 waits at 30, which 2 holds, and 5 at 50, which 3
+/// holds; 2 waits at 60 behind 4 and 5, who hold it, and 3 behind the earlier request of 2. First 5
+/// is the newest in a circle, then 2; then 3 runs. When 5 was turned away, 2 and 3 still waited,
+/// and 3 didn't hold 60.
 #[test]
 fn what_comes_after_it_in_the_call_is_taken_back() {
     let asked = "1 delete 20\n1 delete 40\n2 read 30..30\n3 read 50..50\n4 read 60..60\n\
@@ -134,13 +135,14 @@ fn sixteen_in_a_circle() {
     let links = "16 waits behind 1 at 10, 1 behind 2 at 20, 2 behind 3 at 30, 3 behind 4 at 40, \
                  4 behind 5 at 50, 5 behind 6 at 60, 6 behind 7 at 70, 7 behind 8 at 80, \
                  8 behind 9 at 90, 9 behind 10 at 100, 10 behind 11 at 110, 11 behind 12 at 120, \
-                 12 behind 13 at 130, 13 behind 14 at 140, 14 behind 15 at 150, 15 behind 16 at 160";
+                 12 behind 13 at 130, 13 behind 14 at 140, 14 behind 15 at 150, \
+                 15 behind 16 at 160";
     assert_eq!(last(&(settled(&keys, 1..=16) + &asked)), [turned_away(16, links)]);
 }
 
 /// 2 to 15 hold S on 30, and 2 to 16 insert 15: first at 20, which 1 deletes, then at 30. 16 holds
-/// nothing that another waits for. Of the others one after another is turned away, the newest first,
-/// and each lies on a circle with 2, until only 2 is left.
+/// nothing that another waits for. Of the others one after another is turned away, the newest
+/// first, and each lies on a circle with 2, until only 2 is left.
 #[test]
 fn thirteen_in_one_call() {
     let reads = (2..=15).map(|t| format!("{t} read 30..30\n"));
@@ -185,8 +187,9 @@ impl Dice {
         }
     }
 
-    /// A session of some rounds, each from settled keys. It begins as the late circle of document 01 or
-    /// with nothing, is played by transactions in any order, and has other requests strewn in.
+    /// A session of some rounds, each from settled keys. It begins as the late circle of document
+    /// 01 or with nothing, is played by transactions in any order, and has other requests strewn
+    /// in.
     fn session(&mut self, transactions: u64) -> Vec<String> {
         let mut lines = Vec::new();
         for _ in 0..5 {
@@ -261,29 +264,32 @@ fn every_19_of_random_sessions_has_its_circle() {
 
 /// Checks each 19 of a call: how things stood when it was said, its links, and its words.
 fn look_at_circles(call: &Call, said: &[Said], met: &mut Met) {
-    let mut earlier = 0;
-    for (place, said) in said.iter().enumerate().filter(|(_, said)| said.number == 19) {
+    let circles = said.iter().enumerate().filter(|(_, said)| said.number == 19);
+    for (earlier, (place, said)) in circles.enumerate() {
         let stood = call.stood_at(place);
-        let turned_away = said.transaction;
         check_turn(call, &stood, place);
-        let links = circle(&stood, turned_away).expect("there is a circle");
-        check_links(&stood, turned_away, &links);
-        let mut words = String::from("turned away, the newest in a circle:");
-        for (place, link) in links.iter().enumerate() {
-            let (verb, at) = (if place == 0 { " waits" } else { "" }, stood.name(link.at));
-            let comma = if place == 0 { "" } else { "," };
-            words += &format!("{comma} {}{verb} behind {} at {at}", link.waits, link.behind);
-        }
-        assert_eq!(said.words, words);
-        met.circles += 1;
-        met.in_anothers_call += usize::from(turned_away != call.request.transaction);
-        met.a_second_in_its_call += earlier.min(1);
-        met.of_three_or_more += usize::from(links.len() > 2);
+        let links = circle(&stood, said.transaction).expect("there is a circle");
+        check_links(&stood, said.transaction, &links);
+        check_words(&stood, &links, &said.words);
         let after = &call.answers[place + 1..];
-        met.followed_by_a_run += usize::from(after.iter().any(|answer| ran(answer.number)));
         // only requests for S run after a 19, so that nothing is inserted or deleted
         assert!(after.iter().all(|answer| answer.number != 0 && answer.number != 18));
-        earlier += 1;
+        met.circles += 1;
+        met.in_anothers_call += usize::from(said.transaction != call.request.transaction);
+        met.a_second_in_its_call += usize::from(earlier > 0);
+        met.followed_by_a_run += usize::from(after.iter().any(|answer| ran(answer.number)));
+        met.of_three_or_more += usize::from(links.len() > 2);
+    }
+}
+
+/// The words name each link, in order.
+fn check_words(stood: &Standing, links: &[Link], words: &str) {
+    let said = words.strip_prefix("turned away, the newest in a circle: ").expect(words);
+    let said: Vec<&str> = said.split(", ").collect();
+    assert_eq!(said.len(), links.len());
+    for (place, (said, link)) in said.iter().zip(links).enumerate() {
+        let (verb, at) = (if place == 0 { " waits" } else { "" }, stood.name(link.at));
+        assert_eq!(*said, format!("{}{verb} behind {} at {at}", link.waits, link.behind));
     }
 }
 
@@ -293,7 +299,7 @@ fn ran(number: u32) -> bool {
 }
 
 /// Links lead from the one that is turned away back to it, each over a target to one who blocks.
-fn check_links(stood: &Standing, turned_away: u16, links: &[play::circle::Link]) {
+fn check_links(stood: &Standing, turned_away: u16, links: &[Link]) {
     assert_eq!(links[0].waits, turned_away);
     assert_eq!(links[links.len() - 1].behind, turned_away);
     assert!(links.windows(2).all(|pair| pair[0].behind == pair[1].waits));
@@ -314,8 +320,8 @@ fn check_turn(call: &Call, stood: &Standing, place: usize) {
     assert_eq!(next(&without), follows.map(|answer| (answer.transaction, !ran(answer.number))));
 }
 
-/// Whose turn it is: the oldest that isn't blocked runs, or else the newest on a circle is turned away
-/// (true); nobody's at rest.
+/// Whose turn it is: the oldest that isn't blocked runs, or else the newest on a circle is turned
+/// away (true); nobody's at rest.
 fn next(standing: &Standing) -> Option<(u16, bool)> {
     let runs = standing.queue.iter().find(|waiting| behind(standing, waiting).is_empty());
     let newest = || {

@@ -11,8 +11,8 @@ use play::svg::svg;
 use play::text::parse;
 use play::transcript::transcript;
 
-/// Every character that isn't to be passed on: C0 without tab and line feed, DEL and C1; the marks that
-/// turn the direction; what ends a line; what can't be seen; what is no character.
+/// Every character that isn't to be passed on: C0 without tab and line feed, DEL and C1; the marks
+/// that turn the direction; what ends a line; what can't be seen; what is no character.
 fn raw() -> Vec<char> {
     let controls = ('\0'..='\u{1f}').chain('\u{7f}'..='\u{9f}');
     let controls = controls.filter(|control| !['\t', '\n'].contains(control));

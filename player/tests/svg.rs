@@ -100,8 +100,8 @@ fn who_waits_is_drawn_at_its_target_and_with_an_arrow_to_whom_it_waits_behind() 
     assert!(!words.contains("left out"));
 }
 
-/// 3 waits behind 2; 4 behind 2 and 3; at last 16 behind 2 to 15. Of these 105 a chain of 14 is drawn,
-/// and the legend says that the rest is left out.
+/// 3 waits behind 2; 4 behind 2 and 3; at last 16 behind 2 to 15. Of these 105 a chain of 14 is
+/// drawn, and the legend says that the rest is left out.
 #[test]
 fn among_many_arrows_those_in_more_steps_are_left_out() {
     let begins: String = (2..=16).map(|t| format!("{t} begin\n")).collect();
@@ -115,8 +115,8 @@ fn among_many_arrows_those_in_more_steps_are_left_out() {
     assert_eq!(count(&picture, "arrow"), to_target + between_cards + legend);
 }
 
-/// 15 waits behind the readers 2 to 14, and nothing leads there in more steps: all are drawn. 16 waits
-/// behind them too, and behind 15: that arrow leads to all of them.
+/// 15 waits behind the readers 2 to 14, and nothing leads there in more steps: all are drawn. 16
+/// waits behind them too, and behind 15: that arrow leads to all of them.
 #[test]
 fn many_arrows_that_nothing_stands_for_are_drawn() {
     let begins: String = (2..=16).map(|t| format!("{t} begin\n")).collect();

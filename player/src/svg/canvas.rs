@@ -23,8 +23,8 @@ impl Area {
     }
 }
 
-/// How wide a letter of the entries is at most, and one of the title; all letters of a kind have the
-/// same width.
+/// How wide a letter of the entries is at most, and one of the title; all letters of a kind have
+/// the same width.
 pub const LETTER: i32 = 8;
 pub const TITLE_LETTER: i32 = 11;
 

@@ -3,8 +3,8 @@
 use super::canvas::{Area, Canvas, Tip};
 use crate::rows::counted;
 
-/// Draws the legend within a width, in as many rows as it needs. It says how many arrows are left out,
-/// and which.
+/// Draws the legend within a width, in as many rows as it needs. It says how many arrows are left
+/// out, and which.
 pub fn draw(canvas: &mut Canvas, x: i32, y: i32, width: i32, left_out: usize) {
     let (mut right, mut down) = (x, y);
     for (mark, words) in items(left_out) {

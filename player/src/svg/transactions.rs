@@ -29,8 +29,8 @@ const NAMED: usize = 4;
 /// So many arrows are all drawn.
 const ARROWS: usize = 12;
 
-/// Draws the cards with their upper left corner here: first those who run, then those who wait,
-/// oldest request first, so that arrows point up where they can. Gives how many arrows are left out.
+/// Draws the cards with their upper left corner here, and gives how many arrows are left out. First
+/// those who run, then those who wait, oldest request first: so arrows point up where they can.
 pub fn draw(standing: &Standing, canvas: &mut Canvas, x: i32, y: i32) -> usize {
     canvas.text("heading", x, y + 16, "Transactions");
     let cards = cards(standing);
@@ -58,7 +58,7 @@ fn draw_arrows(canvas: &mut Canvas, cards: &[Card], areas: &[Area]) -> usize {
         let drawn = drawn_arrows(cards, card);
         left_out += card.behind.len() - drawn.len();
         let mut to: Vec<usize> = drawn.into_iter().filter_map(place_of).collect();
-        // in this order wide arrows go around narrow ones: up, the nearest first; down, the nearest last
+        // so wide arrows go around narrow ones: up, the nearest first; down, the nearest last
         to.sort_by_key(|place| (*place > own, Reverse(*place)));
         let (right, from) = (areas[own].right(), areas[own].y + 30);
         let apart = ((areas[own].height - 36) / to.len().max(1) as i32).min(6);
