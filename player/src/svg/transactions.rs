@@ -50,7 +50,8 @@ pub fn draw(standing: &Standing, canvas: &mut Canvas, x: i32, y: i32) -> usize {
     draw_arrows(canvas, &cards, &areas)
 }
 
-/// Draws the arrows between cards that stand in these places, and gives how many are left out.
+/// Draws the arrows between cards that stand in these places, and gives how many are left out. They
+/// start on the upper part of a card and end below that, so that a chain of them doesn't cross.
 fn draw_arrows(canvas: &mut Canvas, cards: &[Card], areas: &[Area]) -> usize {
     let place_of = |transaction: u16| cards.iter().position(|card| card.transaction == transaction);
     let mut left_out = 0;
@@ -60,7 +61,7 @@ fn draw_arrows(canvas: &mut Canvas, cards: &[Card], areas: &[Area]) -> usize {
         let mut to: Vec<usize> = drawn.into_iter().filter_map(place_of).collect();
         // so wide arrows go around narrow ones: up, the nearest first; down, the nearest last
         to.sort_by_key(|place| (*place > own, Reverse(*place)));
-        let (right, from) = (areas[own].right(), areas[own].y + 30);
+        let (right, from) = (areas[own].right(), areas[own].y + 10);
         let apart = ((areas[own].height - 36) / to.len().max(1) as i32).min(6);
         for (place, to) in (0..).zip(to) {
             arrow(canvas, (right, from + apart * place), areas[to]);
@@ -149,7 +150,7 @@ impl Card {
 
 /// An arrow from a card's right side to the card that it waits behind. The further away, the wider.
 fn arrow(canvas: &mut Canvas, (right, start): (i32, i32), to: Area) {
-    let end = to.y + 8 + LINE / 2;
+    let end = to.bottom() - 14;
     let bend = right + 30 + (start - end).abs() / 5;
     let path = format!("M{right} {start}C{bend} {start} {bend} {end} {} {end}", to.right() + 9);
     canvas.arrow(&path, (to.right() + 1, end), Tip::Left);
