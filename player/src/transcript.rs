@@ -1,7 +1,9 @@
 //! A played session as text: each line as it was written, with what the desk says under it.
 
+use crate::plain::plain;
 use crate::records::hex;
 use crate::session::{Outcome, Said, Session};
+use crate::text::trimmed;
 
 /// What was played, and how many lines could not be read.
 pub struct Transcript {
@@ -35,7 +37,7 @@ impl Transcript {
             Outcome::Nothing => String::new(),
             _ => number.to_string(),
         };
-        let written = format!("{margin:>4}  {}", line.trim());
+        let written = format!("{margin:>4}  {}", plain(trimmed(line)));
         self.text += written.trim_end();
         self.text += "\n";
     }
