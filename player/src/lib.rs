@@ -2,16 +2,21 @@
 //! proved desk through the package `keydesk` and adds no rule of its own.
 //!
 //! Read `text` for what a line may say, `session` for how it is played, `words` for what is said;
-//! `picture` for how bytes become plain values, `show` and `svg` for how they are drawn.
+//! `picture` for how bytes become plain values, `show` and `svg` for how they are drawn, `html` for
+//! the page that steps through a session.
 
 pub mod behind;
 pub mod bytes;
+pub mod changes;
+pub mod html;
 pub mod keys;
+pub mod live;
 pub mod picture;
 pub mod records;
 pub mod rows;
 pub mod session;
 pub mod show;
+pub mod sources;
 pub mod svg;
 pub mod text;
 pub mod transcript;

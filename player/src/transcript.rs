@@ -14,16 +14,9 @@ pub fn transcript(session: &str, bytes: bool) -> Transcript {
     let mut played = Session::fresh();
     let mut transcript = Transcript { text: String::new(), slips: 0 };
     for (number, line) in (1..).zip(session.lines()) {
-        let outcome = played.play(number, line);
-        transcript.line(number, line, &outcome);
-        match outcome {
-            Outcome::Nothing => {}
-            Outcome::Slip(slip) => {
-                transcript.slips += 1;
-                transcript.under(&format!("line {number} can't be read: {slip}"));
-            }
-            Outcome::Called { record, said } => transcript.called(&record, &said, bytes),
-        }
+        let next = line_played(&mut played, number, line, bytes);
+        transcript.text += &next.text;
+        transcript.slips += next.slips;
     }
     transcript
 }
@@ -58,8 +51,24 @@ impl Transcript {
 }
 
 /// To whom, what, and document 01's number for it.
-fn sentence(said: &Said) -> String {
+pub fn sentence(said: &Said) -> String {
     let Said { transaction, words, number, .. } = said;
     let asked = said.asked_in.map_or(String::new(), |line| format!(" (asked in line {line})"));
     format!("{transaction}{asked}: {words} ({number})")
+}
+
+/// Plays one line of a session: its part of the transcript.
+pub fn line_played(session: &mut Session, number: usize, line: &str, bytes: bool) -> Transcript {
+    let mut transcript = Transcript { text: String::new(), slips: 0 };
+    let outcome = session.play(number, line);
+    transcript.line(number, line, &outcome);
+    match outcome {
+        Outcome::Nothing => {}
+        Outcome::Slip(slip) => {
+            transcript.slips += 1;
+            transcript.under(&format!("line {number} can't be read: {slip}"));
+        }
+        Outcome::Called { record, said } => transcript.called(&record, &said, bytes),
+    }
+    transcript
 }
