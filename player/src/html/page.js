@@ -9,6 +9,8 @@ const links = listed();
 // The picture has a style of its own, which is for it alone.
 const drawing = at.pane.attachShadow({ mode: "open" });
 let current = 0;
+// Waits to put the line into the address: browsers bear only so many changes of it in a second.
+let pause = 0;
 
 // The pictures as places in the table: player/src/html/pack.rs says how they are packed.
 function unpacked() {
@@ -31,7 +33,11 @@ function listed() {
     const link = document.createElement("a");
     const asks = steps[step].line === place + 1 && steps[step].said.length > 0;
     link.href = "#" + (place + 1);
-    link.textContent = text;
+    link.onclick = (event) => {
+      event.preventDefault();
+      show(step);
+    };
+    fill(link, "span", [text]);
     link.dataset.number = asks ? place + 1 : "";
     link.className = asks ? (steps[step].slip ? "unread" : "") : "comment";
     at.lines.append(link);
@@ -69,7 +75,8 @@ function show(wanted) {
   size();
   mark(step);
   at.words.scrollTop = 0;
-  history.replaceState(null, "", "#" + step.line);
+  clearTimeout(pause);
+  pause = setTimeout(() => history.replaceState(null, "", "#" + step.line), 300);
 }
 
 function title(step) {
@@ -88,7 +95,7 @@ function mark(step) {
   (own ?? links[0])?.scrollIntoView({ block: "nearest" });
   at.slider.value = current;
   at.slider.setAttribute("aria-valuetext", step.line ? "line " + step.line : "the start");
-  at.count.textContent = current + " of " + (steps.length - 1);
+  at.count.textContent = `${current} of ${steps.length - 1}` + (step.line ? `, line ${step.line}` : "");
   at.first.disabled = at.back.disabled = current === 0;
   at.last.disabled = at.next.disabled = current === steps.length - 1;
 }
