@@ -7,8 +7,8 @@ use crate::picture::{Entry, Lock, Mode, Standing, Waiting};
 use crate::rows::{State, counted, state, wants};
 use std::collections::BTreeMap;
 
-/// So many changes of one kind are said one by one. Of more than one beyond that, the rest is counted.
-const SAID: usize = 4;
+/// So many names are written out. Where more than one is left, they are counted.
+const NAMED: usize = 4;
 
 /// The changes, a sentence for each: of transactions, waits, entries, locks and pages, in this order.
 pub fn changes(before: &Standing, after: &Standing) -> Vec<String> {
@@ -16,13 +16,31 @@ pub fn changes(before: &Standing, after: &Standing) -> Vec<String> {
     parts.iter().flat_map(|part| part(before, after)).collect()
 }
 
-/// The sentences of one kind; where they are many, the first of them and how many more.
-fn cut(said: Vec<String>, more: &str) -> Vec<String> {
-    if said.len() <= SAID + 1 {
-        return said;
+/// Names of which the same is said, in the order in which they come; a long list is cut.
+#[derive(Default)]
+struct Groups(Vec<(String, Vec<String>)>);
+
+impl Groups {
+    /// Adds a name to those of which this is said.
+    fn add(&mut self, said: String, name: String) {
+        match self.0.iter_mut().find(|(earlier, _)| *earlier == said) {
+            Some((_, names)) => names.push(name),
+            None => self.0.push((said, vec![name])),
+        }
     }
-    let rest = format!("{} more {more}", said.len() - SAID);
-    said.into_iter().take(SAID).chain([rest]).collect()
+
+    /// A sentence for each group, made from what is said, the names, and whether it is one name.
+    fn sentences(&self, sentence: impl Fn(&str, &str, bool) -> String) -> Vec<String> {
+        let groups = self.0.iter();
+        groups.map(|(said, names)| sentence(said, &listed(names), names.len() == 1)).collect()
+    }
+}
+
+fn listed(names: &[String]) -> String {
+    if names.len() <= NAMED + 1 {
+        return names.join(", ");
+    }
+    format!("{} and {} more", names[..NAMED].join(", "), names.len() - NAMED)
 }
 
 /// Who began, and who ended.
@@ -60,34 +78,32 @@ fn entries(before: &Standing, after: &Standing) -> Vec<String> {
         standing.entries().into_iter().map(|entry| (entry.key, entry)).collect()
     };
     let (was, is) = (by_key(before), by_key(after));
-    let said = |entry: &Entry, does: &str| {
-        format!("{} {does}{}", after.written(entry.key), looks(entry))
-    };
-    let came = is.values().filter(|entry| !was.contains_key(&entry.key));
-    let came = came.map(|entry| said(entry, "came, ")).collect();
-    let gone = was.keys().filter(|key| !is.contains_key(key));
-    let gone = gone.map(|key| format!("{} was taken out", after.written(*key))).collect();
-    let changed = |kind: fn(State) -> bool| -> Vec<String> {
-        let other = is.values().filter(|entry| was.get(&entry.key).is_some_and(|was| was != *entry));
-        let other = other.filter(|entry| kind(state(entry)));
-        other.map(|entry| said(entry, "is now ")).collect()
-    };
-    let settled = changed(|state| state == State::Settled);
-    let owned = changed(|state| matches!(state, State::Owned(_)));
-    let ghosts = changed(|state| matches!(state, State::Ghost(_)));
-    let kinds = [
-        (came, "entries came"),
-        (gone, "entries were taken out"),
-        (settled, "entries are now settled"),
-        (owned, "entries are now owned"),
-        (ghosts, "entries are now ghosts"),
-    ];
-    kinds.into_iter().flat_map(|(said, more)| cut(said, more)).collect()
+    let (mut came, mut gone, mut changed) = <(Groups, Groups, Groups)>::default();
+    for (key, entry) in &is {
+        let name = after.written(*key).to_string();
+        match was.get(key) {
+            None => came.add(looks(entry, None), name),
+            Some(earlier) if earlier != entry => changed.add(looks(entry, earlier.now), name),
+            Some(_) => {}
+        }
+    }
+    for key in was.keys().filter(|key| !is.contains_key(key)) {
+        gone.add("taken out".to_string(), after.written(*key).to_string());
+    }
+    let came = came.sentences(|said, names, _| format!("{names} came, {said}"));
+    let gone = gone.sentences(|said, names, one| {
+        format!("{names} {} {said}", if one { "was" } else { "were" })
+    });
+    let changed = changed.sentences(|said, names, one| {
+        format!("{names} {} now {said}", if one { "is" } else { "are" })
+    });
+    [came, gone, changed].concat()
 }
 
-/// What an entry is.
-fn looks(entry: &Entry) -> String {
-    let record = entry.now.map_or(String::new(), |record| format!(", with record {record}"));
+/// What an entry is, with its record where it had another one before, or none.
+fn looks(entry: &Entry, earlier: Option<u32>) -> String {
+    let record = entry.now.filter(|record| earlier != Some(*record));
+    let record = record.map_or(String::new(), |record| format!(", with record {record}"));
     match state(entry) {
         State::Settled => format!("settled{record}"),
         State::Owned(owner) => format!("owned by {owner}{record}"),
@@ -102,26 +118,22 @@ fn locks(before: &Standing, after: &Standing) -> Vec<String> {
         standing.locks.iter().map(named).collect()
     };
     let (was, is) = (by_holder(before), by_holder(after));
-    let (mut taken, mut upgraded, mut released) = (vec![], vec![], vec![]);
+    let (mut taken, mut upgraded, mut released) = <(Groups, Groups, Groups)>::default();
     for ((holder, name), mode) in &is {
         let named = after.name(*name);
         match was.get(&(*holder, *name)) {
-            None => taken.push(format!("{holder} took {mode} on {named}")),
+            None => taken.add(format!("{holder} took {mode}"), named),
             Some(earlier) if earlier != mode => {
-                upgraded.push(format!("{holder} upgraded {earlier} on {named} to {mode}"));
+                upgraded.add(format!("{holder} upgraded {earlier} to {mode}"), named);
             }
             Some(_) => {}
         }
     }
     for ((holder, name), mode) in was.iter().filter(|(held, _)| !is.contains_key(held)) {
-        released.push(format!("{holder} released {mode} on {}", after.name(*name)));
+        released.add(format!("{holder} released {mode}"), after.name(*name));
     }
-    let kinds = [
-        (taken, "locks were taken"),
-        (upgraded, "locks were upgraded"),
-        (released, "locks were released"),
-    ];
-    kinds.into_iter().flat_map(|(said, more)| cut(said, more)).collect()
+    let on = |said: &str, names: &str, _: bool| format!("{said} on {names}");
+    [taken.sentences(on), upgraded.sentences(on), released.sentences(on)].concat()
 }
 
 /// How large the tree is, where that changed.

@@ -59,9 +59,8 @@ fn runs(before: &[usize], lines: &[usize]) -> Vec<isize> {
         });
         let listed = (*first..).zip(rest).take_while(|(place, line)| place == *line).count();
         let longest = copied.rev().max_by_key(|(count, _)| *count);
-        let (count, from) = longest
-            .filter(|(count, _)| *count >= listed)
-            .unwrap_or((listed, -1 - *first as isize));
+        let (count, from) =
+            longest.filter(|(count, _)| *count >= listed).unwrap_or((listed, -1 - *first as isize));
         packed.extend([from, count as isize]);
         rest = &rest[count..];
     }
