@@ -1,5 +1,5 @@
-//! What changed from one line of a session to the next, in words: worked out from where things stood
-//! before it and stand after it.
+//! What changed from one line of a session to the next, in words: worked out from where things
+//! stood before and stand after.
 
 use crate::behind::target;
 use crate::keys::Key;
@@ -10,7 +10,7 @@ use std::collections::BTreeMap;
 /// So many names are written out. Where more than one is left, they are counted.
 const NAMED: usize = 4;
 
-/// The changes, a sentence for each: of transactions, waits, entries, locks and pages, in this order.
+/// The changes, a sentence for each: of transactions, waits, entries, locks, pages, in this order.
 pub fn changes(before: &Standing, after: &Standing) -> Vec<String> {
     let parts = [transactions, waits, entries, locks, pages];
     parts.iter().flat_map(|part| part(before, after)).collect()

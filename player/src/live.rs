@@ -21,9 +21,9 @@ quit leaves, as the end of input (Ctrl-D) does
 
 ";
 
-/// Plays the lines of the input one by one. At a terminal with a prompt, and only what is said; else
-/// it is the text of the transcript. Gives how many lines could not be read; at a terminal they have
-/// been told, and don't count.
+/// Plays the lines of the input one by one. At a terminal with a prompt, and only what is said;
+/// else it is the text of the transcript. Gives how many lines could not be read; at a terminal
+/// they have been told, and don't count.
 pub fn live(
     input: impl BufRead,
     output: impl Write,

@@ -1,5 +1,5 @@
-//! The script `./play`, in a folder with the files that it needs, and with an `rt` and a `cargo` that
-//! only write down that they were called.
+//! The script `./play`, in a folder with the files that it needs, and with an `rt` and a `cargo`
+//! that do little more than write down that they were called.
 
 use std::fs::{self, File};
 use std::io::{BufRead, BufReader, Read};

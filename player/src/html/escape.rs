@@ -1,6 +1,6 @@
 //! Text for where it stands in the page.
 
-/// Text between two tags, or in an attribute. Control characters other than line ends are made plain.
+/// Text between two tags, or in an attribute. Control characters but line ends are made plain.
 pub fn in_html(text: &str) -> String {
     let mut escaped = String::new();
     for letter in text.chars() {

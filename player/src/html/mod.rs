@@ -7,7 +7,6 @@ mod steps;
 
 use crate::transcript::transcript;
 use escape::{in_html, in_script, plain};
-use pack::Packer;
 use steps::{Step, Steps, steps};
 
 const PAGE: &str = include_str!("page.html");
@@ -22,8 +21,8 @@ pub struct Page {
 
 /// The page for a session of this name.
 pub fn html(session: &str, name: &str) -> Page {
-    let Steps { steps, step_of_line } = steps(session, name);
-    let data = data(name, session, &step_of_line, &steps);
+    let steps = steps(session, name);
+    let data = data(name, session, &steps);
     let transcript = in_html(&transcript(session, false).text);
     let name = in_html(&plain(name));
     let text = filled(PAGE, |part| match part {
@@ -34,7 +33,7 @@ pub fn html(session: &str, name: &str) -> Page {
         "transcript" => &transcript,
         other => unreachable!("the page has no part {other}"),
     });
-    Page { text, slips: steps.iter().filter(|step| step.slip).count() }
+    Page { text, slips: steps.steps.iter().filter(|step| step.slip).count() }
 }
 
 /// A text with its parts, written {{so}}, put in. What is put in is not looked at again.
@@ -51,13 +50,12 @@ fn filled<'a>(text: &str, part: impl Fn(&str) -> &'a str) -> String {
 
 /// What `page.js` reads, as JSON with a line for each thing: `name`; `lines`, each a text and the
 /// step that it belongs to; `steps`; and the `table` of the pictures (see `pack`).
-fn data(name: &str, session: &str, step_of_line: &[usize], steps: &[Step]) -> String {
-    let mut packer = Packer::default();
-    let lines = session.lines().zip(step_of_line);
+fn data(name: &str, session: &str, played: &Steps) -> String {
+    let lines = session.lines().zip(&played.step_of_line);
     let lines = lines.map(|(line, step)| format!("[{},{step}]", shown(line.trim_end())));
     let lines: Vec<String> = lines.collect();
-    let steps: Vec<String> = steps.iter().map(|step| step_data(step, &mut packer)).collect();
-    let table: Vec<String> = packer.table().iter().map(|line| in_script(line)).collect();
+    let steps: Vec<String> = played.steps.iter().map(step_data).collect();
+    let table: Vec<String> = played.table.iter().map(|line| in_script(line)).collect();
     format!(
         "{{\"name\":{},\n\"lines\":[\n{}\n],\n\"steps\":[\n{}\n],\n\"table\":[\n{}\n]}}",
         shown(name),
@@ -67,10 +65,9 @@ fn data(name: &str, session: &str, step_of_line: &[usize], steps: &[Step]) -> St
     )
 }
 
-/// A step as JSON, its picture packed.
-fn step_data(step: &Step, packer: &mut Packer) -> String {
-    let picture: Vec<String> =
-        packer.pack(&step.picture).iter().map(|number| number.to_string()).collect();
+/// A step as JSON.
+fn step_data(step: &Step) -> String {
+    let picture: Vec<String> = step.picture.iter().map(|number| number.to_string()).collect();
     format!(
         "{{\"line\":{},\"slip\":{},\"remarks\":{},\"said\":{},\"waits\":{},\"changes\":{},\
          \"picture\":[{}]}}",

@@ -72,6 +72,7 @@ function show(wanted) {
   fillList(at.waits, step.waits, "nobody waits");
   fillList(at.changes, step.changes, "nothing");
   drawing.innerHTML = pictures[current].map((line) => session.table[line]).join("\n");
+  at.pane.setAttribute("aria-label", drawing.querySelector("title").textContent);
   size();
   mark(step);
   at.words.scrollTop = 0;
@@ -95,7 +96,8 @@ function mark(step) {
   (own ?? links[0])?.scrollIntoView({ block: "nearest" });
   at.slider.value = current;
   at.slider.setAttribute("aria-valuetext", step.line ? "line " + step.line : "the start");
-  at.count.textContent = `${current} of ${steps.length - 1}` + (step.line ? `, line ${step.line}` : "");
+  const line = step.line > 0 ? `, line ${step.line}` : "";
+  at.count.textContent = `${current} of ${steps.length - 1}${line}`;
   at.first.disabled = at.back.disabled = current === 0;
   at.last.disabled = at.next.disabled = current === steps.length - 1;
 }

@@ -1,7 +1,8 @@
-//! A session as steps. A step is a request, or a line that can't be read, together with the comments
-//! above it. Before the first comes the fresh desk, with the comment at the session's head; comments
-//! after the last request are a step of their own.
+//! A session as steps. A step is a request, or a line that can't be read, together with the
+//! comments above it. Before the first comes the fresh desk, with the comment at the session's
+//! head; comments after the last request are a step of their own.
 
+use super::pack::Packer;
 use crate::changes::changes;
 use crate::picture::Standing;
 use crate::rows::Place;
@@ -23,14 +24,15 @@ pub struct Step {
     pub waits: Vec<String>,
     /// What changed since the step before.
     pub changes: Vec<String>,
-    /// Where things stand, as SVG.
-    pub picture: String,
+    /// Where things stand: the picture of `svg`, packed.
+    pub picture: Vec<isize>,
 }
 
-/// A session's steps, and for each of its lines the step that it belongs to.
+/// A session's steps, for each of its lines the step that it belongs to, and the pictures' table.
 pub struct Steps {
     pub steps: Vec<Step>,
     pub step_of_line: Vec<usize>,
+    pub table: Vec<String>,
 }
 
 /// The steps of a session's text.
@@ -50,7 +52,7 @@ pub fn steps(text: &str, name: &str) -> Steps {
         stepping.rest(lines.len(), below);
     }
     step_of_line.resize(lines.len(), stepping.steps.len() - 1);
-    Steps { steps: stepping.steps, step_of_line }
+    Steps { steps: stepping.steps, step_of_line, table: stepping.packer.table() }
 }
 
 /// How many lines the comment at the session's head has: one with a blank line below it.
@@ -78,14 +80,21 @@ struct Stepping<'a> {
     /// The last request: its line and its text.
     asked: Option<(usize, &'a str)>,
     steps: Vec<Step>,
+    packer: Packer,
 }
 
 impl<'a> Stepping<'a> {
     /// At the step before the first request.
     fn fresh(name: &'a str, remarks: Vec<String>) -> Stepping<'a> {
         let session = Session::fresh();
-        let standing = session.standing();
-        let mut stepping = Stepping { name, session, standing, asked: None, steps: vec![] };
+        let mut stepping = Stepping {
+            name,
+            standing: session.standing(),
+            session,
+            asked: None,
+            steps: vec![],
+            packer: Packer::default(),
+        };
         stepping.rest(0, remarks);
         stepping
     }
@@ -121,7 +130,7 @@ impl<'a> Stepping<'a> {
             slip,
             waits: waits.collect(),
             changes: changes(&self.standing, &standing),
-            picture: svg(&standing, &place),
+            picture: self.packer.pack(&svg(&standing, &place)),
         });
         self.standing = standing;
     }
