@@ -1,7 +1,7 @@
-//! Who waits behind whom, worked out once more for the drawing only (document 01, Locks):
+//! Who waits behind whom, worked out once more for words and drawings only (document 01, Locks):
 //!
-//! "T is **blocked** by another U if U holds the target in a conflicting mode; or if T holds no lock
-//! on it and U has an earlier waiting request with the same target and a conflicting mode."
+//! "T is **blocked** by another U if U holds the target in a conflicting mode; or if T holds no
+//! lock on it and U has an earlier waiting request with the same target and a conflicting mode."
 
 use crate::keys::{Key, Written};
 use crate::picture::{Entry, Mode, Standing, Waiting};

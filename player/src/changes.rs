@@ -53,21 +53,18 @@ fn transactions(before: &Standing, after: &Standing) -> Vec<String> {
 
 /// Who waits now, who waits no more, and who still waits but for something else.
 fn waits(before: &Standing, after: &Standing) -> Vec<String> {
-    let waits_in = |standing: &Standing, who: u16| {
-        standing.queue.iter().find(|waiting| waiting.transaction == who).copied()
-    };
     let now = |waiting: &Waiting| {
         let who = waiting.transaction;
-        match waits_in(before, who) {
+        match before.waiting(who) {
             None => Some(format!("{who} waits now: {}", waiting.asks)),
-            Some(earlier) if target(before, &earlier) != target(after, waiting) => {
+            Some(earlier) if target(before, earlier) != target(after, waiting) => {
                 Some(format!("{who} still waits, and now {}", wants(after, waiting)))
             }
             Some(_) => None,
         }
     };
     let no_more = before.queue.iter().map(|waiting| waiting.transaction);
-    let no_more = no_more.filter(|who| waits_in(after, *who).is_none());
+    let no_more = no_more.filter(|who| after.waiting(*who).is_none());
     let no_more = no_more.map(|who| format!("{who} waits no more"));
     after.queue.iter().filter_map(now).chain(no_more).collect()
 }

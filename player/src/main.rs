@@ -5,7 +5,7 @@ use play::live::live;
 use play::rows::Place;
 use play::session::{Outcome, Session};
 use play::sources::{Source, write};
-use play::transcript::transcript;
+use play::transcript::{transcript, unread};
 use play::usage::{Command, HELP, command, line_to_draw};
 use play::{show, svg};
 use std::env;
@@ -75,7 +75,7 @@ fn draw(session: &Source, after: Option<usize>, out: Option<PathBuf>) -> Result<
         match session.play(number, line) {
             Outcome::Nothing => {}
             Outcome::Slip(slip) => {
-                eprintln!("line {number} can't be read: {slip}");
+                eprintln!("{}", unread(number, &slip));
                 slips += 1;
             }
             Outcome::Called { .. } => played = Some((number, line.trim())),

@@ -128,6 +128,11 @@ impl Standing {
         leaves
     }
 
+    /// The request that a transaction waits with, if it waits.
+    pub fn waiting(&self, transaction: u16) -> Option<&Waiting> {
+        self.queue.iter().find(|waiting| waiting.transaction == transaction)
+    }
+
     /// A key in the form in which the session last wrote it.
     pub fn written(&self, key: Key) -> Written {
         self.forms.written(key)

@@ -1,10 +1,12 @@
 //! What both drawings say. Of the index, row by row: an entry with its state, who holds it and who
-//! waits at it; in a large index entries that look alike stand together in one row. And the words for
-//! how large things are and what a waiting request wants.
+//! waits at it; in a large index entries that look alike stand together in one row. And the words
+//! for how large things are and what a waiting request wants.
 
 use crate::behind::{Target, target};
 use crate::keys::Key;
 use crate::picture::{Entry, LOCK_COUNT, Mode, PAGE_COUNT, Standing, Waiting};
+use crate::plain::plain;
+use crate::text::trimmed;
 
 /// The place in a session that is drawn.
 pub struct Place<'a> {
@@ -15,12 +17,20 @@ pub struct Place<'a> {
 }
 
 impl Place<'_> {
-    /// The place in words.
+    /// The place in words, fit to be printed and drawn.
     pub fn title(&self) -> String {
         match self.played {
             None => "Before the first request".to_string(),
-            Some((line, text)) => format!("After line {line}: {text}"),
+            Some((line, text)) => format!("After line {line}: {}", plain(trimmed(text))),
         }
+    }
+
+    /// The session's name and how large its index is, fit to be printed and drawn.
+    pub fn size(&self, standing: &Standing) -> String {
+        let entries = counted(standing.entries().len(), "entry", "entries");
+        let levels = counted(usize::from(standing.height), "level", "levels");
+        let (name, used) = (plain(self.name), standing.used);
+        format!("{name}: {entries}, {levels}, {used} of {PAGE_COUNT} pages used")
     }
 }
 
@@ -120,13 +130,6 @@ pub fn numbers(ascending: &[u16]) -> String {
         _ => format!("{}-{}", run[0], run[run.len() - 1]),
     };
     runs.map(run).collect::<Vec<String>>().join(", ")
-}
-
-/// How large the index is.
-pub fn size(standing: &Standing) -> String {
-    let entries = counted(standing.entries().len(), "entry", "entries");
-    let levels = counted(usize::from(standing.height), "level", "levels");
-    format!("{entries}, {levels}, {} of {PAGE_COUNT} pages used", standing.used)
 }
 
 /// How many locks are in use.

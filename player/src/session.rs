@@ -1,5 +1,6 @@
 //! A session: lines played one after another on a fresh picture.
 
+use crate::circle::Call;
 use crate::keys::Forms;
 use crate::picture::Standing;
 use crate::records;
@@ -70,6 +71,7 @@ impl Session {
 
     fn call(&mut self, line: usize, request: Request) -> Outcome {
         let record = records::request(&request);
+        let before = self.standing();
         let mut answers = [0; ANSWERS];
         let returned = self.picture.serve(&record, &mut answers);
         if returned.number != number::DONE {
@@ -80,16 +82,18 @@ impl Session {
             };
         }
         let answers = records::answers(&answers[..returned.bytes as usize]);
-        let said = answers.iter().map(|answer| self.said(line, &request, answer)).collect();
+        let call = Call { before, after: self.standing(), request, answers };
+        let said = (0..call.answers.len()).map(|place| self.said(line, &call, place)).collect();
         Outcome::Called { record, said }
     }
 
-    /// An answer in words, with the request that it answers: the asker's is this line's, any other's
-    /// the one that it waited with. A transaction gets at most one answer in a call.
-    fn said(&mut self, line: usize, request: &Request, answer: &records::Answer) -> Said {
-        let this = Asked { line, asks: request.asks };
-        let asked = if answer.transaction == request.transaction {
-            self.keep_waiting(request.transaction, this, answer.number);
+    /// The answer at this place in words, with the request that it answers: the asker's is this
+    /// line's, any other's the one it waited with. A call answers a transaction at most once.
+    fn said(&mut self, line: usize, call: &Call, place: usize) -> Said {
+        let answer = &call.answers[place];
+        let this = Asked { line, asks: call.request.asks };
+        let asked = if answer.transaction == call.request.transaction {
+            self.keep_waiting(answer.transaction, this, answer.number);
             this
         } else {
             self.waiting.remove(&answer.transaction).unwrap_or(this)
@@ -97,7 +101,7 @@ impl Session {
         Said {
             transaction: answer.transaction,
             number: answer.number,
-            words: words::answer(answer, &asked.asks),
+            words: words::said(call, place, &asked.asks),
             asked_in: (asked.line != line).then_some(asked.line),
             record: answer.bytes.clone(),
         }

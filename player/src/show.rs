@@ -1,16 +1,16 @@
 //! Where things stand, drawn as text: the tree of pages with its entries, who holds which lock on
 //! what, who waits behind whom.
 
-use crate::behind::behind;
 use crate::keys::Key;
-use crate::picture::{Entry, Holds, INNER_FULL, LEAF_FULL, Lock, Page, Standing, Waiting};
+use crate::picture::{Entry, Holds, INNER_FULL, LEAF_FULL, Lock, Page, Standing};
 use crate::rows::{
-    Held, Place, Row, State, counted, held, locks_in_use, numbers, rows, size, waiters, wants,
+    Held, Place, Row, State, counted, held, locks_in_use, numbers, rows, waiters, wants,
 };
+use crate::words::waits;
 
 /// The drawing, with the place in the session as its title.
 pub fn show(standing: &Standing, place: &Place) -> String {
-    let mut lines = vec![place.title(), format!("{}: {}", place.name, size(standing))];
+    let mut lines = vec![place.title(), place.size(standing)];
     lines.push(String::new());
     tree(standing, &standing.root, Key::LOWEST, 0, &mut lines);
     lines.push(String::new());
@@ -158,22 +158,18 @@ fn lock_run(standing: &Standing, run: &[Lock]) -> String {
     format!("    {holder} holds {mode} on {named}, covering {covered} to {to}")
 }
 
-/// Who runs, who waits for what, and behind whom.
+/// Who runs, who waits behind whom, and for what.
 fn transactions(standing: &Standing, lines: &mut Vec<String>) {
     let running = counted(standing.running.len(), "transaction runs", "transactions run");
     let waiting = counted(standing.queue.len(), "waits", "wait");
     lines.push(format!("{running}, {waiting}"));
     for transaction in &standing.running {
-        let queued = standing.queue.iter().find(|waiting| waiting.transaction == *transaction);
-        lines.push(match queued {
+        lines.push(match standing.waiting(*transaction) {
             None => format!("    {transaction} runs"),
-            Some(waiting) => format!("    {transaction} waits {}", wait(standing, waiting)),
+            Some(waiting) => {
+                let (waits, wants) = (waits(standing, waiting), wants(standing, waiting));
+                format!("    {transaction} {waits}: {} {wants}", waiting.asks)
+            }
         });
     }
-}
-
-/// Behind whom a request waits, and for what.
-fn wait(standing: &Standing, waiting: &Waiting) -> String {
-    let (behind, asks) = (numbers(&behind(standing, waiting)), waiting.asks);
-    format!("behind {behind}: {asks} {}", wants(standing, waiting))
 }

@@ -3,6 +3,7 @@
 //! desk's to say.
 
 use crate::keys::{Written, number};
+use crate::plain::cut;
 use std::fmt;
 
 /// A request as a line writes it.
@@ -63,17 +64,17 @@ pub enum Slip {
     TooMuch(String),
 }
 
+/// The reason in words, fit to be printed: a very long word is cut.
 impl fmt::Display for Slip {
     fn fmt(&self, to: &mut fmt::Formatter) -> fmt::Result {
+        let quoted = |text: &str| format!("'{}'", cut(text, QUOTED));
         match self {
             Slip::NoTransaction(text) => {
-                write!(
-                    to,
-                    "a line starts with a transaction's number, 1 to 16, and '{text}' is none"
-                )
+                let text = quoted(text);
+                write!(to, "a line starts with a transaction's number, 1 to 16, and {text} is none")
             }
             Slip::NothingAsked => write!(to, "a request is missing: {REQUESTS}"),
-            Slip::UnknownRequest(text) => write!(to, "'{text}' is no request: {REQUESTS}"),
+            Slip::UnknownRequest(text) => write!(to, "{} is no request: {REQUESTS}", quoted(text)),
             Slip::NoRange => write!(to, "a read names its range, as in: 1 read 50..150"),
             Slip::NoKeyToInsert => {
                 write!(to, "an insert names its key and record, as in: 2 insert 100 record 7")
@@ -84,20 +85,32 @@ impl fmt::Display for Slip {
             }
             Slip::BadKey(text) => write!(
                 to,
-                "'{text}' is no key: a key is a number below 2^64, or pupil/delivery, each below 2^32"
+                "{} is no key: a key is a number below 2^64, or pupil/delivery, each below 2^32",
+                quoted(text)
             ),
             Slip::BadRecord(text) => {
-                write!(to, "'{text}' is no record: a record is a number below 2^32")
+                write!(to, "{} is no record: a record is a number below 2^32", quoted(text))
             }
-            Slip::TooMuch(text) => write!(to, "'{text}' is too much: the request ends before it"),
+            Slip::TooMuch(text) => {
+                write!(to, "{} is too much: the request ends before it", quoted(text))
+            }
         }
     }
 }
 
 const REQUESTS: &str = "begin, commit, rollback, read, insert or delete";
+/// So many columns of a line's own text are quoted: every key that is nearly right fits.
+const QUOTED: usize = 24;
+
+/// A line without the white space around it, and without the byte order mark that some editors put
+/// in front of a file.
+pub fn trimmed(line: &str) -> &str {
+    line.trim_start_matches('\u{feff}').trim()
+}
 
 /// A line as a request. Nothing for a line without one: a blank, or a comment only.
 pub fn parse(line: &str) -> Result<Option<Request>, Slip> {
+    let line = trimmed(line);
     let written = line.split_once('#').map_or(line, |(written, _comment)| written).trim();
     if written.is_empty() {
         return Ok(None);

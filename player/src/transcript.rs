@@ -1,7 +1,9 @@
 //! A played session as text: each line as it was written, with what the desk says under it.
 
+use crate::plain::plain;
 use crate::records::hex;
 use crate::session::{Outcome, Said, Session};
+use crate::text::{Slip, trimmed};
 
 /// What was played, and how many lines could not be read.
 pub struct Transcript {
@@ -28,7 +30,7 @@ impl Transcript {
             Outcome::Nothing => String::new(),
             _ => number.to_string(),
         };
-        let written = format!("{margin:>4}  {}", line.trim());
+        let written = format!("{margin:>4}  {}", plain(trimmed(line)));
         self.text += written.trim_end();
         self.text += "\n";
     }
@@ -66,9 +68,14 @@ pub fn line_played(session: &mut Session, number: usize, line: &str, bytes: bool
         Outcome::Nothing => {}
         Outcome::Slip(slip) => {
             transcript.slips += 1;
-            transcript.under(&format!("line {number} can't be read: {slip}"));
+            transcript.under(&unread(number, &slip));
         }
         Outcome::Called { record, said } => transcript.called(&record, &said, bytes),
     }
     transcript
+}
+
+/// That a line can't be read, and why.
+pub fn unread(number: usize, slip: &Slip) -> String {
+    format!("line {number} can't be read: {slip}")
 }

@@ -1,6 +1,7 @@
 //! What the desk says, in words (document 01, What the desk says).
 
 use crate::behind::{Blocker, Why, blockers, target};
+use crate::circle::{Call, Link, circle};
 use crate::keys::{Form, Key, Written};
 use crate::picture::{Standing, Waiting};
 use crate::records::Answer;
@@ -8,8 +9,25 @@ use crate::rows::numbers;
 use crate::text::{Asks, Request};
 use keydesk::number;
 
-/// An answer in words, by the request that it answers. A key in it is written as that request
-/// writes keys.
+/// What is said at this place among a call's answers, by the request that it answers: who waits is
+/// told behind whom, who is turned away at 19 the whole circle.
+pub fn said(call: &Call, place: usize, asks: &Asks) -> String {
+    let said = &call.answers[place];
+    let told = match said.number {
+        number::STILL_QUEUED => {
+            call.after.waiting(said.transaction).map(|waiting| waits(&call.after, waiting))
+        }
+        number::CIRCLE => {
+            let stood = call.stood_at(place);
+            circle(&stood, said.transaction).map(|links| turned_away(&stood, &links))
+        }
+        _ => None,
+    };
+    told.unwrap_or_else(|| answer(said, asks))
+}
+
+/// An answer in words as far as the answer alone tells, by the request that it answers. A key in it
+/// is written as that request writes keys.
 pub fn answer(answer: &Answer, asks: &Asks) -> String {
     let form = asks.keys().first().map_or(Form::Number, |written| written.form);
     let key = Written { key: answer.key, form };
@@ -25,7 +43,7 @@ pub fn answer(answer: &Answer, asks: &Asks) -> String {
         number::KEY_PRESENT => format!("{key} is there already, with record {record}"),
         number::LOCKS_IN_USE => "turned away: all 256 locks are in use".to_string(),
         number::PAGES_SHORT => "turned away: no page is left for another key".to_string(),
-        number::CIRCLE => "turned away: it was the newest in a circle of waits".to_string(),
+        number::CIRCLE => CIRCLE.to_string(),
         other => format!("a number that document 01 doesn't have: {other}"),
     }
 }
@@ -49,8 +67,8 @@ fn nothing(asks: &Asks) -> String {
     }
 }
 
-/// Behind whom a request waits, and why: "waits behind 1, who holds S on 7/30, and behind 3, who asked
-/// for it before".
+/// Behind whom a request waits, and why: "waits behind 1, who holds S on 7/30, and behind 3, who
+/// asked for it before".
 pub fn waits(standing: &Standing, waiting: &Waiting) -> String {
     let name = standing.name(target(standing, waiting).name);
     let (holding, asking): (Vec<Blocker>, Vec<Blocker>) = blockers(standing, waiting)
@@ -70,6 +88,19 @@ pub fn waits(standing: &Standing, waiting: &Waiting) -> String {
         behind.push(format!("behind {}, who asked for {it} before", named(&asking)));
     }
     format!("waits {}", behind.join(", and "))
+}
+
+const CIRCLE: &str = "turned away, the newest in a circle";
+
+/// The circle of one that was turned away, link by link: "turned away, the newest in a circle: 2
+/// waits behind 1 at 7/30, 1 behind 2 at 7/40".
+pub fn turned_away(standing: &Standing, circle: &[Link]) -> String {
+    let link = |link: &Link| {
+        let Link { waits, behind, at } = *link;
+        let verb = if *link == circle[0] { " waits" } else { "" };
+        format!("{waits}{verb} behind {behind} at {}", standing.name(at))
+    };
+    format!("{CIRCLE}: {}", circle.iter().map(link).collect::<Vec<String>>().join(", "))
 }
 
 /// A call that returned 10, 11 or 12, in words.

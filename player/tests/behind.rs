@@ -1,5 +1,5 @@
-//! Who waits behind whom, worked out from document 01, Locks, by hand; and that at rest nobody waits
-//! behind nobody.
+//! Who waits behind whom, worked out from document 01, Locks, by hand; and that at rest nobody
+//! waits behind nobody.
 
 use play::behind::{Target, behind, target};
 use play::keys::Key;

@@ -62,7 +62,7 @@ page 1, leaf, from the start: 5 of 24 entries
 
 2 transactions run, 1 waits
     1 runs
-    2 waits behind 1: insert 7/25 record 777 wants X on 7/30 for the instant
+    2 waits behind 1, who holds S on 7/30: insert 7/25 record 777 wants X on 7/30 for the instant
 ";
     assert_eq!(drawn(&lines.join("\n")), expected);
 }
@@ -90,10 +90,25 @@ page 1, leaf, from the start: 4 of 24 entries
 
 3 transactions run, 2 wait
     1 runs
-    2 waits behind 1: insert 15 record 8 wants X on 20 for the instant
-    3 waits behind 2: delete 50 wants X on 50
+    2 waits behind 1, who holds X on 20: insert 15 record 8 wants X on 20 for the instant
+    3 waits behind 2, who holds S on 50: delete 50 wants X on 50
 ";
     assert_eq!(drawn(&(settled(&[10, 20, 30, 50]) + asked)), expected);
+}
+
+/// 3 waits behind 1, who holds S on 20, and behind 2, who wants X on it and asked before.
+#[test]
+fn behind_a_holder_and_an_earlier_request() {
+    let asked = "1 begin\n2 begin\n3 begin\n1 read 20..20\n2 insert 15 record 1\n3 delete 20\n";
+    let expected = "
+3 transactions run, 2 wait
+    1 runs
+    2 waits behind 1, who holds S on 20: insert 15 record 1 wants X on 20 for the instant
+    3 waits behind 1, who holds S on 20, and behind 2, who asked for it before: \
+                    delete 20 wants X on 20
+";
+    let drawn = drawn(&(settled(&[10, 20]) + asked));
+    assert!(drawn.ends_with(expected), "{drawn}");
 }
 
 /// Every way in which an entry can be owned, the end locked, and two readers of one key.
@@ -119,7 +134,7 @@ page 1, leaf, from the start: 5 of 24 entries
 
 2 transactions run, 1 waits
     1 runs
-    2 waits behind 1: insert 5 record 1 wants X on 10 for the instant
+    2 waits behind 1, who holds S on 10: insert 5 record 1 wants X on 10 for the instant
 ";
     let drawn = drawn(&(settled(&[10, 20, 30]) + asked));
     assert!(drawn.ends_with(expected), "{drawn}");

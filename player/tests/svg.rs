@@ -1,8 +1,11 @@
 //! Pictures: what is in them, not where it stands.
 
+mod xml;
+
 use play::rows::Place;
 use play::session::Session;
 use play::svg::svg;
+use xml::elements;
 
 fn drawn(lines: &str) -> String {
     let mut session = Session::fresh();
@@ -11,24 +14,21 @@ fn drawn(lines: &str) -> String {
     }
     let played = lines.lines().enumerate().last().map(|(place, line)| (place + 1, line));
     let picture = svg(&session.standing(), &Place { name: "the <test> & more", played });
-    well_formed(&picture);
+    check(&picture);
     picture
 }
 
-/// Every element that is opened is closed, and texts have no mark-up of their own.
-fn well_formed(picture: &str) {
-    let mut open = Vec::new();
-    for tag in picture.split('<').skip(1).map(|rest| rest.split('>').next().expect("a tag ends")) {
-        let name = tag.split_whitespace().next().expect("a tag has a name");
-        if let Some(closed) = name.strip_prefix('/') {
-            assert_eq!(open.pop(), Some(closed), "{tag}");
-        } else if !tag.ends_with('/') {
-            open.push(name);
-        }
-    }
-    assert!(open.is_empty(), "{open:?} stays open");
-    assert!(picture.starts_with("<svg xmlns=\"http://www.w3.org/2000/svg\""));
-    assert!(!picture.contains("=\"-"), "everything stands right of and below the corner");
+/// The picture is well-formed, and everything stands right of and below the corner.
+fn check(picture: &str) {
+    let elements = elements(picture);
+    assert_eq!(elements[0].tag.get("xmlns"), "http://www.w3.org/2000/svg");
+    assert!(!picture.contains("=\"-"));
+}
+
+/// All texts of a picture, one after another.
+fn words(picture: &str) -> String {
+    let texts = elements(picture).into_iter().filter(|element| element.tag.name == "text");
+    texts.map(|element| element.text + " ").collect()
 }
 
 /// How many elements have exactly this class.
@@ -87,23 +87,82 @@ fn who_waits_is_drawn_at_its_target_and_with_an_arrow_to_whom_it_waits_behind() 
     let picture = drawn(&(settled(3) + asked));
     assert_eq!(count(&picture, "card"), 1, "2 runs");
     assert_eq!(count(&picture, "card waits"), 2);
-    assert!(picture.contains(">waits behind 2: delete 2<"));
-    assert!(picture.contains(">waits behind 2, 3: read 2..2<"));
+    let words = words(&picture);
+    assert!(
+        words.contains(" waits behind 2, who holds X on 2 delete 2 wants X on 2 holds nothing ")
+    );
+    let behind_both = "waits behind 2, who holds X on 2, and behind 3, who asked for it before";
+    assert!(words.contains(&format!("{behind_both} read 2..2 wants S on 2 holds nothing ")));
     assert!(picture.contains(">delete 2 wants X<"));
     assert!(picture.contains(">read 2..2 wants S<"));
     let (to_target, between_cards, legend) = (1, 3, 1);
     assert_eq!(count(&picture, "arrow"), to_target + between_cards + legend);
+    assert!(!words.contains("left out"));
 }
 
-/// Fifteen who wait behind each other: a chain of arrows, and all of them in words.
+/// 3 waits behind 2; 4 behind 2 and 3; at last 16 behind 2 to 15. Of these 105 a chain of 14 is
+/// drawn, and the legend says that the rest is left out.
 #[test]
-fn among_many_arrows_those_in_two_steps_are_left_out() {
+fn among_many_arrows_those_in_more_steps_are_left_out() {
     let begins: String = (2..=16).map(|t| format!("{t} begin\n")).collect();
     let inserts: String = (3..=16).map(|t| format!("{t} insert 2 record {t}\n")).collect();
     let picture = drawn(&(settled(1) + &begins + "2 read 3..4\n" + &inserts));
-    assert!(picture.contains(">waits behind 2-15: insert 2 record 16<"));
-    let (to_target, between_cards, legend) = (1, 14, 1);
+    let words = words(&picture);
+    let all = "waits behind 2, who holds S on the end, and behind 3-15, who asked for it before";
+    assert!(words.contains(all));
+    assert!(words.contains("91 arrows are left out: others lead there in more steps"));
+    let (to_target, between_cards, legend) = (1, 14, 1 + 2);
     assert_eq!(count(&picture, "arrow"), to_target + between_cards + legend);
+}
+
+/// 15 waits behind the readers 2 to 14, and nothing leads there in more steps: all are drawn. 16
+/// waits behind them too, and behind 15: that arrow leads to all of them.
+#[test]
+fn many_arrows_that_nothing_stands_for_are_drawn() {
+    let begins: String = (2..=16).map(|t| format!("{t} begin\n")).collect();
+    let reads: String = (2..=14).map(|t| format!("{t} read 1..1\n")).collect();
+    let picture = drawn(&(settled(1) + &begins + &reads + "15 delete 1\n"));
+    let (to_target, between_cards, legend) = (1, 13, 1);
+    assert_eq!(count(&picture, "arrow"), to_target + between_cards + legend);
+    assert!(!words(&picture).contains("left out"));
+    let picture = drawn(&(settled(1) + &begins + &reads + "15 delete 1\n16 delete 1\n"));
+    let (to_target, between_cards, legend) = (1, 14, 1 + 2);
+    assert_eq!(count(&picture, "arrow"), to_target + between_cards + legend);
+    assert!(words(&picture).contains("13 arrows are left out"));
+}
+
+/// The lines of a picture's title, each checked to stand within the picture.
+fn title(picture: &str) -> Vec<String> {
+    let elements = elements(picture);
+    let number = |text: &str| text.parse::<usize>().expect("a number");
+    let width = number(elements[0].tag.get("width"));
+    let lines = elements.into_iter().filter(|element| element.tag.get("class") == "title");
+    let within = |element: &xml::Element| {
+        let letters = element.text.chars().count();
+        number(element.tag.get("x")) + 11 * letters < width
+    };
+    lines.inspect(|line| assert!(within(line), "{}", line.text)).map(|line| line.text).collect()
+}
+
+#[test]
+fn a_long_comment_in_the_title_is_broken_into_lines() {
+    let comment =
+        "the night job reads what a pupil has bowled, ball by ball, until there is no more";
+    let picture = drawn(&format!("1 begin # {comment}"));
+    let lines = title(&picture);
+    assert_eq!(lines.join(" "), format!("After line 1: 1 begin # {comment}"));
+    assert_eq!(lines.len(), 2);
+}
+
+#[test]
+fn a_very_long_word_in_the_title_is_cut_and_so_is_a_comment_without_end() {
+    let lines = title(&drawn(&format!("1 begin # {} end", "W".repeat(3000))));
+    assert_eq!(lines.len(), 3);
+    assert!(lines[1].ends_with("W…") && lines[1].len() > 60);
+    assert_eq!(lines[2], "end");
+    let lines = title(&drawn(&format!("1 begin # {}", "and so on ".repeat(1000))));
+    assert_eq!(lines.len(), 4);
+    assert!(lines[3].ends_with('…'));
 }
 
 #[test]

@@ -3,6 +3,7 @@
 use play::keys::{Key, Written};
 use play::records::Answer;
 use play::text::{Asks, Request};
+use play::transcript::transcript;
 use play::words::{answer, refusal};
 
 fn key(text: &str) -> Written {
@@ -64,6 +65,23 @@ fn waiting() {
     }
 }
 
+/// What the desk says to the last line of a session on the settled key 7/30, held by 1.
+fn said_last(line: &str) -> String {
+    let begun = "16 begin\n16 insert 7/30 record 1\n16 commit\n1 begin\n2 begin\n";
+    let played = transcript(&format!("{begun}1 delete 7/30\n{line}\n"), false).text;
+    played.lines().last().expect("something is said").trim().to_string()
+}
+
+/// 7/30 is 7 * 2^32 + 30. A line that names the key writes it anew.
+#[test]
+fn who_is_in_the_way_of_one_that_waits_and_keys_as_the_session_last_wrote_them() {
+    assert_eq!(said_last("2 insert 7/25 record 7"), "2: waits behind 1, who holds X on 7/30 (3)");
+    assert_eq!(said_last("2 insert 25 record 7"), "2: waits behind 1, who holds X on 7/30 (3)");
+    let as_number = "2: waits behind 1, who holds X on 30064771102 (3)";
+    assert_eq!(said_last("2 delete 30064771102"), as_number);
+    assert_eq!(said_last("1 read 30064771102..30064771102\n2 insert 7/25 record 7"), as_number);
+}
+
 #[test]
 fn refused_by_an_answer() {
     assert_eq!(said(13, Asks::Begin), "has begun already");
@@ -72,7 +90,7 @@ fn refused_by_an_answer() {
     assert_eq!(said(16, insert()), "100 is there already, with record 9");
     assert_eq!(said(17, read()), "turned away: all 256 locks are in use");
     assert_eq!(said(18, insert()), "turned away: no page is left for another key");
-    assert_eq!(said(19, delete()), "turned away: it was the newest in a circle of waits");
+    assert_eq!(said(19, delete()), "turned away, the newest in a circle");
 }
 
 #[test]

@@ -5,8 +5,10 @@ mod escape;
 mod pack;
 mod steps;
 
+use crate::plain::plain;
+use crate::text::trimmed;
 use crate::transcript::transcript;
-use escape::{in_html, in_script, plain};
+use escape::{in_html, in_script};
 use steps::{Step, Steps, steps};
 
 const PAGE: &str = include_str!("page.html");
@@ -52,7 +54,7 @@ fn filled<'a>(text: &str, part: impl Fn(&str) -> &'a str) -> String {
 /// step that it belongs to; `steps`; and the `table` of the pictures (see `pack`).
 fn data(name: &str, session: &str, played: &Steps) -> String {
     let lines = session.lines().zip(&played.step_of_line);
-    let lines = lines.map(|(line, step)| format!("[{},{step}]", shown(line.trim_end())));
+    let lines = lines.map(|(line, step)| format!("[{},{step}]", shown(trimmed(line))));
     let lines: Vec<String> = lines.collect();
     let steps: Vec<String> = played.steps.iter().map(step_data).collect();
     let table: Vec<String> = played.table.iter().map(|line| in_script(line)).collect();

@@ -82,7 +82,7 @@ function show(wanted) {
 
 function title(step) {
   if (current === 0) return "Before the first request";
-  return step.said.length > 0 ? session.lines[step.line - 1][0].trim() : "After the last request";
+  return step.said.length > 0 ? session.lines[step.line - 1][0] : "After the last request";
 }
 
 // Marks where the step stands, at the side and in the controls.

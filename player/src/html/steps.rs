@@ -8,7 +8,8 @@ use crate::picture::Standing;
 use crate::rows::Place;
 use crate::session::{Outcome, Session};
 use crate::svg::svg;
-use crate::transcript::sentence;
+use crate::text::trimmed;
+use crate::transcript::{sentence, unread};
 use crate::words;
 
 /// What the page shows at a step.
@@ -57,7 +58,7 @@ pub fn steps(text: &str, name: &str) -> Steps {
 
 /// How many lines the comment at the session's head has: one with a blank line below it.
 fn head(lines: &[&str]) -> usize {
-    let comments = lines.iter().take_while(|line| line.trim_start().starts_with('#')).count();
+    let comments = lines.iter().take_while(|line| trimmed(line).starts_with('#')).count();
     match lines.get(comments) {
         Some(line) if line.trim().is_empty() => comments,
         _ => 0,
@@ -67,7 +68,7 @@ fn head(lines: &[&str]) -> usize {
 /// What comment lines say: those side by side are a paragraph, and a line without words ends it.
 fn remarks(lines: &[&str]) -> Vec<String> {
     let said: Vec<&str> =
-        lines.iter().map(|line| line.trim().trim_start_matches('#').trim()).collect();
+        lines.iter().map(|line| trimmed(line).trim_start_matches('#').trim()).collect();
     let paragraphs = said.split(|words| words.is_empty()).filter(|lines| !lines.is_empty());
     paragraphs.map(|lines| lines.join(" ")).collect()
 }
@@ -103,9 +104,9 @@ impl<'a> Stepping<'a> {
     fn play(&mut self, line: usize, text: &'a str, above: &[&str]) -> bool {
         let (said, slip) = match self.session.play(line, text) {
             Outcome::Nothing => return false,
-            Outcome::Slip(slip) => (vec![format!("line {line} can't be read: {slip}")], true),
+            Outcome::Slip(slip) => (vec![unread(line, &slip)], true),
             Outcome::Called { said, .. } => {
-                self.asked = Some((line, text.trim()));
+                self.asked = Some((line, trimmed(text)));
                 (said.iter().map(sentence).collect(), false)
             }
         };

@@ -23,9 +23,14 @@ impl Area {
     }
 }
 
-/// How wide a text is at most in the letters of the entries, which all have the same width.
+/// How wide a letter of the entries is at most, and one of the title; all letters of a kind have
+/// the same width.
+pub const LETTER: i32 = 8;
+pub const TITLE_LETTER: i32 = 11;
+
+/// How wide a text is at most in the letters of the entries.
 pub fn wide(text: &str) -> i32 {
-    8 * text.chars().count() as i32
+    LETTER * text.chars().count() as i32
 }
 
 #[derive(Default)]
@@ -41,7 +46,8 @@ const MARGIN: i32 = 24;
 /// How each kind of thing looks. Elements name their kind as their class.
 const STYLE: &str = "
 text { font: 13px 'DejaVu Sans Mono', 'SFMono-Regular', Menlo, Consolas, monospace; fill: #1d2733; }
-.title { font: bold 20px 'DejaVu Sans', Helvetica, Arial, sans-serif; }
+.title { font-size: 18px; font-weight: bold; }
+.place { fill: #51606f; }
 .note { font: 13px 'DejaVu Sans', Helvetica, Arial, sans-serif; fill: #51606f; }
 .heading { font: bold 14px 'DejaVu Sans', Helvetica, Arial, sans-serif; }
 .strong { font-weight: bold; }
@@ -120,6 +126,13 @@ impl Canvas {
             Tip::Down => ((x - 5, y - 9), (x + 5, y - 9)),
         };
         self.path("tip", &format!("M{x} {y}L{} {}L{} {}Z", one.0, one.1, two.0, two.1));
+    }
+
+    /// Adds another drawing, so far down.
+    pub fn add(&mut self, other: Canvas, down: i32) {
+        let moved = format!("<g transform=\"translate(0 {down})\">\n{}</g>\n", other.elements);
+        self.elements += &moved;
+        self.reach(other.right, down + other.bottom);
     }
 
     /// The whole picture.

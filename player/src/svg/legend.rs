@@ -1,22 +1,34 @@
 //! What the colours and marks mean.
 
 use super::canvas::{Area, Canvas, Tip};
+use crate::rows::counted;
 
-/// Draws the legend within a width, in as many rows as it needs.
-pub fn draw(canvas: &mut Canvas, x: i32, y: i32, width: i32) {
+/// Draws the legend within a width, in as many rows as it needs. It says how many arrows are left
+/// out, and which.
+pub fn draw(canvas: &mut Canvas, x: i32, y: i32, width: i32, left_out: usize) {
     let (mut right, mut down) = (x, y);
-    for (mark, words) in ITEMS {
+    for (mark, words) in items(left_out) {
         let needs = 40 + 7 * words.len() as i32 + 28;
         if right > x && right + needs > x + width {
             (right, down) = (x, down + 30);
         }
         mark(canvas, Area { x: right, y: down, width: 30, height: 20 });
-        canvas.text("note", right + 40, down + 15, words);
+        canvas.text("note", right + 40, down + 15, &words);
         right += needs;
     }
 }
 
 type Mark = fn(&mut Canvas, Area);
+
+fn items(left_out: usize) -> Vec<(Mark, String)> {
+    let mut items: Vec<(Mark, String)> =
+        ITEMS.iter().map(|(mark, words)| (*mark, words.to_string())).collect();
+    if left_out > 0 {
+        let arrows = counted(left_out, "arrow is", "arrows are");
+        items.push((steps, format!("{arrows} left out: others lead there in more steps")));
+    }
+    items
+}
 
 const ITEMS: [(Mark, &str); 7] = [
     (|canvas, area| canvas.rect("settled", area), "settled"),
@@ -39,7 +51,18 @@ fn bars(canvas: &mut Canvas, area: Area) {
 }
 
 fn waits(canvas: &mut Canvas, area: Area) {
-    let (y, end) = (area.y + area.height / 2, area.x + 1);
     canvas.rect("waits", area);
-    canvas.arrow(&format!("M{} {y}L{} {y}", area.right() - 4, end + 8), (end + 3, y), Tip::Left);
+    arrow(canvas, area.x + 4, area.right() - 4, area.y + area.height / 2);
+}
+
+/// Two arrows one after the other.
+fn steps(canvas: &mut Canvas, area: Area) {
+    let y = area.y + area.height / 2;
+    arrow(canvas, area.x, area.middle() - 1, y);
+    arrow(canvas, area.middle() + 1, area.right(), y);
+}
+
+/// An arrow to the left.
+fn arrow(canvas: &mut Canvas, to: i32, from: i32, y: i32) {
+    canvas.arrow(&format!("M{from} {y}L{} {y}", to + 8), (to, y), Tip::Left);
 }

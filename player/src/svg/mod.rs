@@ -8,25 +8,44 @@ mod transactions;
 mod tree;
 
 use crate::picture::Standing;
-use crate::rows::{Place, locks_in_use, size};
-use canvas::Canvas;
+use crate::plain::wrapped;
+use crate::rows::{Place, locks_in_use};
+use canvas::{Canvas, LETTER, TITLE_LETTER};
 
 const LEFT: i32 = 24;
-/// Where tree and transactions start, below the title.
-const TOP: i32 = 92;
-/// A narrow drawing still gives the legend this width.
-const LEGEND: i32 = 760;
+/// A narrow drawing still gives title and legend this width.
+const WIDTH: i32 = 760;
+/// The title, and what stands below it, have at most so many lines.
+const TITLE_LINES: usize = 4;
 
 /// The drawing as an SVG file, with the place in the session as its title.
 pub fn svg(standing: &Standing, place: &Place) -> String {
+    let mut body = Canvas::default();
+    tree::draw(standing, &mut body, LEFT, 0);
+    let (right, _) = body.extent();
+    let left_out = transactions::draw(standing, &mut body, right + 40, 0);
+    let (right, bottom) = body.extent();
+    let width = (right - LEFT).max(WIDTH);
+    legend::draw(&mut body, LEFT, bottom + 36, width, left_out);
     let mut canvas = Canvas::default();
-    tree::draw(standing, &mut canvas, LEFT, TOP);
-    let (right, _) = canvas.extent();
-    transactions::draw(standing, &mut canvas, right + 40, TOP);
-    canvas.text("title", LEFT, 40, &place.title());
-    let (size, locks) = (size(standing), locks_in_use(standing));
-    canvas.text("note", LEFT, 66, &format!("{}: {size}, {locks}", place.name));
-    let (right, bottom) = canvas.extent();
-    legend::draw(&mut canvas, LEFT, bottom + 36, (right - LEFT).max(LEGEND));
+    let down = title(standing, place, &mut canvas, width);
+    canvas.add(body, down);
     canvas.finished(&place.title())
+}
+
+/// Draws the place and its sizes within a width, and gives where the rest starts.
+fn title(standing: &Standing, place: &Place, canvas: &mut Canvas, width: i32) -> i32 {
+    let lines = |text: &str, letter: i32| wrapped(text, (width / letter) as usize, TITLE_LINES);
+    let mut down = 40;
+    for line in lines(&place.title(), TITLE_LETTER) {
+        canvas.text("title", LEFT, down, &line);
+        down += 26;
+    }
+    let sizes = format!("{}, {}", place.size(standing), locks_in_use(standing));
+    for line in lines(&sizes, LETTER) {
+        canvas.text("place", LEFT, down, &line);
+        down += 20;
+    }
+    canvas.reach(LEFT + width, down);
+    down + 6
 }

@@ -5,54 +5,74 @@ use super::canvas::{Area, Canvas, Tip, wide};
 use crate::behind::behind;
 use crate::keys::Key;
 use crate::picture::{Mode, Standing, Waiting};
-use crate::rows::{numbers, wants};
+use crate::plain::wrapped;
+use crate::rows::wants;
+use crate::words::waits;
+use std::cmp::Reverse;
 
 /// A card ready to be drawn.
 struct Card {
     transaction: u16,
     waits: bool,
+    /// Whether it runs, or behind whom it waits.
+    head: Vec<String>,
     lines: Vec<String>,
     behind: Vec<u16>,
 }
 
 const LINE: i32 = 20;
 const BETWEEN: i32 = 14;
+/// So many letters stand in a line of a card.
+const COLUMNS: usize = 60;
 /// So many names are written out on a card; more are counted.
 const NAMED: usize = 4;
 /// So many arrows are all drawn.
 const ARROWS: usize = 12;
 
-/// Draws the cards with their upper left corner here: first those who run, then those who wait,
-/// oldest request first, so that arrows point up where they can.
-pub fn draw(standing: &Standing, canvas: &mut Canvas, x: i32, y: i32) {
+/// Draws the cards with their upper left corner here, and gives how many arrows are left out. First
+/// those who run, then those who wait, oldest request first: so arrows point up where they can.
+pub fn draw(standing: &Standing, canvas: &mut Canvas, x: i32, y: i32) -> usize {
     canvas.text("heading", x, y + 16, "Transactions");
     let cards = cards(standing);
     if cards.is_empty() {
         canvas.text("note", x, y + 44, "none is running");
     }
-    let lines = cards.iter().flat_map(|card| &card.lines);
+    let lines = cards.iter().flat_map(|card| card.head.iter().chain(&card.lines));
     let width = lines.map(|line| wide(line)).max().unwrap_or(0) + 64;
     let mut areas = Vec::new();
     let mut down = y + 30;
     for card in &cards {
-        let height = card.lines.len() as i32 * LINE + 16;
-        let area = Area { x, y: down, width, height };
+        let area = Area { x, y: down, width, height: card.height() };
         card.draw(canvas, area);
-        areas.push((card.transaction, area));
+        areas.push(area);
         down = area.bottom() + BETWEEN;
     }
-    for (card, (_, area)) in cards.iter().zip(&areas) {
-        for (place, other) in (0..).zip(drawn_arrows(&cards, card)) {
-            if let Some((_, to)) = areas.iter().find(|(transaction, _)| *transaction == other) {
-                arrow(canvas, *area, *to, place);
-            }
+    draw_arrows(canvas, &cards, &areas)
+}
+
+/// Draws the arrows between cards that stand in these places, and gives how many are left out. They
+/// start on the upper part of a card and end below that, so that a chain of them doesn't cross.
+fn draw_arrows(canvas: &mut Canvas, cards: &[Card], areas: &[Area]) -> usize {
+    let place_of = |transaction: u16| cards.iter().position(|card| card.transaction == transaction);
+    let mut left_out = 0;
+    for (own, card) in cards.iter().enumerate() {
+        let drawn = drawn_arrows(cards, card);
+        left_out += card.behind.len() - drawn.len();
+        let mut to: Vec<usize> = drawn.into_iter().filter_map(place_of).collect();
+        // so wide arrows go around narrow ones: up, the nearest first; down, the nearest last
+        to.sort_by_key(|place| (*place > own, Reverse(*place)));
+        let (right, from) = (areas[own].right(), areas[own].y + 10);
+        let apart = ((areas[own].height - 36) / to.len().max(1) as i32).min(6);
+        for (place, to) in (0..).zip(to) {
+            arrow(canvas, (right, from + apart * place), areas[to]);
         }
     }
+    left_out
 }
 
 /// Those to whom an arrow goes from a card: everyone it waits behind. Among many arrows those are
-/// left out that lead where another arrow of the card leads in two steps; the card's words still
-/// name everyone.
+/// left out that lead where two others lead one after the other. Nobody waits in a circle, so that
+/// the arrows that are drawn still lead there, in two steps or more.
 fn drawn_arrows(cards: &[Card], card: &Card) -> Vec<u16> {
     let behind = |transaction: u16| {
         let card = cards.iter().find(|card| card.transaction == transaction);
@@ -65,29 +85,32 @@ fn drawn_arrows(cards: &[Card], card: &Card) -> Vec<u16> {
 }
 
 fn cards(standing: &Standing) -> Vec<Card> {
-    let waits = |transaction: &u16| standing.queue.iter().any(|w| w.transaction == *transaction);
-    let running = standing.running.iter().filter(|transaction| !waits(transaction));
+    let running =
+        standing.running.iter().filter(|transaction| standing.waiting(**transaction).is_none());
     let running = running.map(|transaction| Card {
         transaction: *transaction,
         waits: false,
-        lines: vec!["runs".to_string(), holds(standing, *transaction)],
+        head: vec!["runs".to_string()],
+        lines: in_lines(&holds(standing, *transaction)),
         behind: vec![],
     });
     running.chain(standing.queue.iter().map(|waiting| waiting_card(standing, waiting))).collect()
 }
 
 fn waiting_card(standing: &Standing, waiting: &Waiting) -> Card {
-    let behind = behind(standing, waiting);
+    let wants = format!("{} {}", waiting.asks, wants(standing, waiting));
+    let holds = holds(standing, waiting.transaction);
     Card {
         transaction: waiting.transaction,
         waits: true,
-        lines: vec![
-            format!("waits behind {}: {}", numbers(&behind), waiting.asks),
-            wants(standing, waiting),
-            holds(standing, waiting.transaction),
-        ],
-        behind,
+        head: in_lines(&waits(standing, waiting)),
+        lines: [in_lines(&wants), in_lines(&holds)].concat(),
+        behind: behind(standing, waiting),
     }
+}
+
+fn in_lines(text: &str) -> Vec<String> {
+    wrapped(text, COLUMNS, usize::MAX)
 }
 
 /// What a transaction holds, in words.
@@ -110,20 +133,24 @@ fn holds(standing: &Standing, transaction: u16) -> String {
 }
 
 impl Card {
+    fn height(&self) -> i32 {
+        (self.head.len() + self.lines.len()) as i32 * LINE + 16
+    }
+
     fn draw(&self, canvas: &mut Canvas, area: Area) {
         canvas.rect(if self.waits { "card waits" } else { "card" }, area);
         canvas.badge(area.x + 24, area.y + 8 + LINE / 2, self.transaction);
-        for (place, line) in (0..).zip(&self.lines) {
-            let class = if place == 0 { "strong" } else { "" };
+        let head = self.head.iter().map(|line| ("strong", line));
+        let lines = head.chain(self.lines.iter().map(|line| ("", line)));
+        for (place, (class, line)) in (0..).zip(lines) {
             canvas.text(class, area.x + 48, area.y + 23 + place * LINE, line);
         }
     }
 }
 
-/// An arrow on the right, from a card to the one that it waits behind. The further away, the wider.
-fn arrow(canvas: &mut Canvas, from: Area, to: Area, place: i32) {
-    let (start, end) = (from.y + 16 + 6 * place, to.y + to.height / 2);
-    let right = from.right();
+/// An arrow from a card's right side to the card that it waits behind. The further away, the wider.
+fn arrow(canvas: &mut Canvas, (right, start): (i32, i32), to: Area) {
+    let end = to.bottom() - 14;
     let bend = right + 30 + (start - end).abs() / 5;
     let path = format!("M{right} {start}C{bend} {start} {bend} {end} {} {end}", to.right() + 9);
     canvas.arrow(&path, (to.right() + 1, end), Tip::Left);

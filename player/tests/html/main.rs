@@ -117,7 +117,7 @@ fn every_line_belongs_to_the_step_at_or_below_it() {
         let mut before = 0;
         for (number, (line, text)) in (1..).zip(lines.iter().zip(session.lines())) {
             let [shown, step] = line.list() else { panic!("a text and a step") };
-            assert_eq!(shown.text(), text.trim_end(), "{name}");
+            assert_eq!(shown.text(), text.trim(), "{name}");
             let place = step.number() as usize;
             assert!(place == before || place == before + 1, "{name}, line {number}");
             assert!(place == 0 || steps[place].at("line").number() >= number, "{name}, {number}");
