@@ -87,12 +87,13 @@ fn entries(before: &Standing, after: &Standing) -> Vec<String> {
     for key in was.keys().filter(|key| !is.contains_key(key)) {
         gone.add("taken out".to_string(), after.written(*key).to_string());
     }
-    let came = came.sentences(|said, names, _| format!("{names} came, {said}"));
+    let entries = |one: bool| if one { "entry" } else { "entries" };
+    let came = came.sentences(|said, names, one| format!("{} {names} came, {said}", entries(one)));
     let gone = gone.sentences(|said, names, one| {
-        format!("{names} {} {said}", if one { "was" } else { "were" })
+        format!("{} {names} {} {said}", entries(one), if one { "was" } else { "were" })
     });
     let changed = changed.sentences(|said, names, one| {
-        format!("{names} {} now {said}", if one { "is" } else { "are" })
+        format!("{} {names} {} now {said}", entries(one), if one { "is" } else { "are" })
     });
     [came, gone, changed].concat()
 }

@@ -46,7 +46,7 @@ fn what_is_refused_or_cannot_be_read_changes_nothing() {
 #[test]
 fn an_insert_brings_an_entry_and_its_lock() {
     let changed = last("1 begin\n1 insert 7/25 record 777");
-    assert_eq!(changed, ["7/25 came, owned by 1, with record 777", "1 took X on 7/25"]);
+    assert_eq!(changed, ["entry 7/25 came, owned by 1, with record 777", "1 took X on 7/25"]);
 }
 
 #[test]
@@ -57,28 +57,34 @@ fn a_read_that_finds_nothing_takes_the_lock_on_the_end() {
 #[test]
 fn a_delete_leaves_a_ghost_which_the_commit_takes_out() {
     let delete = "1 delete 20";
-    assert_eq!(last_on_settled(delete), ["20 is now a ghost of 1", "1 took X on 20"]);
+    assert_eq!(last_on_settled(delete), ["entry 20 is now a ghost of 1", "1 took X on 20"]);
     let commit = format!("{delete}\n1 commit");
-    assert_eq!(last_on_settled(&commit), ["1 ended", "20 was taken out", "1 released X on 20"]);
+    assert_eq!(
+        last_on_settled(&commit),
+        ["1 ended", "entry 20 was taken out", "1 released X on 20"]
+    );
 }
 
 /// "1 deletes 20 (settled) and inserts it with record 9; rollback gives the old record."
 #[test]
 fn a_ghost_is_made_present_and_rolled_back() {
     let insert = "1 delete 20\n1 insert 20 record 9";
-    assert_eq!(last_on_settled(insert), ["20 is now owned by 1, with record 9"]);
+    assert_eq!(last_on_settled(insert), ["entry 20 is now owned by 1, with record 9"]);
     let rollback = format!("{insert}\n1 rollback");
-    let expected = ["1 ended", "20 is now settled, with record 2", "1 released X on 20"];
+    let expected = ["1 ended", "entry 20 is now settled, with record 2", "1 released X on 20"];
     assert_eq!(last_on_settled(&rollback), expected);
     let commit = format!("{insert}\n1 commit");
-    assert_eq!(last_on_settled(&commit), ["1 ended", "20 is now settled", "1 released X on 20"]);
+    assert_eq!(
+        last_on_settled(&commit),
+        ["1 ended", "entry 20 is now settled", "1 released X on 20"]
+    );
 }
 
 /// "X replaces S in its slot."
 #[test]
 fn a_lock_is_upgraded() {
     let changed = last_on_settled("1 read 20..20\n1 delete 20");
-    assert_eq!(changed, ["20 is now a ghost of 1", "1 upgraded S to X on 20"]);
+    assert_eq!(changed, ["entry 20 is now a ghost of 1", "1 upgraded S to X on 20"]);
 }
 
 #[test]
@@ -89,7 +95,7 @@ fn who_waits_now_and_who_waits_no_more() {
     let expected = [
         "1 ended",
         "2 waits no more",
-        "15 came, owned by 2, with record 6",
+        "entry 15 came, owned by 2, with record 6",
         "2 took X on 15",
         "1 released S on 20",
     ];
@@ -107,7 +113,7 @@ fn who_still_waits_but_elsewhere() {
         "1 ended",
         "2 still waits, and now wants X on 30 for the instant",
         "3 waits no more",
-        "20 was taken out",
+        "entry 20 was taken out",
         "1 released X on 20",
     ];
     assert_eq!(last_on_settled(asked), expected);
@@ -117,7 +123,7 @@ fn who_still_waits_but_elsewhere() {
 #[test]
 fn a_split_uses_pages_and_makes_the_tree_higher() {
     let expected = [
-        "25 came, owned by 1, with record 25",
+        "entry 25 came, owned by 1, with record 25",
         "1 took X on 25",
         "4 pages are used, 2 before",
         "the tree has 2 levels, 1 before",
@@ -129,17 +135,18 @@ fn a_split_uses_pages_and_makes_the_tree_higher() {
 #[test]
 fn a_long_list_is_cut_with_a_count() {
     let committed = |keys| last(&(inserts(keys) + "1 commit"));
-    let expected = ["1 ended", "1, 2, 3, 4, 5 are now settled", "1 released X on 1, 2, 3, 4, 5"];
+    let expected =
+        ["1 ended", "entries 1, 2, 3, 4, 5 are now settled", "1 released X on 1, 2, 3, 4, 5"];
     assert_eq!(committed(5), expected);
     let expected = [
         "1 ended",
-        "1, 2, 3, 4 and 2 more are now settled",
+        "entries 1, 2, 3, 4 and 2 more are now settled",
         "1 released X on 1, 2, 3, 4 and 2 more",
     ];
     assert_eq!(committed(6), expected);
     let expected = [
         "1 ended",
-        "1, 2, 3, 4 and 252 more were taken out",
+        "entries 1, 2, 3, 4 and 252 more were taken out",
         "1 released X on 1, 2, 3, 4 and 252 more",
     ];
     assert_eq!(last(&(inserts(256) + "1 rollback")), expected);

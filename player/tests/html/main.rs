@@ -147,7 +147,7 @@ fn a_step_has_the_words_of_its_line() {
     let changes = [
         "1 ended",
         "2 waits no more",
-        "7/25 came, owned by 2, with record 777",
+        "entry 7/25 came, owned by 2, with record 777",
         "2 took X on 7/25",
         "1 released S on 7/10, 7/20, 7/30, 8/10",
     ];
