@@ -34,11 +34,11 @@ echo 'rt: low proved (1 s)' >&2
 echo 'rt: middle NOT PROVED (exit 1, 2 s)' >&2
 exit 1";
 
-/// Makes a program that says how it was started.
+/// Makes a program that says how it was started, and what it is given to read.
 const CARGO: &str = "\
 mkdir -p tests/target/release
 echo '#!/usr/bin/env bash' >tests/target/release/play
-echo 'echo \"played $*\"' >>tests/target/release/play
+echo 'echo \"played $*\"; cat' >>tests/target/release/play
 chmod +x tests/target/release/play";
 
 const FILES: [&str; 8] = [
@@ -240,6 +240,18 @@ fn what_is_still_good_is_not_made_again() {
     assert_eq!(folder.calls(), ["rt", "cargo"]);
     folder.play(&[]);
     assert!(folder.calls().is_empty());
+}
+
+#[test]
+fn a_session_from_standard_input_is_left_to_the_program() {
+    let folder = Folder::new("input");
+    folder.stub("rt", &format!("cat\n{RT}"));
+    folder.stub("cargo", &format!("cat\n{CARGO}"));
+    folder.write("session.txt", "1 begin\n");
+    let input = File::open(folder.path("session.txt")).expect("it is there");
+    let output = folder.script(&["-"]).stdin(input).output().expect("bash is there");
+    assert_eq!(printed(&output), "played -\n1 begin\n");
+    assert_eq!(folder.calls(), ["rt", "cargo"]);
 }
 
 /// What is made has the time at which it was begun.

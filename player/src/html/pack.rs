@@ -3,9 +3,10 @@
 //! - The **table** has every distinct line of all pictures once, in the order of its first use. A
 //!   line is what stands between two line ends.
 //! - A **picture** is a list of whole numbers that go by twos, `from` and `count`. Each two give
-//!   the next `count` lines of the picture. Where `from` is 0 or more, they are lines of the picture
-//!   before, from its line `from` on, the first being 0; the picture before the first has no lines.
-//!   Where `from` is below 0, they are lines of the table, from `-1 - from` on, the first being 0.
+//!   the next `count` lines of the picture. Where `from` is 0 or more, they are lines of the
+//!   picture before, from its line `from` on, the first being 0; the picture before the first has
+//!   no lines. Where `from` is below 0, they are lines of the table, from `-1 - from` on, the first
+//!   being 0.
 //!
 //! The lines with a line end between each two are the picture, byte for byte.
 
