@@ -24,7 +24,7 @@ pub struct Page {
 /// The page for a session of this name.
 pub fn html(session: &str, name: &str) -> Page {
     let steps = steps(session, name);
-    let data = data(name, session, &steps);
+    let data = data(session, &steps);
     let transcript = in_html(&transcript(session, false).text);
     let name = in_html(&plain(name));
     let text = filled(PAGE, |part| match part {
@@ -50,17 +50,16 @@ fn filled<'a>(text: &str, part: impl Fn(&str) -> &'a str) -> String {
     filled
 }
 
-/// What `page.js` reads, as JSON with a line for each thing: `name`; `lines`, each a text and the
-/// step that it belongs to; `steps`; and the `table` of the pictures (see `pack`).
-fn data(name: &str, session: &str, played: &Steps) -> String {
+/// What `page.js` reads, as JSON: the session's `lines`, each a text and the step that it belongs
+/// to; the `steps`; and the `table` of their pictures (see `pack`).
+fn data(session: &str, played: &Steps) -> String {
     let lines = session.lines().zip(&played.step_of_line);
     let lines = lines.map(|(line, step)| format!("[{},{step}]", shown(trimmed(line))));
     let lines: Vec<String> = lines.collect();
     let steps: Vec<String> = played.steps.iter().map(step_data).collect();
     let table: Vec<String> = played.table.iter().map(|line| in_script(line)).collect();
     format!(
-        "{{\"name\":{},\n\"lines\":[\n{}\n],\n\"steps\":[\n{}\n],\n\"table\":[\n{}\n]}}",
-        shown(name),
+        "{{\"lines\":[\n{}\n],\n\"steps\":[\n{}\n],\n\"table\":[\n{}\n]}}",
         lines.join(",\n"),
         steps.join(",\n"),
         table.join(",\n")
