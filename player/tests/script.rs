@@ -258,7 +258,8 @@ fn a_session_from_standard_input_is_left_to_the_program() {
 #[test]
 fn a_source_that_is_changed_while_it_is_proved_is_newer() {
     let folder = Folder::new("meanwhile");
-    folder.stub("rt", &format!("touch -d '1 second' crates/low/src/lib.rt\n{RT}"));
+    let change = "touch -d @$(date +%s.%N) crates/low/src/lib.rt\nsleep 0.1";
+    folder.stub("rt", &format!("{change}\n{RT}"));
     folder.play(&[]);
     assert_eq!(folder.calls(), ["rt", "cargo"]);
     folder.stub("rt", RT);
