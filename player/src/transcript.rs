@@ -3,7 +3,7 @@
 use crate::plain::plain;
 use crate::records::hex;
 use crate::session::{Outcome, Said, Session};
-use crate::text::trimmed;
+use crate::text::{Slip, trimmed};
 
 /// What was played, and how many lines could not be read.
 pub struct Transcript {
@@ -16,16 +16,9 @@ pub fn transcript(session: &str, bytes: bool) -> Transcript {
     let mut played = Session::fresh();
     let mut transcript = Transcript { text: String::new(), slips: 0 };
     for (number, line) in (1..).zip(session.lines()) {
-        let outcome = played.play(number, line);
-        transcript.line(number, line, &outcome);
-        match outcome {
-            Outcome::Nothing => {}
-            Outcome::Slip(slip) => {
-                transcript.slips += 1;
-                transcript.under(&format!("line {number} can't be read: {slip}"));
-            }
-            Outcome::Called { record, said } => transcript.called(&record, &said, bytes),
-        }
+        let next = line_played(&mut played, number, line, bytes);
+        transcript.text += &next.text;
+        transcript.slips += next.slips;
     }
     transcript
 }
@@ -60,8 +53,29 @@ impl Transcript {
 }
 
 /// To whom, what, and document 01's number for it.
-fn sentence(said: &Said) -> String {
+pub fn sentence(said: &Said) -> String {
     let Said { transaction, words, number, .. } = said;
     let asked = said.asked_in.map_or(String::new(), |line| format!(" (asked in line {line})"));
     format!("{transaction}{asked}: {words} ({number})")
+}
+
+/// Plays one line of a session: its part of the transcript.
+pub fn line_played(session: &mut Session, number: usize, line: &str, bytes: bool) -> Transcript {
+    let mut transcript = Transcript { text: String::new(), slips: 0 };
+    let outcome = session.play(number, line);
+    transcript.line(number, line, &outcome);
+    match outcome {
+        Outcome::Nothing => {}
+        Outcome::Slip(slip) => {
+            transcript.slips += 1;
+            transcript.under(&unread(number, &slip));
+        }
+        Outcome::Called { record, said } => transcript.called(&record, &said, bytes),
+    }
+    transcript
+}
+
+/// That a line can't be read, and why.
+pub fn unread(number: usize, slip: &Slip) -> String {
+    format!("line {number} can't be read: {slip}")
 }
