@@ -4,7 +4,7 @@
 
 #![allow(dead_code, reason = "the modules are the program's, and this needs a part of each")]
 
-mod keys;
+mod digits;
 mod sources;
 mod usage;
 

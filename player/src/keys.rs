@@ -1,18 +1,10 @@
 //! Keys, and how they are written: as one number, or as pupil/delivery.
 
+use crate::digits::number;
 use std::collections::BTreeMap;
 use std::fmt;
 
-/// A key, or the mark of the end of the index. A kind of its own, so that it is never mixed with a
-/// record number or a page number.
-#[derive(Clone, Copy, Debug, PartialEq, Eq, PartialOrd, Ord)]
-pub struct Key(pub u64);
-
-impl Key {
-    pub const LOWEST: Key = Key(0);
-    /// Names the end of the index and is never a key. It is above every key.
-    pub const END: Key = Key(u64::MAX);
-}
+pub use keydesk::Key;
 
 /// The two ways to write a key.
 #[derive(Clone, Copy, Debug, PartialEq, Eq)]
@@ -42,14 +34,6 @@ impl Written {
             }
         }
     }
-}
-
-/// Reads a number in plain digits; nothing where there is anything else, or too much.
-pub fn number<N: std::str::FromStr>(digits: &str) -> Option<N> {
-    if digits.is_empty() || !digits.bytes().all(|byte| byte.is_ascii_digit()) {
-        return None;
-    }
-    digits.parse().ok()
 }
 
 impl fmt::Display for Written {

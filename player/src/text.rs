@@ -2,7 +2,8 @@
 //! written may still be refused by the desk (5..4, the end as key, a transaction 17): that is the
 //! desk's to say.
 
-use crate::keys::{Written, number};
+use crate::digits::number;
+use crate::keys::Written;
 use crate::plain::cut;
 use std::fmt;
 

@@ -1,6 +1,6 @@
 //! The command line.
 
-use crate::keys::number;
+use crate::digits::number;
 use crate::sources::{Source, can_be_written};
 use std::ffi::OsString;
 use std::path::PathBuf;

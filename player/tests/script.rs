@@ -46,7 +46,7 @@ const FILES: [&str; 8] = [
     ".ci/x86",
     "player/help.txt",
     "player/src/arguments.rs",
-    "player/src/keys.rs",
+    "player/src/digits.rs",
     "player/src/sources.rs",
     "player/src/usage.rs",
     "examples/namesake.txt",

@@ -14,8 +14,6 @@ use std::fmt;
 /// assert_eq!(key.next(), Some(Key::of(7, 31)));
 /// assert!(Key::of(6, u32::MAX) < Key::of(7, 0));
 /// ```
-///
-/// 2^64 - 1 names the end of the index and is no key: the desk refuses a request that has it.
 #[derive(Clone, Copy, Debug, PartialEq, Eq, PartialOrd, Ord, Hash)]
 pub struct Key(pub u64);
 
@@ -24,6 +22,8 @@ impl Key {
     pub const LOWEST: Key = Key(0);
     /// The highest key, 2^64 - 2.
     pub const HIGHEST: Key = Key(u64::MAX - 1);
+    /// Names the end of the index, above every key, and is none: the desk refuses it in a request.
+    pub const END: Key = Key(u64::MAX);
 
     /// The key of a pupil's delivery.
     pub const fn of(pupil: u32, delivery: u32) -> Key {

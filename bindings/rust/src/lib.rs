@@ -52,7 +52,6 @@ mod desk;
 mod key;
 mod library;
 pub mod number;
-mod picture;
 mod refusal;
 mod request;
 
@@ -60,6 +59,5 @@ pub use answer::{Answer, Answers, Number};
 pub use desk::Desk;
 pub use key::Key;
 pub use library::{ANSWER, ANSWERS, DESK, PAGES, REQUEST, Returned, TRANSACTIONS, fresh, serve};
-pub use picture::Picture;
 pub use refusal::Refusal;
 pub use request::{Asks, Record, Request};

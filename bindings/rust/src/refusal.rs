@@ -10,8 +10,7 @@ use std::fmt;
 /// use keydesk::{Desk, Key, Refusal, Request};
 ///
 /// let mut desk = Desk::fresh();
-/// let the_end = Key(u64::MAX);
-/// let refused = desk.ask(Request::delete(1, the_end)).expect_err("the end is no key");
+/// let refused = desk.ask(Request::delete(1, Key::END)).expect_err("the end is no key");
 /// assert_eq!((refused, refused.code()), (Refusal::BadRequest, 12));
 /// assert_eq!(desk, Desk::fresh());
 /// ```
