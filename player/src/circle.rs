@@ -10,8 +10,8 @@
 use crate::behind::{behind, target};
 use crate::keys::Key;
 use crate::picture::{Standing, Waiting};
-use crate::records::Answer;
 use crate::text::Request;
+use keydesk::Answer;
 use std::collections::{BTreeSet, VecDeque};
 
 /// A call as it is seen from outside.

@@ -99,9 +99,9 @@ const LOCKS_AT: usize = 576;
 const LOCK_LENGTH: usize = 16;
 
 impl Standing {
-    /// The values of a whole picture; keys are written as the session wrote them.
-    pub fn of(picture: &keydesk::Picture, forms: &Forms) -> Standing {
-        let (pages, desk) = (&picture.pages, &picture.desk);
+    /// The values of a desk's picture; keys are written as the session wrote them.
+    pub fn of(desk: &keydesk::Desk, forms: &Forms) -> Standing {
+        let (pages, desk) = (desk.pages(), desk.desk());
         let (root, used, height) = (u16_at(pages, 16), u16_at(pages, 18), u16_at(pages, 20));
         let queued = 0..usize::from(u16_at(desk, 4));
         let queued = queued.map(|place| u16_at(desk, QUEUE_AT + 2 * place));

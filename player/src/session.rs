@@ -1,12 +1,11 @@
-//! A session: lines played one after another on a fresh picture.
+//! A session: lines played one after another on a fresh desk.
 
 use crate::circle::Call;
 use crate::keys::Forms;
 use crate::picture::Standing;
-use crate::records;
 use crate::text::{self, Asks, Request, Slip};
 use crate::words;
-use keydesk::{ANSWERS, Picture, number};
+use keydesk::{Desk, Number, Refusal};
 use std::collections::BTreeMap;
 
 /// What came of a line.
@@ -25,6 +24,7 @@ pub enum Outcome {
 pub struct Said {
     /// Whom it is said to.
     pub transaction: u16,
+    /// Document 01's number for it.
     pub number: u32,
     pub words: String,
     /// The line that asked, where it is an earlier one.
@@ -41,20 +41,20 @@ struct Asked {
 }
 
 pub struct Session {
-    picture: Picture,
+    desk: Desk,
     waiting: BTreeMap<u16, Asked>,
     forms: Forms,
 }
 
 impl Session {
-    /// A session on a fresh picture.
+    /// A session on a fresh desk.
     pub fn fresh() -> Session {
-        Session { picture: Picture::fresh(), waiting: BTreeMap::new(), forms: Forms::default() }
+        Session { desk: Desk::fresh(), waiting: BTreeMap::new(), forms: Forms::default() }
     }
 
     /// Where things stand now.
     pub fn standing(&self) -> Standing {
-        Standing::of(&self.picture, &self.forms)
+        Standing::of(&self.desk, &self.forms)
     }
 
     /// Plays the line of this number.
@@ -70,51 +70,50 @@ impl Session {
     }
 
     fn call(&mut self, line: usize, request: Request) -> Outcome {
-        let record = records::request(&request);
+        let asked = request.for_the_desk();
+        let record = asked.record().to_vec();
         let before = self.standing();
-        let mut answers = [0; ANSWERS];
-        let returned = self.picture.serve(&record, &mut answers);
-        if returned.number != number::DONE {
-            let words = words::refusal(returned.number, &request);
-            return Outcome::Called {
-                record,
-                said: vec![refused(&request, returned.number, words)],
-            };
-        }
-        let answers = records::answers(&answers[..returned.bytes as usize]);
-        let call = Call { before, after: self.standing(), request, answers };
-        let said = (0..call.answers.len()).map(|place| self.said(line, &call, place)).collect();
+        let answers = match self.desk.ask(asked) {
+            Ok(answers) => answers,
+            Err(refusal) => {
+                return Outcome::Called { record, said: vec![refused(&request, refusal)] };
+            }
+        };
+        let records: Vec<Vec<u8>> = answers.records().map(<[u8]>::to_vec).collect();
+        let call = Call { before, after: self.standing(), request, answers: answers.collect() };
+        let said = records.into_iter().enumerate();
+        let said = said.map(|(place, record)| self.said(line, &call, place, record)).collect();
         Outcome::Called { record, said }
     }
 
     /// The answer at this place in words, with the request that it answers: the asker's is this
     /// line's, any other's the one it waited with. A call answers a transaction at most once.
-    fn said(&mut self, line: usize, call: &Call, place: usize) -> Said {
+    fn said(&mut self, line: usize, call: &Call, place: usize, record: Vec<u8>) -> Said {
         let answer = &call.answers[place];
         let this = Asked { line, asks: call.request.asks };
         let asked = if answer.transaction == call.request.transaction {
-            self.keep_waiting(answer.transaction, this, answer.number);
+            self.keep_waiting(answer.transaction, this, answer.says);
             this
         } else {
             self.waiting.remove(&answer.transaction).unwrap_or(this)
         };
         Said {
             transaction: answer.transaction,
-            number: answer.number,
+            number: u32::from(answer.says.code()),
             words: words::said(call, place, &asked.asks),
             asked_in: (asked.line != line).then_some(asked.line),
-            record: answer.bytes.clone(),
+            record,
         }
     }
 
     /// Remembers a request that waits. One refused 13 to 15 leaves an earlier one waiting; whatever
     /// else is answered ends it.
-    fn keep_waiting(&mut self, asker: u16, asked: Asked, said: u32) {
+    fn keep_waiting(&mut self, asker: u16, asked: Asked, said: Number) {
         match said {
-            number::STILL_QUEUED => {
+            Number::StillQueued => {
                 self.waiting.insert(asker, asked);
             }
-            number::ALREADY_RUNNING | number::NOT_RUNNING | number::IS_WAITING => {}
+            Number::AlreadyRunning | Number::NotRunning | Number::IsWaiting => {}
             _ => {
                 self.waiting.remove(&asker);
             }
@@ -122,6 +121,13 @@ impl Session {
     }
 }
 
-fn refused(request: &Request, number: u32, words: String) -> Said {
-    Said { transaction: request.transaction, number, words, asked_in: None, record: vec![] }
+/// What is said where the call itself refused.
+fn refused(request: &Request, refusal: Refusal) -> Said {
+    Said {
+        transaction: request.transaction,
+        number: refusal.code(),
+        words: words::refusal(refusal, request),
+        asked_in: None,
+        record: vec![],
+    }
 }

@@ -14,6 +14,21 @@ pub struct Request {
     pub asks: Asks,
 }
 
+impl Request {
+    /// The request as the desk is asked it.
+    pub fn for_the_desk(&self) -> keydesk::Request {
+        let by = self.transaction;
+        match self.asks {
+            Asks::Begin => keydesk::Request::begin(by),
+            Asks::Commit => keydesk::Request::commit(by),
+            Asks::Rollback => keydesk::Request::rollback(by),
+            Asks::Read { lo, hi } => keydesk::Request::read(by, lo.key, hi.key),
+            Asks::Insert { key, record } => keydesk::Request::insert(by, key.key, record),
+            Asks::Delete { key } => keydesk::Request::delete(by, key.key),
+        }
+    }
+}
+
 /// What a request asks for.
 #[derive(Clone, Copy, Debug, PartialEq, Eq)]
 pub enum Asks {

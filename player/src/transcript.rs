@@ -1,7 +1,6 @@
 //! A played session as text: each line as it was written, with what the desk says under it.
 
 use crate::plain::plain;
-use crate::records::hex;
 use crate::session::{Outcome, Said, Session};
 use crate::text::{Slip, trimmed};
 
@@ -78,4 +77,10 @@ pub fn line_played(session: &mut Session, number: usize, line: &str, bytes: bool
 /// That a line can't be read, and why.
 pub fn unread(number: usize, slip: &Slip) -> String {
     format!("line {number} can't be read: {slip}")
+}
+
+/// Bytes in hex, as document 01 writes them.
+pub fn hex(bytes: &[u8]) -> String {
+    let pairs: Vec<String> = bytes.iter().map(|byte| format!("{byte:02x}")).collect();
+    pairs.join(" ")
 }

@@ -4,20 +4,19 @@ use crate::behind::{Blocker, Why, blockers, target};
 use crate::circle::{Call, Link, circle};
 use crate::keys::{Form, Key, Written};
 use crate::picture::{Standing, Waiting};
-use crate::records::Answer;
 use crate::rows::numbers;
 use crate::text::{Asks, Request};
-use keydesk::number;
+use keydesk::{Answer, Number, Refusal};
 
 /// What is said at this place among a call's answers, by the request that it answers: who waits is
 /// told behind whom, who is turned away at 19 the whole circle.
 pub fn said(call: &Call, place: usize, asks: &Asks) -> String {
     let said = &call.answers[place];
-    let told = match said.number {
-        number::STILL_QUEUED => {
+    let told = match said.says {
+        Number::StillQueued => {
             call.after.waiting(said.transaction).map(|waiting| waits(&call.after, waiting))
         }
-        number::CIRCLE => {
+        Number::Circle => {
             let stood = call.stood_at(place);
             circle(&stood, said.transaction).map(|links| turned_away(&stood, &links))
         }
@@ -30,21 +29,15 @@ pub fn said(call: &Call, place: usize, asks: &Asks) -> String {
 /// is written as that request writes keys.
 pub fn answer(answer: &Answer, asks: &Asks) -> String {
     let form = asks.keys().first().map_or(Form::Number, |written| written.form);
-    let key = Written { key: answer.key, form };
-    let record = answer.record;
-    match answer.number {
-        number::DONE => done(asks),
-        number::FOUND => format!("found {key} with record {record}"),
-        number::NOTHING => nothing(asks),
-        number::STILL_QUEUED => "waits".to_string(),
-        number::ALREADY_RUNNING => "has begun already".to_string(),
-        number::NOT_RUNNING => "isn't running: begin comes first".to_string(),
-        number::IS_WAITING => "is waiting, and can only roll back".to_string(),
-        number::KEY_PRESENT => format!("{key} is there already, with record {record}"),
-        number::LOCKS_IN_USE => "turned away: all 256 locks are in use".to_string(),
-        number::PAGES_SHORT => "turned away: no page is left for another key".to_string(),
-        number::CIRCLE => CIRCLE.to_string(),
-        other => format!("a number that document 01 doesn't have: {other}"),
+    let written = |key: Key| Written { key, form };
+    match answer.says {
+        Number::Done => done(asks),
+        Number::Found { key, record } => format!("found {} with record {record}", written(key)),
+        Number::Nothing => nothing(asks),
+        Number::KeyPresent { key, record } => {
+            format!("{} is there already, with record {record}", written(key))
+        }
+        other => other.to_string(),
     }
 }
 
@@ -90,8 +83,6 @@ pub fn waits(standing: &Standing, waiting: &Waiting) -> String {
     format!("waits {}", behind.join(", and "))
 }
 
-const CIRCLE: &str = "turned away, the newest in a circle";
-
 /// The circle of one that was turned away, link by link: "turned away, the newest in a circle: 2
 /// waits behind 1 at 7/30, 1 behind 2 at 7/40".
 pub fn turned_away(standing: &Standing, circle: &[Link]) -> String {
@@ -100,16 +91,14 @@ pub fn turned_away(standing: &Standing, circle: &[Link]) -> String {
         let verb = if *link == circle[0] { " waits" } else { "" };
         format!("{waits}{verb} behind {behind} at {}", standing.name(at))
     };
-    format!("{CIRCLE}: {}", circle.iter().map(link).collect::<Vec<String>>().join(", "))
+    format!("{}: {}", Number::Circle, circle.iter().map(link).collect::<Vec<String>>().join(", "))
 }
 
-/// A call that returned 10, 11 or 12, in words.
-pub fn refusal(returned: u32, request: &Request) -> String {
-    match returned {
-        number::WRONG_LENGTHS => "refused: a buffer has the wrong length".to_string(),
-        number::NOT_WHOLE => "refused: the picture isn't whole".to_string(),
-        number::BAD_REQUEST => format!("refused: {}", bad_record(request)),
-        other => format!("refused with a number that document 01 doesn't have: {other}"),
+/// A call that the desk refused, in words.
+pub fn refusal(refusal: Refusal, request: &Request) -> String {
+    match refusal {
+        Refusal::BadRequest => format!("refused: {}", bad_record(request)),
+        other => format!("refused: {other}"),
     }
 }
 

@@ -1,10 +1,10 @@
 //! The circle that is said at a 19. The cases are worked out from document 01 by hand; random
 //! sessions check the rest: how things stood when it was said, and that each link is a wait.
 
+use keydesk::Answer;
 use play::behind::{behind, target};
 use play::circle::{Call, Link, circle};
 use play::picture::Standing;
-use play::records;
 use play::session::{Outcome, Said, Session};
 use play::text::parse;
 
@@ -248,9 +248,8 @@ fn every_19_of_random_sessions_has_its_circle() {
             let Outcome::Called { said, .. } = session.play(number, line) else {
                 panic!("{line} can be read")
             };
-            let written: Vec<u8> = said.iter().flat_map(|said| said.record.clone()).collect();
             let request = parse(line).expect("a request").expect("a request");
-            let answers = records::answers(&written);
+            let answers = said.iter().map(|said| read(&said.record)).collect();
             let call = Call { before, after: session.standing(), request, answers };
             look_at_circles(&call, &said, &mut met);
         }
@@ -273,11 +272,11 @@ fn look_at_circles(call: &Call, said: &[Said], met: &mut Met) {
         check_words(&stood, &links, &said.words);
         let after = &call.answers[place + 1..];
         // only requests for S run after a 19, so that nothing is inserted or deleted
-        assert!(after.iter().all(|answer| answer.number != 0 && answer.number != 18));
+        assert!(after.iter().all(|answer| answer.says.code() != 0 && answer.says.code() != 18));
         met.circles += 1;
         met.in_anothers_call += usize::from(said.transaction != call.request.transaction);
         met.a_second_in_its_call += usize::from(earlier > 0);
-        met.followed_by_a_run += usize::from(after.iter().any(|answer| ran(answer.number)));
+        met.followed_by_a_run += usize::from(after.iter().any(|answer| ran(answer.says.code())));
         met.of_three_or_more += usize::from(links.len() > 2);
     }
 }
@@ -293,8 +292,13 @@ fn check_words(stood: &Standing, links: &[Link], words: &str) {
     }
 }
 
+/// An answer by its record.
+fn read(record: &[u8]) -> Answer {
+    Answer::read(record.try_into().expect("20 bytes")).expect("an answer record")
+}
+
 /// Whether a number is said by a run.
-fn ran(number: u32) -> bool {
+fn ran(number: u16) -> bool {
     number != 3 && number != 19
 }
 
@@ -316,8 +320,11 @@ fn check_turn(call: &Call, stood: &Standing, place: usize) {
     assert_eq!(next(stood), Some((call.answers[place].transaction, true)));
     let mut without = stood.clone();
     without.queue.retain(|waiting| waiting.transaction != call.answers[place].transaction);
-    let follows = call.answers.get(place + 1).filter(|answer| answer.number != 3);
-    assert_eq!(next(&without), follows.map(|answer| (answer.transaction, !ran(answer.number))));
+    let follows = call.answers.get(place + 1).filter(|answer| answer.says.code() != 3);
+    assert_eq!(
+        next(&without),
+        follows.map(|answer| (answer.transaction, !ran(answer.says.code())))
+    );
 }
 
 /// Whose turn it is: the oldest that isn't blocked runs, or else the newest on a circle is turned

@@ -1,12 +1,10 @@
 //! Records by their bytes (document 01, Records and pages, and the first of Overs to bowl at it).
 
-use play::keys::Key;
-use play::records::{answers, hex, request};
 use play::text::parse;
-use play::transcript::transcript;
+use play::transcript::{hex, transcript};
 
 fn bytes(line: &str) -> String {
-    hex(&request(&parse(line).expect(line).expect(line)))
+    hex(&parse(line).expect(line).expect(line).for_the_desk().record())
 }
 
 #[test]
@@ -23,21 +21,6 @@ fn requests_are_written_as_the_document_says() {
         "18 00 05 00 01 00 00 00 03 00 00 00 07 00 00 00 02 01 00 00 00 00 00 00"
     );
     assert_eq!(bytes("1 delete 100"), "10 00 06 00 01 00 00 00 64 00 00 00 00 00 00 00");
-}
-
-#[test]
-fn answers_are_read_as_the_document_says() {
-    let written = [
-        20, 0, 7, 0, 1, 0, 0, 0, 0, 0, 0, 0, 0, 0, 0, 0, 0, 0, 0, 0, // 0 to 1
-        20, 0, 7, 0, 2, 0, 1, 0, 100, 0, 0, 0, 0, 0, 0, 0, 7, 0, 0,
-        0, // 1 to 2: 100, record 7
-    ];
-    let read = answers(&written);
-    assert_eq!(read.len(), 2);
-    assert_eq!((read[0].transaction, read[0].number), (1, 0));
-    assert_eq!((read[1].transaction, read[1].number), (2, 1));
-    assert_eq!((read[1].key, read[1].record), (Key(100), 7));
-    assert_eq!(read[1].bytes, written[20..]);
 }
 
 /// "Then 1 commits. The commit writes, whole: ..."

@@ -1,7 +1,7 @@
 //! The words for every number of document 01, What the desk says.
 
-use play::keys::{Key, Written};
-use play::records::Answer;
+use keydesk::{Answer, Refusal};
+use play::keys::Written;
 use play::text::{Asks, Request};
 use play::transcript::transcript;
 use play::words::{answer, refusal};
@@ -23,9 +23,9 @@ fn delete() -> Asks {
 }
 
 /// The words for a number in answer to a request; the answer carries key 100 and record 9.
-fn said(number: u32, asks: Asks) -> String {
-    let record = Answer { transaction: 1, number, key: Key(100), record: 9, bytes: vec![] };
-    answer(&record, &asks)
+fn said(number: u8, asks: Asks) -> String {
+    let record = [20, 0, 7, 0, 1, 0, number, 0, 100, 0, 0, 0, 0, 0, 0, 0, 9, 0, 0, 0];
+    answer(&Answer::read(&record).expect("an answer"), &asks)
 }
 
 #[test]
@@ -97,11 +97,11 @@ fn refused_by_an_answer() {
 fn refused_by_the_call() {
     let request = |transaction, asks| Request { transaction, asks };
     let begin = request(1, Asks::Begin);
-    assert_eq!(refusal(10, &begin), "refused: a buffer has the wrong length");
-    assert_eq!(refusal(11, &begin), "refused: the picture isn't whole");
+    assert_eq!(refusal(Refusal::WrongLengths, &begin), "refused: a buffer has the wrong length");
+    assert_eq!(refusal(Refusal::NotWhole, &begin), "refused: the picture isn't whole");
     let crossed = Asks::Read { lo: key("5"), hi: key("4") };
     let ended = Asks::Read { lo: key("5"), hi: key("18446744073709551615") };
-    let why = |transaction, asks| refusal(12, &request(transaction, asks));
+    let why = |transaction, asks| refusal(Refusal::BadRequest, &request(transaction, asks));
     assert_eq!(why(1, crossed), "refused: the range ends before it starts");
     assert_eq!(why(1, ended), "refused: that number is the end of the index, and no key");
     assert_eq!(why(0, Asks::Begin), "refused: a transaction is 1 to 16");

@@ -138,7 +138,7 @@ impl fmt::Display for Number {
             }
             Number::LocksInUse => write!(to, "turned away: all 256 locks are in use"),
             Number::PagesShort => write!(to, "turned away: no page is left for another key"),
-            Number::Circle => write!(to, "turned away: it was the newest in a circle of waits"),
+            Number::Circle => write!(to, "turned away, the newest in a circle"),
         }
     }
 }
