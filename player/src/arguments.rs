@@ -5,6 +5,7 @@
 #![allow(dead_code, reason = "the modules are the program's, and this needs a part of each")]
 
 mod digits;
+mod plain;
 mod sources;
 mod usage;
 
@@ -16,7 +17,7 @@ fn main() -> ExitCode {
     match usage::command(&arguments).and_then(|command| command.check()) {
         Ok(()) => ExitCode::SUCCESS,
         Err(wrong) => {
-            eprintln!("play: {wrong}");
+            eprintln!("play: {}", plain::plain(&wrong));
             ExitCode::from(2)
         }
     }

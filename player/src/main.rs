@@ -2,6 +2,7 @@
 
 use play::html::html;
 use play::live::live;
+use play::plain::plain;
 use play::rows::Place;
 use play::session::{Outcome, Session};
 use play::sources::{Source, write};
@@ -23,7 +24,7 @@ fn main() -> ExitCode {
         Ok(0) => ExitCode::SUCCESS,
         Ok(_slips) => ExitCode::from(1),
         Err(wrong) => {
-            eprintln!("play: {wrong}");
+            eprintln!("play: {}", plain(&wrong));
             ExitCode::from(2)
         }
     }
@@ -98,5 +99,5 @@ fn write_page(session: &Source, out: &Path) -> Result<usize, String> {
 
 fn write_drawing(out: &Path, drawing: &str) -> Result<(), String> {
     write(out, drawing)?;
-    print(&format!("{} is drawn\n", out.display()))
+    print(&format!("{} is drawn\n", plain(&out.display().to_string())))
 }

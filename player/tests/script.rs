@@ -12,22 +12,23 @@ use std::{env, process};
 /// A folder of this test alone with a small repository.
 struct Folder(PathBuf);
 
-/// Proves three crates, as `rt staticlib desk` does where nothing is proved.
+/// Proves three crates: what lies below the desk first, and then the desk with its library. What was
+/// proved before it says so of.
 const RT: &str = "\
-echo 'library std: modules loaded=0 checked=0'
-echo 'rt: low proved (1 s)' >&2
-echo 'rt: middle proved (12 s)' >&2
+if [ $1 = check ]; then
+    echo 'library std: modules loaded=0 checked=0'
+    echo 'rt: low proved (1 s)'
+    echo 'rt: middle proved (12 s)'
+    exit
+fi
+echo 'rt: low proved (unchanged since it was last proved)' >&2
+echo 'rt: middle proved (unchanged since it was last proved)' >&2
 mkdir -p target/staticlib
 echo library >target/staticlib/libdesk.a
 echo 'rt: target/staticlib/libdesk.a has the functions of desk'";
 
-/// Where `low` was proved before.
-const RT_UNCHANGED: &str = "\
-echo 'rt: low proved (unchanged since it was last proved)' >&2
-echo 'rt: middle proved (3 s)' >&2
-mkdir -p target/staticlib
-echo library >target/staticlib/libdesk.a
-echo 'rt: target/staticlib/libdesk.a has the functions of desk'";
+/// What is called where everything is to be made.
+const ALL: [&str; 3] = ["rt check", "rt staticlib", "cargo build"];
 
 const RT_FAILS: &str = "\
 echo 'rt: low proved (1 s)' >&2
@@ -41,12 +42,13 @@ echo '#!/usr/bin/env bash' >tests/target/release/play
 echo 'echo \"played $*\"; cat' >>tests/target/release/play
 chmod +x tests/target/release/play";
 
-const FILES: [&str; 8] = [
+const FILES: [&str; 9] = [
     "play",
     ".ci/x86",
     "player/help.txt",
     "player/src/arguments.rs",
     "player/src/digits.rs",
+    "player/src/plain.rs",
     "player/src/sources.rs",
     "player/src/usage.rs",
     "examples/namesake.txt",
@@ -108,12 +110,12 @@ impl Folder {
         self.script(arguments).output().expect("bash is there")
     }
 
-    /// Which of `rt` and `cargo` have been called since this was last asked.
+    /// How `rt` and `cargo` have been called since this was last asked, each by two words.
     fn calls(&self) -> Vec<String> {
         let calls = fs::read_to_string(self.path("calls")).unwrap_or_default();
         self.write("calls", "");
-        let called = calls.lines().map(|call| call.split(' ').next().unwrap_or_default());
-        called.filter(|name| *name != "uname").map(str::to_string).collect()
+        let called = calls.lines().filter(|call| !call.starts_with("uname"));
+        called.map(|call| call.split(' ').take(2).collect::<Vec<&str>>().join(" ")).collect()
     }
 
     /// Changes a file now.
@@ -200,7 +202,7 @@ fn the_first_time_it_proves_and_builds_and_tells_each_crate() {
     let output = folder.play(&["--show", "29"]);
     assert_eq!(printed(&output), "played --show 29\n");
     assert_eq!(output.status.code(), Some(0));
-    assert_eq!(folder.calls(), ["rt", "cargo"]);
+    assert_eq!(folder.calls(), ALL);
     let expected =
         ["play: low proved, 2 of 3", "play: middle proved, 1 of 3", "play: desk proved, 0 of 3"];
     assert_eq!(progress(&output), expected);
@@ -211,7 +213,10 @@ fn the_first_time_it_proves_and_builds_and_tells_each_crate() {
 #[test]
 fn a_crate_that_was_proved_before_is_only_counted() {
     let folder = Folder::new("before");
-    folder.stub("rt", RT_UNCHANGED);
+    folder.stub(
+        "rt",
+        &RT.replace("low proved (1 s)", "low proved (unchanged since it was last proved)"),
+    );
     let output = folder.play(&[]);
     assert_eq!(progress(&output), ["play: middle proved, 1 of 3", "play: desk proved, 0 of 3"]);
 }
@@ -220,7 +225,7 @@ fn a_crate_that_was_proved_before_is_only_counted() {
 fn what_is_still_good_is_not_made_again() {
     let folder = Folder::new("again");
     folder.play(&[]);
-    assert_eq!(folder.calls(), ["rt", "cargo"]);
+    assert_eq!(folder.calls(), ALL);
     let output = folder.play(&["-"]);
     assert_eq!((printed(&output), complained(&output)), ("played -\n", ""));
     folder.change("crates/other/src/lib.rt");
@@ -228,16 +233,16 @@ fn what_is_still_good_is_not_made_again() {
     assert!(folder.calls().is_empty(), "the desk doesn't know that crate");
     folder.change("player/help.txt");
     folder.play(&[]);
-    assert_eq!(folder.calls(), ["cargo"], "the library is good");
+    assert_eq!(folder.calls(), ["cargo build"], "the library is good");
     fs::remove_file(folder.path("tests/target/release/play")).expect("it is there");
     folder.play(&[]);
-    assert_eq!(folder.calls(), ["cargo"], "the library is good");
+    assert_eq!(folder.calls(), ["cargo build"], "the library is good");
     folder.change("crates/middle/src/lib.rt");
     folder.play(&[]);
-    assert_eq!(folder.calls(), ["rt", "cargo"]);
+    assert_eq!(folder.calls(), ALL);
     folder.change("crates.txt");
     folder.play(&[]);
-    assert_eq!(folder.calls(), ["rt", "cargo"]);
+    assert_eq!(folder.calls(), ALL);
     folder.play(&[]);
     assert!(folder.calls().is_empty());
 }
@@ -251,7 +256,7 @@ fn a_session_from_standard_input_is_left_to_the_program() {
     let input = File::open(folder.path("session.txt")).expect("it is there");
     let output = folder.script(&["-"]).stdin(input).output().expect("bash is there");
     assert_eq!(printed(&output), "played -\n1 begin\n");
-    assert_eq!(folder.calls(), ["rt", "cargo"]);
+    assert_eq!(folder.calls(), ALL);
 }
 
 /// What is made has the time at which it was begun.
@@ -261,10 +266,10 @@ fn a_source_that_is_changed_while_it_is_proved_is_newer() {
     let change = "touch -d @$(date +%s.%N) crates/low/src/lib.rt\nsleep 0.1";
     folder.stub("rt", &format!("{change}\n{RT}"));
     folder.play(&[]);
-    assert_eq!(folder.calls(), ["rt", "cargo"]);
+    assert_eq!(folder.calls(), ALL);
     folder.stub("rt", RT);
     folder.play(&[]);
-    assert_eq!(folder.calls(), ["rt", "cargo"]);
+    assert_eq!(folder.calls(), ALL);
 }
 
 #[test]
@@ -282,14 +287,14 @@ fn where_a_step_fails_the_end_of_its_log_is_shown() {
         log.display()
     );
     assert!(complained(&output).ends_with(&end), "{}", complained(&output));
-    assert_eq!(folder.calls(), ["rt"]);
+    assert_eq!(folder.calls(), ["rt check"]);
 
     folder.stub("rt", RT);
     folder.stub("cargo", "echo 'error: no such package' >&2\nexit 101");
     let output = folder.play(&[]);
     assert_eq!(output.status.code(), Some(2));
     assert!(complained(&output).contains("error: no such package\nplay: that failed; "));
-    assert_eq!(folder.calls(), ["rt", "cargo"]);
+    assert_eq!(folder.calls(), ALL);
 }
 
 /// While cargo's build script makes the library, the script waits, and then takes what was made.
@@ -313,5 +318,5 @@ fn the_library_is_not_made_twice_at_a_time() {
     said.read_to_string(&mut rest).expect("plain text");
     assert_eq!(rest, "play: building the program (cargo build) ..\n");
     assert!(script.wait().expect("it ends").success());
-    assert_eq!(folder.calls(), ["cargo"]);
+    assert_eq!(folder.calls(), ["cargo build"]);
 }
