@@ -1,6 +1,10 @@
 //! Every session under examples/ is played and compared with its expected output, which was worked
 //! out from document 01 by hand.
 
+use play::rows::Place;
+use play::session::Session;
+use play::sources::Source;
+use play::svg::svg;
 use play::transcript::transcript;
 use std::fs;
 use std::path::{Path, PathBuf};
@@ -57,4 +61,23 @@ fn only_the_session_of_slips_has_lines_that_cannot_be_read() {
         let slips = transcript(&session(&name), false).slips;
         assert_eq!(slips > 0, name == "slips", "{name} has {slips}");
     }
+}
+
+/// What README shows of the story is what is played, and its picture is what is drawn.
+#[test]
+fn readme_shows_the_story_as_it_is() {
+    let root = Path::new(env!("CARGO_MANIFEST_DIR")).join("..");
+    let read = |path: &str| fs::read_to_string(root.join(path)).expect("it can be read");
+    let readme = read("README.md");
+    let block = readme.split("```\n").nth(1).expect("README has a block");
+    assert!(read("examples/expected/namesake.out").contains(block), "{block}");
+
+    let mut played = Session::fresh();
+    let story = session("namesake");
+    for (number, line) in (1..=29).zip(story.lines()) {
+        played.play(number, line);
+    }
+    let line = story.lines().nth(28).expect("it has so many lines");
+    let place = Place { name: &Source::Story.name(), played: Some((29, line)) };
+    assert_eq!(read("docs/story.svg"), svg(&played.standing(), &place));
 }

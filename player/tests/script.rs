@@ -320,3 +320,15 @@ fn the_library_is_not_made_twice_at_a_time() {
     assert!(script.wait().expect("it ends").success());
     assert_eq!(folder.calls(), ["cargo build"]);
 }
+
+/// How long the proof takes is said once in each, and is one time.
+#[test]
+fn readme_and_script_give_one_time() {
+    let root = Path::new(env!("CARGO_MANIFEST_DIR")).join("..");
+    let read = |file: &str| fs::read_to_string(root.join(file)).expect("it can be read");
+    let (readme, script) = (read("README.md"), read("play"));
+    let time = script.split_once("proof_takes=\"").and_then(|(_, rest)| rest.split_once('"'));
+    let (time, _) = time.expect("the script has it");
+    assert!(time.contains("minutes"), "{time}");
+    assert!(readme.contains(&format!("which takes {time} on two processors")), "{time}");
+}
