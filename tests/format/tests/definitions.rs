@@ -156,6 +156,18 @@ fn an_expression_is_worked_out() {
     assert!(limits.names().count() > 20, "all limits are read");
 }
 
+/// Every way to stop that the program has words for, but for the turns that no run uses up.
+#[test]
+fn the_program_stops_with_the_pages_words() {
+    let source = format::file("crates/streams/src/lib.rt");
+    let words = source.split("b\"").skip(1).filter_map(|rest| rest.split('"').next());
+    let mut said: Vec<&str> = words.filter(|words| words.starts_with("keydesk: ")).collect();
+    said.retain(|words| *words != "keydesk: out of turns, at byte ");
+    let tables = Page::read().tables();
+    let page: Vec<&str> = tables["stops"].iter().map(|row| row[0].as_str()).collect();
+    assert_eq!(page, said);
+}
+
 /// What the comparison of layouts must find.
 #[test]
 fn a_layout_that_differs_is_found() {

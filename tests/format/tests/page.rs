@@ -21,7 +21,7 @@ const LAYOUTS: [&str; 11] = [
 #[test]
 fn it_has_every_table() {
     let mut tables: Vec<&str> = LAYOUTS.to_vec();
-    tables.extend(["transaction", "sizes", "kinds", "numbers", "whole"]);
+    tables.extend(["transaction", "sizes", "kinds", "numbers", "whole", "stops"]);
     tables.sort();
     let found = Page::read().tables();
     assert_eq!(found.keys().collect::<Vec<_>>(), tables);
