@@ -1,51 +1,83 @@
--- The two searches in a page, from the left: what each turn knows, in the very facts that the code has there.
--- The place among all is the number passed and the place among the rest. Assumes nothing.
+-- The two searches in a page: what each turn knows, in the very facts that the code has there. In a leaf by halves: the place lies between
+-- low and high. In an inner page from the left: the place among all is the number passed and the place among the rest. Assumes nothing.
 use mathlib.Core.Path.{_≡_, sym, ap, _∙_}
 use mathlib.Core.Bool.{Bool, true, false}
 use mathlib.Core.List.{List}
-use Prim.Native.Nat.{ℕ, suc, _+_, _-_, _≤_, _<_}
+use Prim.Native.Nat.{ℕ, suc, _+_, _-_, _/_, _≤_, _<_}
 use native.Mathlib.Nat.{sub-zero, zero-add}
 use native.Mathlib.Omega.{arith}
+use borrow.Author.Tests.{leb-true, le-leb, ltb-true}
 use lib.Dec.{leb, ltb}
-use lib.ListN.{drop}
+use lib.ListN.{drop, length, getD}
 use Rattle.lists.specs.Lists.{tab, place}
-use Rattle.lists.proofs.Tables.{drop-tab}
+use Rattle.lists.proofs.Tables.{drop-tab, getD-tab}
 use Rattle.lists.proofs.Scans.{scan-done, scan-found, scan-next}
 use Rattle.rules.specs.Kinds.{Entry}
 use Rattle.pages.specs.declared.Child.{Child}
 use Rattle.rows.specs.PageHead.{countOf}
 use Rattle.pages.specs.PageLayout.{entryAt, entriesOf, childAt, childrenOf}
-use Rattle.pages.specs.KeyPlaces.{EntryPlace, ChildPlace}
+use Rattle.pages.specs.KeyPlaces.{keysAscend, EntryPlace, ChildPlace}
+use Rattle.pages.proofs.EntryRows.{length-entries}
+use Rattle.pages.proofs.Halves.{place-within, place-upto, place-beyond}
 
--- ---- the first entry at or above k
+-- ---- the first entry at or above k, by halves: where keys ascend it is none before low, and it is none behind high
 abbrev from : ℕ → Entry ℕ ℕ → Bool
 from k e = leb k (e .key)
 
-pub record EntryFrom (p : List ℕ) (k n i : ℕ) : Type 0 where
-  pub found : place (from k) (entriesOf p) ≡ i + place (from k) (tab (n - i) i (entryAt p))
+pub record EntryBetween (p : List ℕ) (k low high : ℕ) : Type 0 where
+  pub ordered : low ≤ high
+  pub within : high ≤ countOf p
+  pub lower : keysAscend (entriesOf p) ≡ true → low ≤ place (from k) (entriesOf p)
+  pub upper : place (from k) (entriesOf p) ≤ high
 
-module _ (p : List ℕ) (k n : ℕ) where
-  pub entry-start : n ≡ countOf p → EntryFrom p k n 0
+module _ (p : List ℕ) (k : ℕ) where
+  entry-in : (i : ℕ) → i < countOf p → getD (entriesOf p) i (entryAt p 0) ≡ entryAt p i
   unfolding entriesOf
-  entry-start e =
-      record {
-        found = ap (λ m. place (from k) (tab m 0 (entryAt p))) (sym e ∙ sym (sub-zero n)) ∙ sym (zero-add (place (from k) (tab (n - 0) 0 (entryAt p))));
-      }
+  entry-in i h = getD-tab (countOf p) 0 (entryAt p) i (entryAt p 0) h ∙ ap (entryAt p) (zero-add i)
 
-  module _ (i : ℕ) (s : EntryFrom p k n i) where
-    pub entry-on : (x : ℕ) (b : Bool) → x ≡ entryAt p i .key → b ≡ leb k x → b ≡ false → i < n → EntryFrom p k n (i + 1)
-    entry-on x b a d e h =
-        record { found = scan-next (from k) n (entryAt p) (place (from k) (entriesOf p)) i b (d ∙ ap (leb k) a) h (s .found) e }
+  passes-on : (a b : Entry ℕ ℕ) → ltb (a .key) (b .key) ≡ true → from k a ≡ true → from k b ≡ true
+  passes-on a b l e = let h = ltb-true (a .key) (b .key) l in let m = leb-true k (a .key) e in le-leb k (b .key) (omega arith)
 
-    pub entry-here : (x : ℕ) (b : Bool) → n ≡ countOf p → x ≡ entryAt p i .key → b ≡ leb k x → b ≡ true → i < n → EntryPlace p k i
-    entry-here x b c a d e h =
-        let q = scan-found (from k) n (entryAt p) (place (from k) (entriesOf p)) i b (d ∙ ap (leb k) a) h (s .found) e in
-        record { within = omega arith; first = λ _. q }
+  pub between-start : (n : ℕ) → n ≡ countOf p → EntryBetween p k 0 n
+  between-start n e =
+      let h = place-within (from k) (entriesOf p) in
+      record { ordered = omega arith; within = omega arith; lower = λ _. omega arith; upper = omega (arith, length-entries p) }
 
-    pub entry-end : n ≡ countOf p → i ≤ n → n ≤ i → EntryPlace p k i
-    entry-end c h l =
-        let q = scan-done (from k) n (entryAt p) (place (from k) (entriesOf p)) i l h (s .found) in
-        record { within = omega arith; first = λ _. omega arith }
+  module _ (low high : ℕ) (s : EntryBetween p k low high) where
+    module _ (x : ℕ) (b : Bool) (l : low < high) (a : x ≡ entryAt p (low + (high - low) / 2) .key) (d : b ≡ leb k x) where
+      middle : ℕ
+      middle = low + (high - low) / 2
+
+      in-list : middle < length (entriesOf p)
+      unfolding middle
+      in-list = omega (arith, length-entries p, s .within)
+
+      tested : (c : Bool) → b ≡ c → from k (getD (entriesOf p) middle (entryAt p 0)) ≡ c
+      unfolding middle
+      tested c e = ap (from k) (entry-in middle (omega (arith, s .within))) ∙ sym (d ∙ ap (leb k) a) ∙ e
+
+      pub between-lower : b ≡ true → EntryBetween p k low (low + (high - low) / 2)
+      unfolding middle
+      between-lower e =
+          record {
+            ordered = omega arith;
+            within = omega (arith, s .within);
+            lower = s .lower;
+            upper = place-upto (from k) (entriesOf p) middle (entryAt p 0) in-list (tested true e);
+          }
+
+      beyond-it : b ≡ false → keysAscend (entriesOf p) ≡ true → middle < place (from k) (entriesOf p)
+      unfolding keysAscend
+      beyond-it e o =
+          place-beyond (from k) (λ a b. ltb (a .key) (b .key)) passes-on (entriesOf p) middle (entryAt p 0) o in-list (tested false e)
+
+      pub between-upper : b ≡ false → EntryBetween p k (low + (high - low) / 2 + 1) high
+      unfolding middle
+      between-upper e =
+          record { ordered = omega arith; within = s .within; lower = λ o. let m = beyond-it e o in omega arith; upper = s .upper }
+
+    pub between-end : high ≤ low → EntryPlace p k low
+    between-end l = record { within = omega (arith, s .ordered, s .within); first = λ o. let m = s .lower o in omega (arith, s .upper) }
 
 -- ---- the child that k belongs to
 abbrev beyond : ℕ → Child → Bool

@@ -53,21 +53,25 @@ pub fn key_at(p: &[u8], i: usize) -> Key
     Key::read(p, HEAD_SIZE + ENTRY_SIZE * i)
 }
 
-// The place of the first entry at or above a key, or how many entries there are.
+// The place of the first entry at or above a key, or how many entries there are. The places left are halved, so that of a full leaf at most
+// five keys are looked at.
 pub fn first_at_or_above(p: &[u8], key: Key) -> usize
     requires { ⌜ length (now p) ≡ pageSize ⌝ }
     requires { ⌜ countOf (now p) ≤ leafMost ⌝ }
     ensures { λ r. ⌜ EntryPlace (now (p .entry)) (key .0) r ⌝ }
 {
-    let n = head::count_of(p);
-    let mut i: usize = 0;
-    while i < n {
-        if key.at_most(key_at(p, i)) {
-            return i;
+    let mut low: usize = 0;
+    let mut high = head::count_of(p);
+    while low < high {
+        let middle = low + (high - low) / 2;
+        let behind = middle + 1;
+        if key.at_most(key_at(p, middle)) {
+            high = middle;
+        } else {
+            low = behind;
         }
-        i += 1;
     }
-    i
+    low
 }
 
 // Writes an entry at a place.

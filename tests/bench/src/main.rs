@@ -11,12 +11,15 @@ use model::desk::Picture;
 use model::key::Key;
 use model::picture::Tables;
 use timing::{Times, commits, single_calls};
-use work::{Commit, Session, in_any_slots, read_on, reader, with_lock_on};
+use work::{
+    Commit, FIRST, LAST, Session, full_leaf, in_any_slots, read_of, read_on, reader, with_lock_on,
+};
 
 fn main() {
     println!("{}", machine::description());
     judging();
     one_read();
+    searches();
     one_commit();
     many_calls();
 }
@@ -35,8 +38,8 @@ fn head(title: &str, unit: &str) {
 
 /// A picture's judgement alone, asked by an empty request, which is refused with 12 once the picture
 /// is found whole; and beside it a read that is served.
-fn judged_and_read(picture: &Picture) -> [Times; 2] {
-    single_calls(picture, [(&[], 12), (&read_on(picture), 0)])
+fn judged_and_read(picture: &Picture, read: &[u8]) -> [Times; 2] {
+    single_calls(picture, [(&[], 12), (read, 0)])
 }
 
 fn judging() {
@@ -68,13 +71,28 @@ fn one_read() {
         ("full: 778 entries, 256 locks", reader(778, 256)),
     ];
     let shares = pictures.map(|(name, picture)| {
-        let [judged, call] = judged_and_read(&picture);
+        let [judged, call] = judged_and_read(&picture, &read_on(&picture));
         row(name, &call);
         (name, judged.library / call.library, judged.plain / call.plain)
     });
     println!("\n| share of the judgement in it | proved | plain Rust |\n|---|---:|---:|");
     for (name, library, plain) in shares {
         println!("| {name} | {:.0} % | {:.0} % |", 100.0 * library, 100.0 * plain);
+    }
+}
+
+/// What a read takes beyond its judgement, where the index is one full leaf: a search for its target
+/// and, where others wait for the key, one more for each of these before it runs and one after.
+fn searches() {
+    head("A read in a full leaf of 24 entries, without the judgement", "µs");
+    let reads = [
+        ("the first key, one search", FIRST, 0),
+        ("the last key, one search", LAST, 0),
+        ("the last key, which 15 wait to delete: 31 searches", LAST, 15),
+    ];
+    for (name, key, waiting) in reads {
+        let [judged, call] = judged_and_read(&full_leaf(waiting), &read_of(key));
+        row(name, &call.less(judged));
     }
 }
 

@@ -27,6 +27,13 @@ pub struct Times {
     pub plain: f64,
 }
 
+impl Times {
+    /// What is left without a part of the work.
+    pub fn less(self, part: Times) -> Times {
+        Times { library: self.library - part.library, plain: self.plain - part.plain }
+    }
+}
+
 /// The medians, for each desk, of what each piece of work takes; all in turn in every round.
 pub fn medians<const N: usize>(works: [impl Fn(UnderTest) -> f64; N]) -> [Times; N] {
     let mut taken = works.each_ref().map(|_| (Vec::new(), Vec::new()));

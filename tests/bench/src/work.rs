@@ -9,6 +9,7 @@ use model::generators::requests::{Bias, Requests};
 use model::key::Key;
 use model::layout::answer::Answer;
 use model::layout::desk::{LOCK_COUNT, Lock, Mode, Slot};
+use model::layout::pages::LEAF_FULL;
 use model::layout::request::{KeyRequest, Request, RequestKind};
 use model::picture::Tables;
 use std::collections::BTreeMap;
@@ -52,9 +53,33 @@ fn middle(keys: u64) -> Key {
 /// so that it can be asked again and again.
 pub fn read_on(picture: &Picture) -> Vec<u8> {
     let tables = picture.decode().expect("a whole picture follows the layouts");
-    let key = middle(tables.index.entries().count() as u64).min(Key::HIGHEST);
-    let read = KeyRequest::Read { lo: key, hi: key };
-    Request { transaction: 1, kind: RequestKind::Keys(read) }.encode()
+    read_of(middle(tables.index.entries().count() as u64).min(Key::HIGHEST))
+}
+
+/// Transaction 1's read of one key.
+pub fn read_of(key: Key) -> Vec<u8> {
+    asked(1, KeyRequest::Read { lo: key, hi: key }).encode()
+}
+
+fn asked(transaction: u16, request: KeyRequest) -> Request {
+    Request { transaction, kind: RequestKind::Keys(request) }
+}
+
+/// The lowest and the highest key of `full_leaf`.
+pub const FIRST: Key = Key(1);
+pub const LAST: Key = Key(LEAF_FULL as u64);
+
+/// An index that is one full leaf. Transaction 1 holds S on its first key and on its last, and so
+/// many others wait to delete the last.
+pub fn full_leaf(waiting: u16) -> Picture {
+    let mut tables = all_running(LEAF_FULL as u64);
+    for key in [FIRST, LAST] {
+        tables.answer(asked(1, KeyRequest::Read { lo: key, hi: key }));
+    }
+    for transaction in 2..=waiting + 1 {
+        tables.answer(asked(transaction, KeyRequest::Delete { key: LAST }));
+    }
+    in_any_slots(tables)
 }
 
 /// A commit of transaction 1: the picture that it is asked on, and what the model answers and leaves.
@@ -73,16 +98,13 @@ impl Commit {
     /// read the first of these: each is answered once it is gone.
     pub fn of(owned: u64, waiting: u16) -> Commit {
         let mut tables = all_running(ENTRIES);
-        let mut ask = |transaction, request| {
-            tables.answer(Request { transaction, kind: RequestKind::Keys(request) });
-        };
         let apart = ENTRIES / owned;
         let first = Key(1 + apart / 2);
         for place in 0..owned {
-            ask(1, KeyRequest::Delete { key: first.up(place * apart) });
+            tables.answer(asked(1, KeyRequest::Delete { key: first.up(place * apart) }));
         }
         for transaction in 2..=waiting + 1 {
-            ask(transaction, KeyRequest::Read { lo: first, hi: first });
+            tables.answer(asked(transaction, KeyRequest::Read { lo: first, hi: first }));
         }
         let commit = Commit::on(in_any_slots(tables));
         assert_eq!(commit.answers.len(), 20 * (1 + usize::from(waiting)), "all are answered");

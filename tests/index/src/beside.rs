@@ -125,16 +125,31 @@ impl Beside {
     fn search(&mut self) {
         let (lo, hi) = (self.any_key(), self.any_key());
         let asker = self.probes.pick(&ASKERS).expect("there are askers");
-        let expected = self.sought(lo, hi, asker);
-        let found = doors::find(&self.bytes, lo, hi, asker);
-        assert_eq!(found, Ok(expected), "from {lo:?}, to {hi:?}, by {asker}");
-
+        let expected = self.finds(lo, hi, asker);
         let first = self.index.first_at_or_above(lo);
         assert_eq!(doors::find(&self.bytes, lo, lo, 0), Ok(first), "the first from {lo:?}");
 
         self.reached.found_nothing += u32::from(expected.is_none());
         self.reached.past_own_ghost += u32::from(expected != first);
         self.reached.past_empty_leaf += u32::from(self.passes_empty_leaf(lo));
+    }
+
+    /// A search, which must find what the model finds; gives that.
+    fn finds(&self, lo: Key, hi: Key, asker: u16) -> Option<Entry> {
+        let expected = self.sought(lo, hi, asker);
+        let found = doors::find(&self.bytes, lo, hi, asker);
+        assert_eq!(found, Ok(expected), "from {lo:?}, to {hi:?}, by {asker}");
+        expected
+    }
+
+    /// Searches from a key, by everyone, for that key alone and for all above it. Gives the first
+    /// entry at or above it.
+    pub fn find_from(&self, lo: Key) -> Option<Entry> {
+        for asker in ASKERS {
+            self.finds(lo, lo, asker);
+            self.finds(lo, Key::HIGHEST, asker);
+        }
+        self.finds(lo, lo, 0)
     }
 
     /// "First entry at or above lo that is above hi or isn't the asker's own ghost", among all

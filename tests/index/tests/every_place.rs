@@ -89,6 +89,57 @@ fn a_full_root_is_divided_at_every_place() {
     }
 }
 
+/// The keys below, at and above each of these entries, the ones halfway between two, and the marks.
+fn keys_around(entries: &[Entry]) -> Vec<Key> {
+    let around = entries.iter().flat_map(|entry| [-1, 0, 1, 20].map(|far| (entry.key, far)));
+    let around = around.map(|(key, far)| Key(key.0.saturating_add_signed(far)));
+    around.chain([Key::LOWEST, Key::HIGHEST]).collect()
+}
+
+/// In a leaf that is alone, and in one with others before and behind it.
+#[test]
+fn entries_are_found_from_every_key_in_leaves_of_every_count() {
+    let mut random = Random::new(25);
+    let mut found = 0;
+    for count in 0..=LEAF_FULL {
+        let index = alone(&mut random, count);
+        let entries = index.pages[&1].entries().to_vec();
+        let beside = Beside::from(random.bits(), index);
+        for key in keys_around(&entries) {
+            let first = entries.iter().find(|entry| entry.key >= key);
+            assert_eq!(beside.find_from(key), first.copied());
+            found += usize::from(first.is_some());
+        }
+    }
+    assert!(found > 1_000, "{found} searches found something");
+    for place in [0, 1, INNER_FULL - 1] {
+        let beside = Beside::from(random.bits(), full_root(&mut random, place));
+        for key in keys_around(beside.index.pages[&(place as u16 + 1)].entries()) {
+            beside.find_from(key);
+        }
+    }
+}
+
+/// An entry is changed by its key at every place; beside a key that is missing nothing changes.
+#[test]
+fn entries_are_replaced_at_every_place_of_leaves_of_every_count() {
+    let mut random = Random::new(26);
+    for count in 0..=LEAF_FULL {
+        let mut beside = Beside::from(random.bits(), alone(&mut random, count));
+        for place in 0..count {
+            let old = beside.index.pages[&1].entries()[place];
+            let new = any_entry(&mut random, old.key);
+            beside.replace(new);
+            assert_eq!(beside.index.pages[&1].entries()[place], new);
+        }
+        for place in 0..=count {
+            let missing = entry_at(&mut random, 0, place);
+            beside.replace(missing);
+        }
+        assert_eq!(beside.reached.replaced_nothing as usize, count + 1);
+    }
+}
+
 /// For every owner of an entry, and one who owns none.
 #[test]
 fn leaves_of_every_count_are_settled() {
