@@ -1,6 +1,8 @@
 //! Times the proved desk and the plain Rust one on the same work, in one run, and prints Markdown.
 //!
 //!     cargo run --release --offline --manifest-path tests/Cargo.toml -p bench
+//!
+//! With a word behind `--` (judging, reads, searches, commits, sessions) that part alone.
 
 mod machine;
 mod timing;
@@ -15,13 +17,24 @@ use work::{
     Commit, FIRST, LAST, Session, full_leaf, in_any_slots, read_of, read_on, reader, with_lock_on,
 };
 
+/// The parts of the table, each with the word that asks for it alone.
+const PARTS: [(&str, fn()); 5] = [
+    ("judging", judging),
+    ("reads", one_read),
+    ("searches", searches),
+    ("commits", one_commit),
+    ("sessions", many_calls),
+];
+
 fn main() {
+    let word = std::env::args().nth(1);
+    let is_asked_for = |name: &str| word.as_deref().is_none_or(|word| word == name);
+    let asked_for: Vec<_> = PARTS.into_iter().filter(|(name, _)| is_asked_for(name)).collect();
+    assert!(!asked_for.is_empty(), "no part is called {word:?}");
     println!("{}", machine::description());
-    judging();
-    one_read();
-    searches();
-    one_commit();
-    many_calls();
+    for (_, part) in asked_for {
+        part();
+    }
 }
 
 /// A line of the table: microseconds of both, and how much longer the proved one takes.

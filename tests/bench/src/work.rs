@@ -69,17 +69,18 @@ fn asked(transaction: u16, request: KeyRequest) -> Request {
 pub const FIRST: Key = Key(1);
 pub const LAST: Key = Key(LEAF_FULL as u64);
 
-/// An index that is one full leaf. Transaction 1 holds S on its first key and on its last, and so
-/// many others wait to delete the last.
+/// An index that is one full leaf. Transaction 1 holds S on its last key and on its first, and so
+/// many others wait to delete the last: that lock stands in the first slot, so that a look at one of
+/// these is little more than the search for its target.
 pub fn full_leaf(waiting: u16) -> Picture {
     let mut tables = all_running(LEAF_FULL as u64);
-    for key in [FIRST, LAST] {
+    for key in [LAST, FIRST] {
         tables.answer(asked(1, KeyRequest::Read { lo: key, hi: key }));
     }
     for transaction in 2..=waiting + 1 {
         tables.answer(asked(transaction, KeyRequest::Delete { key: LAST }));
     }
-    in_any_slots(tables)
+    tables.encode()
 }
 
 /// A commit of transaction 1: the picture that it is asked on, and what the model answers and leaves.
