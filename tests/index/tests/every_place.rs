@@ -91,9 +91,10 @@ fn a_full_root_is_divided_at_every_place() {
 
 /// The keys below, at and above each of these entries, the ones halfway between two, and the marks.
 fn keys_around(entries: &[Entry]) -> Vec<Key> {
-    let around = entries.iter().flat_map(|entry| [-1, 0, 1, 20].map(|far| (entry.key, far)));
-    let around = around.map(|(key, far)| Key(key.0.saturating_add_signed(far)));
-    around.chain([Key::LOWEST, Key::HIGHEST]).collect()
+    let from_each = [-1, 0, 1, APART as i64 / 2];
+    let around =
+        entries.iter().flat_map(|entry| from_each.map(|far| entry.key.0.wrapping_add_signed(far)));
+    around.map(Key).chain([Key::LOWEST, Key::HIGHEST]).collect()
 }
 
 /// In a leaf that is alone, and in one with others before and behind it.
