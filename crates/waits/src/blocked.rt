@@ -2,10 +2,10 @@
 ghost use mathlib.Core.Path.{_≡_};
 ghost use Prim.Native.Nat.{_+_, _<_};
 ghost use Rattle.limits.specs.Limits.{transactionsMost, locksMost};
-ghost use Rattle.queue.specs.QueueLayout.{queued, queuedAt};
+ghost use Rattle.queue.specs.QueueLayout.{queued};
 ghost use Rattle.states.specs.Whole.{Whole};
 ghost use Rattle.waits.specs.Choices.{bookWant, OldestIs};
-ghost use Rattle.waits.specs.Blocks.{isRival, isBehind};
+ghost use Rattle.waits.specs.Blocks.{isBehind};
 ghost use Rattle.waits.specs.Notes.{Noted, NotedIn, LookedAt, TurnAt};
 ghost use Rattle.waits.specs.Slots.{SeenTo};
 use super::Looked;
@@ -14,20 +14,11 @@ use super::Seen;
 use super::Sight;
 use super::Turn;
 use super::Want;
+use super::blockers;
 use super::notes;
 use super::slots;
 use super::targets;
 use limits::LOCKS;
-
-// Whether the request at place i, whose want is noted, is another's and wants the same, in a conflicting mode.
-pub fn is_rival(pages: &[u8], desk: &[u8], names: &[u64], modes: &[u16], i: usize, w: Want) -> bool
-    requires { ⌜ Whole (now pages) (now desk) ⌝ }
-    requires { ⌜ i < queued (now desk) ⌝ }
-    requires { ⌜ Noted (now pages) (now desk) (now names) (now modes) (i + 1) ⌝ }
-    ensures { λ r. ⌜ r ≡ isRival (now (pages .entry)) (w .asker) (bookWant w) (queuedAt (now (desk .entry)) i) ⌝ }
-{
-    notes::noted_at(pages, desk, names, modes, i).clashes(w)
-}
 
 // Whether the asker at place q holds no lock on what it wants and a request ahead of it wants the same, in a conflicting mode.
 // All slots have been seen, and the wants are noted.
@@ -51,7 +42,7 @@ fn is_behind(
     }
     let mut i: usize = 0;
     while i < q {
-        if is_rival(pages, desk, names, modes, i, w) {
+        if blockers::is_rival(pages, desk, names, modes, i, w) {
             return true;
         }
         i += 1;

@@ -11,6 +11,7 @@ use keys::Key;
 use locks::Mode;
 
 mod blocked;
+mod blockers;
 mod newest;
 mod notes;
 mod slots;

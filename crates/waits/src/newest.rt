@@ -1,129 +1,13 @@
 // All who block each queued request, as sets, and the newest request that lies on a circle. (Document 01, "Working the queue".)
 // What each request wants is noted.
-ghost use mathlib.Core.Path.{_≡_};
-ghost use Prim.Native.Nat.{_+_, _<_};
-ghost use Rattle.limits.specs.Limits.{locksMost, deskSize};
-ghost use Rattle.rules.specs.Locks.{earlier};
-ghost use Rattle.queue.specs.QueueLayout.{queued, queuedAt};
-ghost use Rattle.locks.specs.SlotLayout.{bookSlot};
-ghost use Rattle.index.specs.Pictures.{entriesIn};
-ghost use Rattle.states.specs.States.{book};
+ghost use Rattle.queue.specs.QueueLayout.{queued};
 ghost use Rattle.states.specs.Whole.{Whole};
-ghost use Rattle.circles.specs.CircleSets.{SetOf};
-ghost use Rattle.waits.specs.Choices.{bookWant, NewestAt};
-ghost use Rattle.waits.specs.Blocks.{ahead, blockersAt, HolderKnown, HoldersKnown, holderOf, withHolder, withRival, Rows};
+ghost use Rattle.waits.specs.Choices.{NewestAt};
+ghost use Rattle.waits.specs.Blocks.{Rows};
 ghost use Rattle.waits.specs.Notes.{Noted};
-ghost use Rattle.waits.specs.Slots.{collectedWith, Scanned};
-use super::Collected;
 use super::Place;
-use super::Want;
-use super::blocked;
-use super::notes;
-use super::slots;
-use limits::LOCKS;
+use super::blockers;
 use limits::TRANSACTIONS;
-use locks::Slot;
-
-// Who holds a slot; 0, nobody, where it is free.
-fn holder_of(slot: Slot) -> usize
-    ensures { λ r. ⌜ r ≡ holderOf (bookSlot slot) ⌝ }
-{
-    match slot {
-        Slot::Free => 0,
-        Slot::Held(l) => l.holder as usize,
-    }
-}
-
-// The set with the holder of a slot, if its lock stands against what is wanted.
-fn with_holder(set: u64, slot: Slot, w: Want) -> u64
-    requires { ⌜ HolderKnown (bookSlot slot) ⌝ }
-    ensures { λ r. ⌜ r ≡ withHolder set (w .asker) (bookWant w) (bookSlot slot) ⌝ }
-{
-    if slots::is_against(slot, w) {
-        return circles::with(set, holder_of(slot));
-    }
-    set
-}
-
-// What has been collected, with slot i.
-fn collected_with(held: Collected, i: usize, slot: Slot, w: Want) -> Collected
-    requires { ⌜ i < locksMost ⌝ }
-    requires { ⌜ HolderKnown (bookSlot slot) ⌝ }
-    ensures { λ r. ⌜ r ≡ collectedWith held i (w .asker) (bookWant w) (bookSlot slot) ⌝ }
-{
-    Collected {
-        against: with_holder(held.against, slot, w),
-        own: slots::first_to(held.own, i, slots::is_own(slot, w)),
-    }
-}
-
-// Who holds what is wanted, in a conflicting mode, and the slot of the asker's own lock on it.
-fn scan(desk: &[u8], w: Want) -> Collected
-    requires { do ⌜ (← ⟦desk.len()⟧) ≡ deskSize ⌝ }
-    requires { ⌜ HoldersKnown (now desk) ⌝ }
-    ensures { λ r. ⌜ Scanned (now (desk .entry)) (w .asker) (bookWant w) locksMost r ⌝ }
-{
-    let mut held = Collected { against: 0, own: 0 };
-    let mut i: usize = 0;
-    while i < LOCKS {
-        let slot = locks::slot_at(desk, i);
-        held = collected_with(held, i, slot, w);
-        i += 1;
-    }
-    held
-}
-
-// The set with the one whose request stands at place i, if it stands against what is wanted.
-fn with_rival(
-    set: u64,
-    pages: &[u8],
-    desk: &[u8],
-    names: &[u64],
-    modes: &[u16],
-    i: usize,
-    w: Want,
-) -> u64
-    requires { ⌜ Whole (now pages) (now desk) ⌝ }
-    requires { ⌜ i < queued (now desk) ⌝ }
-    requires { ⌜ Noted (now pages) (now desk) (now names) (now modes) (i + 1) ⌝ }
-    ensures { λ r. ⌜ r ≡ withRival set (now (pages .entry)) (w .asker) (bookWant w) (queuedAt (now (desk .entry)) i) ⌝ }
-{
-    if blocked::is_rival(pages, desk, names, modes, i, w) {
-        return circles::with(set, queue::in_place(desk, i) as usize);
-    }
-    set
-}
-
-// Who, ahead of place q, wants the same, in a conflicting mode.
-fn rivals_of(pages: &[u8], desk: &[u8], names: &[u64], modes: &[u16], q: usize, w: Want) -> u64
-    requires { ⌜ Whole (now pages) (now desk) ⌝ }
-    requires { ⌜ q < queued (now desk) ⌝ }
-    requires { ⌜ Noted (now pages) (now desk) (now names) (now modes) (q + 1) ⌝ }
-    ensures { λ r. ⌜ SetOf r (earlier book (entriesIn (now (pages .entry))) (ahead (now (desk .entry)) q) (w .asker) (bookWant w)) ⌝ }
-{
-    let mut set: u64 = 0;
-    let mut i: usize = 0;
-    while i < q {
-        set = with_rival(set, pages, desk, names, modes, i, w);
-        i += 1;
-    }
-    set
-}
-
-// All who block the request at place q.
-fn blockers_of(pages: &[u8], desk: &[u8], names: &[u64], modes: &[u16], q: usize) -> u64
-    requires { ⌜ Whole (now pages) (now desk) ⌝ }
-    requires { ⌜ q < queued (now desk) ⌝ }
-    requires { ⌜ Noted (now pages) (now desk) (now names) (now modes) (q + 1) ⌝ }
-    ensures { λ r. ⌜ SetOf r (blockersAt (now (pages .entry)) (now (desk .entry)) q) ⌝ }
-{
-    let w = notes::noted_at(pages, desk, names, modes, q);
-    let held = scan(desk, w);
-    if held.own < LOCKS {
-        return held.against;
-    }
-    held.against | rivals_of(pages, desk, names, modes, q, w)
-}
 
 // For each transaction, at its number, all who block its queued request.
 fn rows_of(pages: &[u8], desk: &[u8], names: &[u64], modes: &[u16]) -> [u64; TRANSACTIONS + 1]
@@ -136,7 +20,7 @@ fn rows_of(pages: &[u8], desk: &[u8], names: &[u64], modes: &[u16]) -> [u64; TRA
     let mut q: usize = 0;
     while q < n {
         let t = queue::in_place(desk, q) as usize;
-        row[t] = blockers_of(pages, desk, names, modes, q);
+        row[t] = blockers::blockers_of(pages, desk, names, modes, q);
         q += 1;
     }
     row

@@ -1,4 +1,4 @@
--- `waits::newest::rivals_of` meets its contract. The invariant: the set has those of the places before i.
+-- `waits::blockers::rivals_of` meets its contract. The invariant: the set has those of the places before i.
 -- The measure is the number of places left. Assumes nothing.
 use borrow.Author.Needs.{needs}
 use Prim.Native.Nat.{_≤_, _-_}
@@ -10,8 +10,8 @@ use Rattle.waits.specs.Choices.{bookWant}
 use Rattle.waits.specs.Blocks.{ahead}
 use Rattle.waits.proofs.Noting.{noted-to}
 use Rattle.waits.proofs.BlockerSets.{rivals-start, rivals-turn, rivals-end}
-use Rattle.waits.proofs.newest.rivals_of.Statement.{statement}
-use Rattle.waits.proofs.newest.rivals_of.Tie as tie
+use Rattle.waits.proofs.blockers.rivals_of.Statement.{statement}
+use Rattle.waits.proofs.blockers.rivals_of.Tie as tie
 
 abbrev Inv-loop : tie.InvT-loop
 Inv-loop pages desk names modes q w set₀ i₀ set i = (i ≤ q) × SetOf set (earlier book (entriesIn pages) (ahead desk i) (w .asker) (bookWant w))

@@ -1,4 +1,4 @@
--- `waits::newest::scan` meets its contract. The invariant: what is collected is that of the slots before i.
+-- `waits::blockers::scan` meets its contract. The invariant: what is collected is that of the slots before i.
 -- The measure is the number of slots left. Assumes nothing.
 use borrow.Author.Needs.{needs}
 use Prim.Native.Nat.{_≤_, _-_}
@@ -6,8 +6,8 @@ use Rattle.limits.specs.Limits.{locksMost}
 use Rattle.waits.specs.Choices.{bookWant}
 use Rattle.waits.specs.Slots.{Scanned}
 use Rattle.waits.proofs.BlockerSets.{holder-at, scan-start, scan-turn, scan-end}
-use Rattle.waits.proofs.newest.scan.Statement.{statement}
-use Rattle.waits.proofs.newest.scan.Tie as tie
+use Rattle.waits.proofs.blockers.scan.Statement.{statement}
+use Rattle.waits.proofs.blockers.scan.Tie as tie
 
 abbrev Inv-loop : tie.InvT-loop
 Inv-loop desk w held₀ i₀ held i = (i ≤ locksMost) × Scanned desk (w .asker) (bookWant w) i held

@@ -1,10 +1,10 @@
--- `waits::newest::with_rival` meets its contract: one that stands against the want is a transaction, and added.
+-- `waits::blockers::with_rival` meets its contract: one that stands against the want is a transaction, and added.
 -- Assumes nothing.
 use borrow.Author.Needs.{needs}
 use Rattle.waits.proofs.QueueKnown.{place-low, asker-low, asker-fits}
 use Rattle.waits.proofs.BlockerSets.{rival-in, rival-out}
-use Rattle.waits.proofs.newest.with_rival.Statement.{statement}
-use Rattle.waits.proofs.newest.with_rival.Tie as tie
+use Rattle.waits.proofs.blockers.with_rival.Statement.{statement}
+use Rattle.waits.proofs.blockers.with_rival.Tie as tie
 
 is-rival-requires : tie.Need-is-rival-requires
 is-rival-requires c κs = search needs

@@ -1,10 +1,10 @@
--- `waits::newest::blockers_of` meets its contract: the holders, and the earlier ones where the asker holds no lock on what it wants.
+-- `waits::blockers::blockers_of` meets its contract: the holders, and the earlier ones where the asker holds no lock on what it wants.
 -- Assumes nothing.
 use borrow.Author.Needs.{needs}
 use Rattle.waits.proofs.QueueKnown.{place-low, whole-holders}
 use Rattle.waits.proofs.BlockerSets.{blockers-held, blockers-both}
-use Rattle.waits.proofs.newest.blockers_of.Statement.{statement}
-use Rattle.waits.proofs.newest.blockers_of.Tie as tie
+use Rattle.waits.proofs.blockers.blockers_of.Statement.{statement}
+use Rattle.waits.proofs.blockers.blockers_of.Tie as tie
 
 noted-at-requires : tie.Need-noted-at-requires
 noted-at-requires c κs = (search needs, (search (needs, place-low), search needs))

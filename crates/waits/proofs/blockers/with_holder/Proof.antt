@@ -1,9 +1,9 @@
--- `waits::newest::with_holder` meets its contract: a lock that stands against the want has a transaction for its holder.
+-- `waits::blockers::with_holder` meets its contract: a lock that stands against the want has a transaction for its holder.
 -- Assumes nothing.
 use borrow.Author.Needs.{needs}
 use Rattle.waits.proofs.BlockerSets.{slot-against, holder-low, holder-fits, slot-not}
-use Rattle.waits.proofs.newest.with_holder.Statement.{statement}
-use Rattle.waits.proofs.newest.with_holder.Tie as tie
+use Rattle.waits.proofs.blockers.with_holder.Statement.{statement}
+use Rattle.waits.proofs.blockers.with_holder.Tie as tie
 
 is-against-requires : tie.Need-is-against-requires
 is-against-requires c κs = search needs

@@ -1,9 +1,9 @@
--- `waits::newest::collected_with` meets its contract: each of the two with slot i.
+-- `waits::blockers::collected_with` meets its contract: each of the two with slot i.
 -- Assumes nothing.
 use borrow.Author.Needs.{needs}
 use Rattle.waits.proofs.BlockerSets.{collected-next}
-use Rattle.waits.proofs.newest.collected_with.Statement.{statement}
-use Rattle.waits.proofs.newest.collected_with.Tie as tie
+use Rattle.waits.proofs.blockers.collected_with.Statement.{statement}
+use Rattle.waits.proofs.blockers.collected_with.Tie as tie
 
 with-holder-requires : tie.Need-with-holder-requires
 with-holder-requires c κs = search needs

@@ -1,10 +1,10 @@
--- `waits::blocked::is_rival` meets its contract: the two wants clash as in the rule book.
+-- `waits::blockers::is_rival` meets its contract: the two wants clash as in the rule book.
 -- Assumes nothing.
 use borrow.Author.Needs.{needs}
 use Rattle.waits.proofs.QueueKnown.{place-low}
 use Rattle.waits.proofs.Blocks.{rival-at}
-use Rattle.waits.proofs.blocked.is_rival.Statement.{statement}
-use Rattle.waits.proofs.blocked.is_rival.Tie as tie
+use Rattle.waits.proofs.blockers.is_rival.Statement.{statement}
+use Rattle.waits.proofs.blockers.is_rival.Tie as tie
 
 noted-at-requires : tie.Need-noted-at-requires
 noted-at-requires c κs = (search needs, (search (needs, place-low), search needs))
