@@ -46,7 +46,7 @@ extern "C" {
 #define KEYDESK_DONE 0            /* begin, commit, rollback, insert, delete done; a call: served */
 #define KEYDESK_FOUND 1           /* read: an entry from lo to hi, with its key and record */
 #define KEYDESK_NOTHING 2         /* read: nothing from lo to hi; delete: the key is absent */
-#define KEYDESK_STILL_QUEUED 3    /* the request waits */
+#define KEYDESK_STILL_QUEUED 3    /* the request waits; the record says who is in its way */
 #define KEYDESK_WRONG_LENGTHS 10  /* pages, desk or answers of a wrong length; nothing changed */
 #define KEYDESK_NOT_WHOLE 11      /* the picture isn't whole; nothing changed */
 #define KEYDESK_BAD_REQUEST 12    /* a bad request record; nothing changed */
@@ -179,7 +179,8 @@ struct keydesk_answer {
     uint16_t transaction; /* whom it is for, which is often not the caller's */
     uint16_t number;      /* KEYDESK_DONE to KEYDESK_CIRCLE, never 10 to 12 */
     uint64_t key;         /* with KEYDESK_FOUND and KEYDESK_KEY_PRESENT; otherwise 0 */
-    uint32_t record;      /* likewise */
+    uint32_t record;      /* likewise; but with KEYDESK_STILL_QUEUED the lowest-numbered transaction
+                             in its way as the call ends, 1 to 16; others may be in its way too */
 };
 
 static inline uint32_t keydesk_answer_count(uint64_t returned) {

@@ -1,8 +1,9 @@
 /* A small tablet server. It owns the picture, numbers the transactions, takes turns over the
  * tablets, sends one request at a time, and hands every answer to the tablet whose transaction it
- * names. At the end of the day it saves the picture in FILE and loads it again, and a last tablet
- * reads what is there. A FILE that is there already is loaded instead, without the day.
- * examples/rust/src/bin/server.rs is the same in Rust. Build from the repository's root:
+ * names. Who has to wait is told whose tablet is in the way. At the end of the day it saves the
+ * picture in FILE and loads it again, and a last tablet reads what is there. A FILE that is there
+ * already is loaded instead, without the day. examples/rust/src/bin/server.rs is the same in Rust.
+ * Build from the repository's root:
  *
  *   rt staticlib desk
  *   cc -std=c99 -Iinclude examples/c/server.c target/staticlib/libdesk.a -o server
@@ -185,16 +186,23 @@ static void told(struct tablet *tablet, struct keydesk_answer answer) {
 }
 
 /* The tablet that has the transaction of this number; NULL where none has. */
-static struct tablet *named(struct tablet *tablets, size_t count, uint16_t transaction) {
+static struct tablet *with_transaction(struct tablet *tablets, size_t count, uint32_t number) {
     for (size_t i = 0; i < count; i++)
-        if (tablets[i].transaction == transaction) return &tablets[i];
+        if (tablets[i].transaction == number) return &tablets[i];
     return NULL;
+}
+
+/* The tablet whose transaction an answer names. */
+static struct tablet *named(struct tablet *tablets, size_t count, uint32_t transaction) {
+    struct tablet *tablet = with_transaction(tablets, count, transaction);
+    if (tablet == NULL) stop("an answer", "it names nobody");
+    return tablet;
 }
 
 /* The lowest transaction number that no tablet has. */
 static uint16_t free_number(struct tablet *tablets, size_t count) {
     uint16_t number = 1;
-    while (named(tablets, count, number) != NULL) number++;
+    while (with_transaction(tablets, count, number) != NULL) number++;
     if (number > KEYDESK_TRANSACTIONS) stop("no number is free", "all transactions run");
     return number;
 }
@@ -212,9 +220,10 @@ static int call(struct tablet *tablets, size_t count, struct tablet *caller) {
     for (uint32_t i = 0; i < keydesk_answer_count(returned); i++) {
         struct keydesk_answer answer = keydesk_answer_at(answers, i);
         struct tablet *tablet = named(tablets, count, answer.transaction);
-        if (tablet == NULL) stop("an answer", "it names nobody");
         printf("tablet %d: ", tablet->number);
         told(tablet, answer);
+        if (answer.number == KEYDESK_STILL_QUEUED)
+            printf(" behind tablet %d", named(tablets, count, answer.record)->number);
         if (tablet != caller) printf(", in tablet %d's call", caller->number);
         printf("\n");
     }

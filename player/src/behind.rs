@@ -2,6 +2,9 @@
 //!
 //! "T is **blocked** by another U if U holds the target in a conflicting mode; or if T holds no
 //! lock on it and U has an earlier waiting request with the same target and a conflicting mode."
+//!
+//! An answer 3 names one of them, the lowest-numbered, and its words take the name from there. A
+//! drawing has no answer: it asks `named`.
 
 use crate::keys::{Key, Written};
 use crate::picture::{Entry, Mode, Standing, Waiting};
@@ -88,6 +91,12 @@ pub fn blockers(standing: &Standing, waiting: &Waiting) -> Vec<Blocker> {
 /// The numbers of everyone who blocks a waiting request, ascending.
 pub fn behind(standing: &Standing, waiting: &Waiting) -> Vec<u16> {
     blockers(standing, waiting).iter().map(|blocker| blocker.transaction).collect()
+}
+
+/// The one of those who block a waiting request that is named: the lowest-numbered, holders and
+/// earlier waiters alike. None where nobody blocks it, which is never so at rest.
+pub fn named(standing: &Standing, waiting: &Waiting) -> Option<u16> {
+    behind(standing, waiting).first().copied()
 }
 
 /// "S goes with S, everything else conflicts."

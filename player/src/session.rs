@@ -110,7 +110,7 @@ impl Session {
     /// else is answered ends it.
     fn keep_waiting(&mut self, asker: u16, asked: Asked, said: Number) {
         match said {
-            Number::StillQueued => {
+            Number::StillQueued { .. } => {
                 self.waiting.insert(asker, asked);
             }
             Number::AlreadyRunning | Number::NotRunning | Number::IsWaiting => {}

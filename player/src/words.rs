@@ -1,20 +1,23 @@
 //! What the desk says, in words (document 01, What the desk says).
 
-use crate::behind::{Blocker, Why, blockers, target};
+use crate::behind::{Blocker, Why, blockers, named, target};
 use crate::circle::{Call, Link, circle};
 use crate::keys::{Form, Key, Written};
 use crate::picture::{Standing, Waiting};
 use crate::rows::numbers;
 use crate::text::{Asks, Request};
 use keydesk::{Answer, Number, Refusal};
+use std::fmt;
 
 /// What is said at this place among a call's answers, by the request that it answers: who waits is
-/// told behind whom, who is turned away at 19 the whole circle.
+/// told behind whom, by the name that its answer carries, and who else is in the way; who is turned
+/// away at 19 the whole circle.
 pub fn said(call: &Call, place: usize, asks: &Asks) -> String {
     let said = &call.answers[place];
     let told = match said.says {
-        Number::StillQueued => {
-            call.after.waiting(said.transaction).map(|waiting| waits(&call.after, waiting))
+        Number::StillQueued { behind } => {
+            let waiting = call.after.waiting(said.transaction);
+            waiting.map(|waiting| waits_behind(&call.after, waiting, behind).to_string())
         }
         Number::Circle => {
             let stood = call.stood_at(place);
@@ -60,27 +63,68 @@ fn nothing(asks: &Asks) -> String {
     }
 }
 
-/// Behind whom a request waits, and why: "waits behind 1, who holds S on 7/30, and behind 3, who
-/// asked for it before".
-pub fn waits(standing: &Standing, waiting: &Waiting) -> String {
+/// Behind whom a request waits, and why: the one that is named apart from the others.
+#[derive(Clone, Debug, PartialEq, Eq)]
+pub struct Waits {
+    /// "waits behind 1, who holds S on 7/30".
+    pub behind: String,
+    /// "also in the way are 3, who holds S on it, and 4, who asked for it before"; none where the
+    /// named one is alone.
+    pub also: Option<String>,
+}
+
+/// As one sentence.
+impl fmt::Display for Waits {
+    fn fmt(&self, to: &mut fmt::Formatter) -> fmt::Result {
+        match &self.also {
+            None => write!(to, "{}", self.behind),
+            Some(also) => write!(to, "{}; {also}", self.behind),
+        }
+    }
+}
+
+/// Behind whom a request waits by an answer that names one. The name is the answer's, whoever that
+/// is; only the reason is worked out here, and where there is none to be seen, none is said.
+pub fn waits_behind(standing: &Standing, waiting: &Waiting, named: u16) -> Waits {
     let name = standing.name(target(standing, waiting).name);
-    let (holding, asking): (Vec<Blocker>, Vec<Blocker>) = blockers(standing, waiting)
-        .into_iter()
-        .partition(|blocker| matches!(blocker.why, Why::Holds(_)));
-    let named = |those: &[Blocker]| {
-        numbers(&those.iter().map(|blocker| blocker.transaction).collect::<Vec<u16>>())
-    };
-    let mut behind = Vec::new();
-    // those who hold it and conflict with one request all hold it in one mode
-    if let Some(Blocker { why: Why::Holds(mode), .. }) = holding.first() {
-        let hold = if holding.len() == 1 { "holds" } else { "hold" };
-        behind.push(format!("behind {}, who {hold} {mode} on {name}", named(&holding)));
+    let (first, others): (Vec<Blocker>, Vec<Blocker>) =
+        blockers(standing, waiting).into_iter().partition(|blocker| blocker.transaction == named);
+    if first.is_empty() {
+        return Waits { behind: format!("waits behind {named}"), also: also(&others, &name) };
     }
-    if !asking.is_empty() {
-        let it = if holding.is_empty() { name.as_str() } else { "it" };
-        behind.push(format!("behind {}, who asked for {it} before", named(&asking)));
+    Waits { behind: format!("waits behind {}", who(&first, &name)), also: also(&others, "it") }
+}
+
+/// Behind whom a request waits as things stand, where there is no answer to name one.
+pub fn waits(standing: &Standing, waiting: &Waiting) -> Waits {
+    match named(standing, waiting) {
+        Some(named) => waits_behind(standing, waiting, named),
+        None => Waits { behind: "waits".to_string(), also: None },
     }
-    format!("waits {}", behind.join(", and "))
+}
+
+/// Those who are in the way besides the one that is named: who holds the target, then who asked for
+/// it before.
+fn also(others: &[Blocker], target: &str) -> Option<String> {
+    let (holding, asking): (Vec<Blocker>, Vec<Blocker>) =
+        others.iter().partition(|blocker| matches!(blocker.why, Why::Holds(_)));
+    let kinds = [holding, asking].into_iter().filter(|those| !those.is_empty());
+    let said: Vec<String> = kinds.map(|those| who(&those, target)).collect();
+    let are = if others.len() == 1 { "is" } else { "are" };
+    (!others.is_empty()).then(|| format!("also in the way {are} {}", said.join(", and ")))
+}
+
+/// Blockers of one kind, at least one, with what makes them block: "3, 5, who hold S on it". Those
+/// who hold a name and conflict with one request all hold it in one mode.
+fn who(those: &[Blocker], target: &str) -> String {
+    let named = numbers(&those.iter().map(|blocker| blocker.transaction).collect::<Vec<u16>>());
+    match those[0].why {
+        Why::Holds(mode) => {
+            let hold = if those.len() == 1 { "holds" } else { "hold" };
+            format!("{named}, who {hold} {mode} on {target}")
+        }
+        Why::AskedBefore => format!("{named}, who asked for {target} before"),
+    }
 }
 
 /// The circle of one that was turned away, link by link: "turned away, the newest in a circle: 2

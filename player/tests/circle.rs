@@ -1,6 +1,9 @@
 //! The circle that is said at a 19. The cases are worked out from document 01 by hand; random
 //! sessions check the rest: how things stood when it was said, and that each link is a wait.
 
+mod dice;
+
+use dice::{sessions, settled};
 use keydesk::Answer;
 use play::behind::{behind, target};
 use play::circle::{Call, Link, circle};
@@ -29,13 +32,6 @@ fn last(lines: &str) -> Vec<(u16, u32, String)> {
 /// What is said to one who is turned away at 19.
 fn turned_away(transaction: u16, links: &str) -> (u16, u32, String) {
     (transaction, 19, format!("turned away, the newest in a circle: {links}"))
-}
-
-/// Settled keys, put there by 16, and the named transactions begun.
-fn settled(keys: &[&str], begun: impl Iterator<Item = u16>) -> String {
-    let inserts = keys.iter().map(|key| format!("16 insert {key} record 1\n"));
-    let begins = begun.map(|transaction| format!("{transaction} begin\n"));
-    format!("16 begin\n{}16 commit\n{}", inserts.collect::<String>(), begins.collect::<String>())
 }
 
 #[test]
@@ -158,74 +154,6 @@ fn thirteen_in_one_call() {
     assert_eq!(said[1..], expected);
 }
 
-/// Numbers that look random, the same for the same seed (xorshift by Marsaglia).
-struct Dice(u64);
-
-impl Dice {
-    /// A number below a limit.
-    fn below(&mut self, limit: u64) -> u64 {
-        self.0 ^= self.0 << 13;
-        self.0 ^= self.0 >> 7;
-        self.0 ^= self.0 << 17;
-        (self.0 >> 16) % limit
-    }
-
-    /// One of the settled keys.
-    fn key(&mut self) -> u64 {
-        10 * (1 + self.below(5))
-    }
-
-    /// What a transaction may ask at a key: an end is rare.
-    fn asks(&mut self) -> String {
-        let key = self.key();
-        match self.below(12) {
-            0 => "commit".to_string(),
-            1 => "rollback".to_string(),
-            2..=5 => format!("read {}..{key}", key - self.below(8)),
-            6..=8 => format!("insert {} record 1", key - 5),
-            _ => format!("delete {key}"),
-        }
-    }
-
-    /// A session of some rounds, each from settled keys. It begins as the late circle of document
-    /// 01 or with nothing, is played by transactions in any order, and has other requests strewn
-    /// in.
-    fn session(&mut self, transactions: u64) -> Vec<String> {
-        let mut lines = Vec::new();
-        for _ in 0..5 {
-            let begun = settled(&["10", "20", "30", "40", "50"], 1..=transactions as u16);
-            lines.extend(begun.lines().map(String::from));
-            let (shift, late) = (self.below(transactions), self.below(3) > 0);
-            let begins: &[(u64, &str)] = if late { &LATE_CIRCLE } else { &[] };
-            for (role, asks) in begins {
-                self.strew(&mut lines, transactions, 2);
-                lines.push(format!("{} {asks}", 1 + (role + shift) % transactions));
-            }
-            self.strew(&mut lines, transactions, 20);
-            lines.extend((1..=transactions).map(|transaction| format!("{transaction} rollback")));
-        }
-        lines
-    }
-
-    /// Adds fewer requests than a limit, of any transaction.
-    fn strew(&mut self, lines: &mut Vec<String>, transactions: u64, limit: u64) {
-        for _ in 0..self.below(limit) {
-            lines.push(format!("{} {}", 1 + self.below(transactions), self.asks()));
-        }
-    }
-}
-
-/// The fourth case of document 01 with one more who waits behind 3: roles 1 to 3, and 0.
-const LATE_CIRCLE: [(u64, &str); 7] = [
-    (1, "delete 20"),
-    (2, "read 50..50"),
-    (3, "read 30..30"),
-    (2, "insert 15 record 6"),
-    (3, "delete 50"),
-    (0, "read 50..50"),
-    (1, "commit"),
-];
-
 /// What was met among the 19s of many sessions.
 #[derive(Default)]
 struct Met {
@@ -239,10 +167,8 @@ struct Met {
 #[test]
 fn every_19_of_random_sessions_has_its_circle() {
     let mut met = Met::default();
-    for seed in 1..=400 {
-        let mut dice = Dice(seed << 32 | 0x9e37_79b9);
+    for lines in sessions() {
         let mut session = Session::fresh();
-        let lines = dice.session(3 + seed % 4);
         for (number, line) in (1..).zip(&lines) {
             let before = session.standing();
             let Outcome::Called { said, .. } = session.play(number, line) else {

@@ -38,6 +38,18 @@ fn the_first_case_byte_for_byte() {
     assert!(played.ends_with(expected), "{played}");
 }
 
+/// "Answer 3 then carries that number in its record field" (document 02, request 4); its key is zero.
+#[test]
+fn a_3_names_who_is_in_the_way() {
+    let session = "1 begin\n1 insert 100 record 7\n2 begin\n2 read 50..150\n";
+    let played = transcript(session, true).text;
+    let expected = "
+          2: waits behind 1, who holds X on 100 (3)
+          answer  14 00 07 00 02 00 03 00 00 00 00 00 00 00 00 00 01 00 00 00
+";
+    assert!(played.ends_with(expected), "{played}");
+}
+
 /// "10 to 12 .. no record": there is a request to show, and no answer.
 #[test]
 fn a_refusal_by_the_call_has_no_answer_record() {

@@ -96,7 +96,7 @@ page 1, leaf, from the start: 4 of 24 entries
     assert_eq!(drawn(&(settled(&[10, 20, 30, 50]) + asked)), expected);
 }
 
-/// 3 waits behind 1, who holds S on 20, and behind 2, who wants X on it and asked before.
+/// 3 waits behind 1, who holds S on 20; and 2, who wants X on it and asked before, stands below.
 #[test]
 fn behind_a_holder_and_an_earlier_request() {
     let asked = "1 begin\n2 begin\n3 begin\n1 read 20..20\n2 insert 15 record 1\n3 delete 20\n";
@@ -104,11 +104,31 @@ fn behind_a_holder_and_an_earlier_request() {
 3 transactions run, 2 wait
     1 runs
     2 waits behind 1, who holds S on 20: insert 15 record 1 wants X on 20 for the instant
-    3 waits behind 1, who holds S on 20, and behind 2, who asked for it before: \
-                    delete 20 wants X on 20
+    3 waits behind 1, who holds S on 20: delete 20 wants X on 20
+        also in the way is 2, who asked for it before
 ";
     let drawn = drawn(&(settled(&[10, 20]) + asked));
     assert!(drawn.ends_with(expected), "{drawn}");
+}
+
+/// An answer named 2 to 4; when 2 has ended, a drawing names who is the lowest then.
+#[test]
+fn who_is_named_is_the_lowest_as_things_stand() {
+    let asked = "2 begin\n3 begin\n4 begin\n3 read 20..20\n2 read 20..20\n4 insert 15 record 1\n";
+    let before = "
+    2 runs
+    3 runs
+    4 waits behind 2, who holds S on 20: insert 15 record 1 wants X on 20 for the instant
+        also in the way is 3, who holds S on it
+";
+    let after = "
+    3 runs
+    4 waits behind 3, who holds S on 20: insert 15 record 1 wants X on 20 for the instant
+";
+    let asked = settled(&[10, 20]) + asked;
+    assert!(drawn(&asked).ends_with(before), "{}", drawn(&asked));
+    let ended = asked + "2 commit\n";
+    assert!(drawn(&ended).ends_with(after), "{}", drawn(&ended));
 }
 
 /// Every way in which an entry can be owned, the end locked, and two readers of one key.

@@ -1,10 +1,12 @@
 //! The words for every number of document 01, What the desk says.
 
-use keydesk::{Answer, Refusal};
+use keydesk::{Answer, Number, Refusal};
+use play::circle::Call;
 use play::keys::Written;
-use play::text::{Asks, Request};
+use play::session::Session;
+use play::text::{Asks, Request, parse};
 use play::transcript::transcript;
-use play::words::{answer, refusal};
+use play::words::{self, answer, refusal};
 
 fn key(text: &str) -> Written {
     Written::parse(text).expect(text)
@@ -58,11 +60,35 @@ fn a_delete_of_an_absent_key() {
     assert_eq!(said(2, delete()), "found no 100 to delete");
 }
 
+/// The answer's record field names who is in the way.
 #[test]
 fn waiting() {
     for asks in [read(), insert(), delete()] {
-        assert_eq!(said(3, asks), "waits");
+        assert_eq!(said(3, asks), "waits behind 9");
     }
+}
+
+/// 1 and 3 hold S on 7/30, and 2 would put 7/25 below it. An answer that named 3 would be told so:
+/// the name is the answer's, and only the reason is worked out.
+#[test]
+fn who_waits_is_told_the_name_that_the_answer_carries() {
+    let lines = "16 begin\n16 insert 7/30 record 1\n16 commit\n1 begin\n2 begin\n3 begin\n\
+                 1 read 7/30..7/30\n3 read 7/30..7/30\n2 insert 7/25 record 7";
+    let mut session = Session::fresh();
+    lines.lines().for_each(|line| drop(session.play(0, line)));
+    let request = parse("2 insert 7/25 record 7").expect("a request").expect("a request");
+    let told = |behind: u16| {
+        let answers = vec![Answer { transaction: 2, says: Number::StillQueued { behind } }];
+        let (before, after) = (session.standing(), session.standing());
+        words::said(&Call { before, after, request, answers }, 0, &request.asks)
+    };
+    let holds = |one: u16, other: u16| {
+        format!(
+            "waits behind {one}, who holds S on 7/30; also in the way is {other}, who holds S on it"
+        )
+    };
+    assert_eq!(told(1), holds(1, 3));
+    assert_eq!(told(3), holds(3, 1));
 }
 
 /// What the desk says to the last line of a session on the settled key 7/30, held by 1.

@@ -1,6 +1,6 @@
 //! Answers and their records (document 01, What the desk says).
 
-use crate::{ANSWER, ANSWERS, Key, number};
+use crate::{ANSWER, ANSWERS, Key, TRANSACTIONS, number};
 use std::fmt;
 
 /// What the desk says to one transaction: often to another one than the asker, since an end lets
@@ -22,15 +22,16 @@ pub struct Answer {
     pub says: Number,
 }
 
-/// Document 01's numbers that stand in answers, with the key and record that two of them carry.
-/// After [`LocksInUse`](Number::LocksInUse), [`PagesShort`](Number::PagesShort) and
-/// [`Circle`](Number::Circle) the transaction lives on and keeps what it has.
+/// Document 01's numbers that stand in answers, with the key and record that two of them carry and
+/// the transaction that one of them names. After [`LocksInUse`](Number::LocksInUse),
+/// [`PagesShort`](Number::PagesShort) and [`Circle`](Number::Circle) the transaction lives on and
+/// keeps what it has.
 ///
 /// ```
 /// use keydesk::Number;
 ///
 /// assert_eq!(Number::Circle.code(), 19);
-/// assert_eq!(Number::StillQueued.to_string(), "waits");
+/// assert_eq!(Number::StillQueued { behind: 1 }.to_string(), "waits behind 1");
 /// ```
 #[derive(Clone, Copy, Debug, PartialEq, Eq)]
 pub enum Number {
@@ -46,7 +47,10 @@ pub enum Number {
     /// 2: a read found nothing from lo to hi; a delete found its key absent.
     Nothing,
     /// 3: the request waits. Its answer comes in the call of another transaction.
-    StillQueued,
+    StillQueued {
+        /// The lowest-numbered transaction in its way, as at rest; others may be in its way too.
+        behind: u16,
+    },
     /// 13: begin of a running transaction.
     AlreadyRunning,
     /// 14: any other request of a transaction that isn't running.
@@ -69,8 +73,9 @@ pub enum Number {
 }
 
 impl Answer {
-    /// Reads an answer record; none where it is no answer record: another length or kind, or a
-    /// number that stands in no answer. Key and record are looked at where the number carries them.
+    /// Reads an answer record; none where it is no answer record: another length or kind, a number
+    /// that stands in no answer, or a 3 that names nobody from 1 to 16. Key and record are looked at
+    /// where the number carries them.
     pub fn read(record: &[u8; ANSWER]) -> Option<Answer> {
         let field = |at: usize, width: usize| {
             let bytes = record[at..at + width].iter().rev();
@@ -91,7 +96,7 @@ impl Number {
             Number::Done => number::DONE,
             Number::Found { .. } => number::FOUND,
             Number::Nothing => number::NOTHING,
-            Number::StillQueued => number::STILL_QUEUED,
+            Number::StillQueued { .. } => number::STILL_QUEUED,
             Number::AlreadyRunning => number::ALREADY_RUNNING,
             Number::NotRunning => number::NOT_RUNNING,
             Number::IsWaiting => number::IS_WAITING,
@@ -103,13 +108,16 @@ impl Number {
         code as u16
     }
 
-    /// The number of an answer record with its key and record; none where it stands in no answer.
+    /// The number of an answer record with its key and record; none where they stand in no answer.
     fn of(code: u32, key: Key, record: u32) -> Option<Number> {
         match code {
             number::DONE => Some(Number::Done),
             number::FOUND => Some(Number::Found { key, record }),
             number::NOTHING => Some(Number::Nothing),
-            number::STILL_QUEUED => Some(Number::StillQueued),
+            number::STILL_QUEUED => {
+                let behind = u16::try_from(record).ok()?;
+                (1..=TRANSACTIONS).contains(&behind).then_some(Number::StillQueued { behind })
+            }
             number::ALREADY_RUNNING => Some(Number::AlreadyRunning),
             number::NOT_RUNNING => Some(Number::NotRunning),
             number::IS_WAITING => Some(Number::IsWaiting),
@@ -129,7 +137,7 @@ impl fmt::Display for Number {
             Number::Done => write!(to, "done"),
             Number::Found { key, record } => write!(to, "found {key} with record {record}"),
             Number::Nothing => write!(to, "found nothing"),
-            Number::StillQueued => write!(to, "waits"),
+            Number::StillQueued { behind } => write!(to, "waits behind {behind}"),
             Number::AlreadyRunning => write!(to, "has begun already"),
             Number::NotRunning => write!(to, "isn't running: begin comes first"),
             Number::IsWaiting => write!(to, "is waiting, and can only roll back"),

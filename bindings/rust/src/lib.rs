@@ -33,7 +33,7 @@
 //! // The night job (2) reads all that pupil 7 can have. The ball may yet be taken back: it waits.
 //! server.ask(Request::begin(2))?;
 //! server.ask(Request::read(2, Key::of(7, 0), Key::of(7, u32::MAX)))?;
-//! assert_eq!(server.told[2], Some(Number::StillQueued));
+//! assert_eq!(server.told[2], Some(Number::StillQueued { behind: 1 }));
 //!
 //! // The coach commits, and that call answers both.
 //! server.ask(Request::commit(1))?;

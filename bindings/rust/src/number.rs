@@ -7,7 +7,8 @@ pub const DONE: u32 = 0;
 pub const FOUND: u32 = 1;
 /// Read: nothing from lo to hi; delete: the key is absent.
 pub const NOTHING: u32 = 2;
-/// The request is still queued: its transaction waits.
+/// The request is still queued: its transaction waits; the answer's record is the lowest-numbered
+/// transaction in its way.
 pub const STILL_QUEUED: u32 = 3;
 /// Returned: the pages are not 32,768 bytes, the desk not 4,672, or the answers under 320.
 pub const WRONG_LENGTHS: u32 = 10;

@@ -5,9 +5,14 @@ use keydesk::{Answer, Answers, Desk, Key, Number, Refusal, Request};
 
 const KEY: Key = Key::of(7, 30);
 
-/// An answer record to transaction 2: length, kind, transaction, number, key 7/30, record 503.
+/// An answer record to transaction 2: length, kind, transaction, number, key 7/30, and the record: 9
+/// in a 3, which names a transaction there, and 503 in any other.
 fn record(number: u8) -> [u8; 20] {
-    [20, 0, 7, 0, 2, 0, number, 0, 30, 0, 0, 0, 7, 0, 0, 0, 247, 1, 0, 0]
+    let mut bytes = [20, 0, 7, 0, 2, 0, number, 0, 30, 0, 0, 0, 7, 0, 0, 0, 247, 1, 0, 0];
+    if number == 3 {
+        bytes[16..].copy_from_slice(&[9, 0, 0, 0]);
+    }
+    bytes
 }
 
 /// Every number that stands in an answer, with its code.
@@ -15,7 +20,7 @@ const NUMBERS: [(u8, Number); 11] = [
     (0, Number::Done),
     (1, Number::Found { key: KEY, record: 503 }),
     (2, Number::Nothing),
-    (3, Number::StillQueued),
+    (3, Number::StillQueued { behind: 9 }),
     (13, Number::AlreadyRunning),
     (14, Number::NotRunning),
     (15, Number::IsWaiting),
@@ -37,6 +42,7 @@ fn every_number_is_read_and_has_its_code() {
 fn every_number_has_words_of_its_own() {
     let mut words: Vec<String> = NUMBERS.iter().map(|(_, says)| says.to_string()).collect();
     assert_eq!(words[1], "found 7/30 with record 503");
+    assert_eq!(words[3], "waits behind 9");
     assert_eq!(words[7], "7/30 is there already, with record 503");
     words.sort();
     words.dedup();
@@ -52,6 +58,24 @@ fn a_number_that_stands_in_no_answer_is_none() {
     let mut wide = record(0);
     wide[7] = 1;
     assert_eq!(Answer::read(&wide), None, "256");
+}
+
+/// A 3 names a transaction, and those are numbered 1 to 16: not 0, and not by the field's low byte
+/// or low half alone.
+#[test]
+fn a_3_names_a_transaction_from_1_to_16() {
+    for behind in 0..=255u8 {
+        let mut waits = record(3);
+        waits[16] = behind;
+        let says = Number::StillQueued { behind: u16::from(behind) };
+        let named = (1..=16).contains(&behind).then_some(Answer { transaction: 2, says });
+        assert_eq!(Answer::read(&waits), named, "{behind}");
+    }
+    for at in 17..20 {
+        let mut wide = record(3);
+        wide[at] = 1;
+        assert_eq!(Answer::read(&wide), None, "byte {at} is 1");
+    }
 }
 
 #[test]
@@ -129,7 +153,8 @@ fn the_desk_can_be_asked_before_the_last_answer_is_taken() {
     assert_eq!(taken, [1, 2]);
 }
 
-/// "A call writes at most 16 answers": one that ends and fifteen that waited for it.
+/// "A call writes at most 16 answers": one that ends and fifteen that waited for it. Reads don't
+/// wait behind reads, so that each of them is told of 1.
 #[test]
 fn sixteen_answers_in_one_call() {
     let mut desk = Desk::fresh();
@@ -138,7 +163,7 @@ fn sixteen_answers_in_one_call() {
     for reader in 2..=16 {
         desk.ask(Request::begin(reader)).expect("a request record");
         let mut told = desk.ask(Request::read(reader, 50, 150)).expect("a request record");
-        assert_eq!(told.next().map(|answer| answer.says), Some(Number::StillQueued));
+        assert_eq!(told.next().map(|answer| answer.says), Some(Number::StillQueued { behind: 1 }));
     }
     let answers = desk.ask(Request::commit(1)).expect("a request record");
     assert_eq!(answers.len(), 16);

@@ -1,22 +1,28 @@
 -- One request answered on a whole picture: the acts of document 01 from the moves and the queue worked. The queue has room for the answers
--- since whoever is answered first is not in it, and a call answers nobody twice. Assumes nothing.
+-- since whoever is answered first is not in it, and whoever is told last that it waits still is. Assumes nothing.
 use Prim.Native.Nat.{ℕ, _+_, _*_, _≤_}
 use mathlib.Core.Path.{_≡_, refl, sym, ap, subst, _∙_}
 use mathlib.Core.Bool.{Bool, true, false, cond, not, true≢false}
 use mathlib.Core.List.{List, [], _∷_, _++_}
-use mathlib.Core.Option.{Option, none, Option·none-ne-some}
+use mathlib.Core.Option.{Option, none, some, Option·none-ne-some}
 use native.Mathlib.Omega.{arith}
-use borrow.Author.Tests.{eqb-true, not-true, not-false, leb-true}
-use lib.Dec.{eqb, leb}
-use lib.ListN.{length, length-append}
+use borrow.Author.Tests.{eqb-true, not-true, leb-true}
+use lib.Dec.{eqb, leb, lit<}
+use lib.ListN.{length, getD, length-append}
 use Rattle.limits.specs.Limits.{transactionsMost, answerSize, spaceLeast}
+use Rattle.lists.specs.Lists.{any}
 use Rattle.lists.proofs.Tests.{and-left, and-right, fails}
 use Rattle.lists.proofs.Elements.{any-in, keep-in}
-use Rattle.rules.specs.Queue.{St, leave}
+use Rattle.rules.specs.Entries.{isThere}
+use Rattle.rules.specs.Queue.{St, Q, blockerOf, leave}
 use Rattle.rules.specs.Runs.{Sy, En, done, waiting, runsAlready, runsNot, waitsAlready, Worked, worked}
-use Rattle.rules.specs.Desk.{runs, waitsNow, says, ifSo, unlessRuns, refusal, begun, ended, joined, afterDone, waitingLast, acts, unless, step, isTransaction, legalAsk, legalRequest, legalCall}
+use Rattle.rules.specs.Desk.{runs, waitsNow, says, ifSo, unlessRuns, refusal, begun, ended, joined, afterDone, waitingAt, waitingLast, acts, unless, step, isTransaction, legalAsk, legalRequest, legalCall}
 use Rattle.rules.proofs.Waits.{queued-runs}
-use Rattle.rules.proofs.AnswersOnce.{few-answers}
+use Rattle.rules.proofs.Chains.{rest-told}
+use Rattle.circles.specs.declared.Blocker.{Blocker}
+use Rattle.circles.specs.declared.Blocker.the-variants as CV
+use Rattle.circles.specs.InTheWay.{bookBlocker, NextIn}
+use Rattle.circles.proofs.RowBlockers.{row-blocker}
 use Rattle.requests.specs.declared.Ask.{Ask}
 use Rattle.requests.specs.declared.Request.{Request}
 use Rattle.requests.specs.declared.Request.the-variants.{Begin, Commit, Rollback, Asks}
@@ -26,21 +32,21 @@ use Rattle.requests.specs.RequestMeaning.{bookAsk, bookRequest, bookCall}
 use Rattle.answers.specs.AnswerMeaning.{bookSays, bookAnswer}
 use Rattle.answers.specs.AnswerRecord.{putAnswer, written}
 use Rattle.answers.proofs.AnswerPut.{length-putAnswer}
-use Rattle.answers.proofs.AnswersWritten.{written-append, length-written}
+use Rattle.answers.proofs.AnswersWritten.{written-append}
 use Rattle.pages.specs.PageChanges.{endOf}
-use Rattle.queue.specs.QueueLayout.{queued, isWaiting}
+use Rattle.queue.specs.QueueLayout.{queued}
 use Rattle.queue.specs.QueueMoves.{markPut, queueJoined}
+use Rattle.queue.proofs.QueueBytes.{length-queue}
 use Rattle.states.specs.States.{book, stateOf}
 use Rattle.states.specs.Fitting.{AskFits}
 use Rattle.states.specs.Whole.{Whole, Says}
 use Rattle.states.proofs.TablesSay.{whole-few}
-use Rattle.states.proofs.MovesSay.{is-transaction, begin-says, join-room, join-says}
-use Rattle.turns.specs.Working.{Wrote, workedOf}
+use Rattle.states.proofs.MovesSay.{begin-says, join-room, join-says}
+use Rattle.turns.specs.Working.{Rested, RoomLeft, Wrote, workedOf}
 use Rattle.calls.specs.Promise.{Answered, lent}
 use Rattle.answering.specs.declared.Refusal.{Refusal}
 use Rattle.answering.specs.declared.Refusal.the-variants.{By, Nothing}
-use Rattle.answering.specs.Answering.{lastOf, LastFits, RoomFor, bookRefusal}
-use Rattle.answering.proofs.Refusals.{waits-is}
+use Rattle.answering.specs.Answering.{lastOf, bookRefusal}
 
 -- ---- done first, and then the queue
 module _ (p d o : List ℕ) (t : ℕ) (o₁ : List ℕ) (e : o₁ ≡ putAnswer o 0 (says book t done)) where
@@ -102,32 +108,55 @@ joined-says p d w t low high goes new a legal fits d₁ e =
     subst (λ x. Says p x (joined book (stateOf p d) t (bookAsk a))) (sym e) (join-says p d w t (bookAsk a) low high goes new legal fits)
 
 -- ---- whether it is said that t waits
-module _ (p d : List ℕ) (w : Whole p d) (t : ℕ) (low : 1 ≤ t) (high : t ≤ transactionsMost) (b : Bool) (e : b ≡ isWaiting d t) (o : List ℕ) (end : ℕ) where
-  last-is : (c : Bool) → b ≡ c → lastOf p d t ≡ record { state = stateOf p d; answers = cond c (says book t waiting ∷ []) [] }
-  unfolding lastOf
-  last-is c h =
-      ap (λ x. record { state = stateOf p d; answers = cond x (says book t waiting ∷ []) [] }) (sym (waits-is p d w t low high) ∙ sym e ∙ h)
+pub in-the-way : (p d : List ℕ) → Whole p d → (row : List ℕ) → Rested p d row → (t m : ℕ) (b : Blocker) → m ≡ getD row t 0
+    → NextIn m 1 (transactionsMost + 1) b → bookBlocker b ≡ blockerOf book (stateOf p d) t
+in-the-way p d w row r t m b e x =
+    row-blocker book (stateOf p d) (w .values) row (r .rows .links) t (transactionsMost + 1) b (lit< tt) (subst (λ y. NextIn y 1 (transactionsMost + 1) b) e x)
 
-  pub last-none : not b ≡ true → Wrote o end (lastOf p d t) p d o end
+-- at rest who waits has somebody in the way
+module _ (p d : List ℕ) (w : Whole p d) (row : List ℕ) (r : Rested p d row) (t : ℕ) (b : Blocker) (x : bookBlocker b ≡ blockerOf book (stateOf p d) t)
+    (o : List ℕ) (end : ℕ) where
+  last-is : lastOf p d t ≡ record { state = stateOf p d; answers = cond (isThere (bookBlocker b)) (says book t (waiting (bookBlocker b)) ∷ []) [] }
+  unfolding lastOf
+  last-is =
+      ap (λ y. record { state = stateOf p d; answers = cond y (waitingAt book (stateOf p d) t ∷ []) [] })
+      (sym (rest-told book (stateOf p d) (w .values) (r .rest) t))
+      ∙ ap (λ y. record { state = stateOf p d; answers = cond (isThere y) (says book t (waiting y) ∷ []) [] }) (sym x)
+
+  pub last-none : b ≡ CV.Nobody → Wrote o end (lastOf p d t) p d o end
   unfolding written
-  last-none h =
-      subst (λ x. Wrote o end x p d o end) (sym (last-is false (not-true b h)))
+  last-none e =
+      subst (λ y. Wrote o end y p d o end)
+      (sym (last-is ∙ ap (λ y. record { state = stateOf p d; answers = cond (isThere (bookBlocker y)) (says book t (waiting (bookBlocker y)) ∷ []) [] }) e))
       (record { says = record { whole = w; state = refl }; answers = refl; ends = omega arith })
 
-  module _ (h : not b ≡ false) where
-    pub last-room : LastFits p d t end o → end + answerSize ≤ length o
-    last-room f = let r = f .room in omega (arith, ap (λ (x : Worked book). length (x .answers)) (last-is true (not-false b h)))
+  module _ (u : ℕ) (e : b ≡ CV.By u) where
+    last-one : lastOf p d t ≡ record { state = stateOf p d; answers = says book t (waiting (some u)) ∷ [] }
+    last-one = last-is ∙ ap (λ y. record { state = stateOf p d; answers = cond (isThere (bookBlocker y)) (says book t (waiting (bookBlocker y)) ∷ []) [] }) e
 
-    pub last-said : (o′ : List ℕ) → o′ ≡ putAnswer o end (says book t waiting) → Wrote o end (lastOf p d t) p d o′ (end + answerSize)
+    some-queued : (qs : List (Q book)) → any (λ q. eqb (q .asker) t) qs ≡ true → 1 ≤ length qs
+    unfolding any
+    some-queued [] h = absurd (true≢false (sym h))
+    some-queued (q ∷ qs) h = omega arith
+
+    pub last-room : RoomLeft d o end → end + answerSize ≤ length o
+    unfolding stateOf
+    last-room h =
+        let waits : waitsNow book (stateOf p d) t ≡ true =
+        sym (rest-told book (stateOf p d) (w .values) (r .rest) t) ∙ ap isThere (sym x) ∙ ap (λ y. isThere (bookBlocker y)) e in
+        let z = h .room in
+        omega (arith, some-queued (stateOf p d .queue) waits, length-queue d)
+
+    pub last-said : (o′ : List ℕ) → o′ ≡ putAnswer o end (says book t (waiting (some u))) → Wrote o end (lastOf p d t) p d o′ (end + answerSize)
     unfolding written
     last-said o′ k =
-        subst (λ x. Wrote o end x p d o′ (end + answerSize)) (sym (last-is true (not-false b h)))
+        subst (λ y. Wrote o end y p d o′ (end + answerSize)) (sym last-one)
         (record { says = record { whole = w; state = refl }; answers = k; ends = omega arith })
 
 -- ---- the queue worked, and what is said last of where it came to rest
 module _ (p d : List ℕ) (t : ℕ) (o : List ℕ) where
-  pub work-room : RoomFor p d t o → 0 + answerSize * queued d ≤ length o
-  work-room r = let q = r .queue in omega arith
+  pub work-room : Whole p d → spaceLeast ≤ length o → 0 + answerSize * queued d ≤ length o
+  work-room w h = omega (arith, whole-few p d w)
 
   module _ (p₂ d₂ o₂ : List ℕ) (end : ℕ) (wrote : Wrote o 0 (workedOf p d) p₂ d₂ o₂ end) where
     abbrev xs : Worked book
@@ -135,16 +164,10 @@ module _ (p d : List ℕ) (t : ℕ) (o : List ℕ) where
 
     last-same : waitingLast book t xs .answers ≡ xs .answers ++ lastOf p₂ d₂ t .answers
     unfolding lastOf
-    last-same = ap (λ s. xs .answers ++ cond (waitsNow book s t) (says book t waiting ∷ []) []) (sym (wrote .says .state))
+    last-same = ap (λ s. xs .answers ++ cond (waitsNow book s t) (waitingAt book s t ∷ []) []) (sym (wrote .says .state))
 
     more : length (waitingLast book t xs .answers) ≡ length (xs .answers) + length (lastOf p₂ d₂ t .answers)
     more = ap length last-same ∙ length-append (xs .answers) (lastOf p₂ d₂ t .answers)
-
-    pub waits-room : RoomFor p d t o → LastFits p₂ d₂ t end o₂
-    waits-room r =
-        let n = wrote .ends in
-        let m = r .answers in
-        record { room = omega (arith, more, ap length (wrote .answers) ∙ length-written o 0 (xs .answers)) }
 
     pub waits-wrote : (o₃ : List ℕ) (r : ℕ) → Wrote o₂ end (lastOf p₂ d₂ t) p₂ d₂ o₃ r → Wrote o 0 (waitingLast book t (workedOf p d)) p₂ d₂ o₃ r
     waits-wrote o₃ r l =
@@ -160,22 +183,8 @@ module _ (p d : List ℕ) (t : ℕ) (o : List ℕ) where
           ends = omega (arith, more);
         }
 
--- ---- with t's request in the queue: no more than sixteen are answered
+-- ---- with t's request in the queue
 module _ (p d : List ℕ) (t : ℕ) (a : Ask) (d₁ : List ℕ) (is : Says p d₁ (joined book (stateOf p d) t (bookAsk a))) where
-  pub joined-room : Whole p d → 1 ≤ t → t ≤ transactionsMost → runs book (stateOf p d) t ≡ true → waitsNow book (stateOf p d) t ≡ false
-      → (o : List ℕ) → spaceLeast ≤ length o → RoomFor p d₁ t o
-  unfolding step acts refusal
-  joined-room w low high goes new o h =
-      let s = stateOf p d in
-      let all = waitingLast book t (worked book (joined book s t (bookAsk a))) in
-      let fair : refusal book s t (bookRequest (Asks a)) ≡ none = rw (goes, new) in
-      let few = subst (λ (x : Option (Sy book)). length (unless book s t all x .answers) ≤ transactionsMost) fair
-      (few-answers book s (w .values) t (is-transaction t low high) (bookRequest (Asks a))) in
-      record {
-        queue = omega (arith, whole-few p d₁ (is .whole));
-        answers = omega (arith, few, ap (λ x. length (waitingLast book t (worked book x) .answers)) (is .state));
-      }
-
   pub joined-wrote : (o p′ d′ o′ : List ℕ) (r : ℕ) → Wrote o 0 (waitingLast book t (workedOf p d₁)) p′ d′ o′ r
       → Wrote o 0 (waitingLast book t (worked book (joined book (stateOf p d) t (bookAsk a)))) p′ d′ o′ r
   joined-wrote o p′ d′ o′ r = subst (λ s. Wrote o 0 (waitingLast book t (worked book s)) p′ d′ o′ r) (is .state)

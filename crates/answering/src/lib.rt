@@ -4,20 +4,24 @@ mod refusing;
 
 ghost use mathlib.Core.Path.{_≡_};
 ghost use mathlib.Core.Bool.{true, false};
-ghost use Prim.Native.Nat.{_≤_};
+ghost use Prim.Native.Nat.{_+_, _≤_};
 ghost use lib.ListN.{length};
 ghost use Rattle.limits.specs.Limits.{transactionsMost, spaceLeast};
+ghost use Rattle.rules.specs.Queue.{blockerOf};
 ghost use Rattle.rules.specs.Runs.{worked};
 ghost use Rattle.rules.specs.Desk.{runs, waitsNow, begun, ended, joined, afterDone, waitingLast, legalAsk, legalCall};
 ghost use Rattle.requests.specs.RequestMeaning.{bookAsk, bookCall};
 ghost use Rattle.pages.specs.PageChanges.{endOf};
 ghost use Rattle.states.specs.States.{book, stateOf};
 ghost use Rattle.states.specs.Whole.{Whole};
+ghost use Rattle.circles.specs.InTheWay.{bookBlocker};
 ghost use Rattle.calls.specs.Promise.{Answered, lent};
-ghost use Rattle.turns.specs.Working.{Wrote, workedOf};
-ghost use Rattle.answering.specs.Answering.{LastFits, RoomFor, lastOf};
+ghost use Rattle.turns.specs.Working.{Rested, RoomLeft, Wrote, workedOf};
+ghost use Rattle.answering.specs.Answering.{lastOf};
 use answers::Answer;
 use answers::Says;
+use circles::Blocker;
+use limits::TRANSACTIONS;
 use queue::transactions;
 use requests::Ask;
 use requests::Call;
@@ -46,7 +50,8 @@ fn done_first(pages: &mut [u8], desk: &mut [u8], answers: &mut [u8], t: u16) -> 
             says: Says::Done,
         },
     );
-    turns::work(pages, desk, answers, limits::ANSWER_SIZE)
+    let mut row: [u64; TRANSACTIONS + 1] = [0; TRANSACTIONS + 1];
+    turns::work(pages, desk, answers, limits::ANSWER_SIZE, &mut row)
 }
 
 // t, which does not run, begins.
@@ -74,38 +79,78 @@ fn end(pages: &mut [u8], desk: &mut [u8], answers: &mut [u8], t: u16, commits: b
     done_first(pages, desk, answers, t)
 }
 
-// Says to t that it waits, if it does. It gives the place where the answers end then.
-fn say_waiting(pages: &[u8], desk: &[u8], answers: &mut [u8], t: u16, end: usize) -> usize
+// Who is in the way of t's request, on a desk at rest; the row has all who block each request.
+fn blocker_of(pages: &[u8], desk: &[u8], row: &[u64], t: u16) -> Blocker
     requires { ⌜ Whole (now pages) (now desk) ⌝ }
     requires { ⌜ 1 ≤ t ⌝ }
     requires { ⌜ t ≤ transactionsMost ⌝ }
-    requires { ⌜ LastFits (now pages) (now desk) t end (now answers) ⌝ }
+    requires { ⌜ Rested (now pages) (now desk) (now row) ⌝ }
+    ensures { λ r. ⌜ bookBlocker r ≡ blockerOf book (stateOf (now (pages .entry)) (now (desk .entry))) t ⌝ }
+{
+    let at = t as usize;
+    circles::next_in(row[at], 1, TRANSACTIONS + 1)
+}
+
+// Says to t that it waits, if it does, and who is in the way. It gives the place where the answers end then.
+fn say_waiting(
+    pages: &[u8],
+    desk: &[u8],
+    answers: &mut [u8],
+    t: u16,
+    end: usize,
+    row: &[u64],
+) -> usize
+    requires { ⌜ Whole (now pages) (now desk) ⌝ }
+    requires { ⌜ 1 ≤ t ⌝ }
+    requires { ⌜ t ≤ transactionsMost ⌝ }
+    requires { ⌜ RoomLeft (now desk) (now answers) end ⌝ }
+    requires { ⌜ Rested (now pages) (now desk) (now row) ⌝ }
     ensures { λ r. ⌜ Wrote (now (answers .entry)) end (lastOf (now (pages .entry)) (now (desk .entry)) t) (now (pages .entry)) (now (desk .entry)) (now (answers .exit)) r ⌝ }
 {
-    if !transactions::is_waiting(desk, t) {
+    let blocker = blocker_of(pages, desk, row, t);
+    let Blocker::By(by) = blocker else {
         return end;
-    }
+    };
     answers::put_answer(
         answers,
         end,
         Answer {
             asker: t,
-            says: Says::Waiting,
+            says: Says::Waiting(by),
         },
     );
     end + limits::ANSWER_SIZE
 }
 
-// Works the queue; if t still waits then, that is said last.
+// Works the queue; if t still waits then, that is said last. There is room for all who block each request.
+fn work_with(
+    pages: &mut [u8],
+    desk: &mut [u8],
+    answers: &mut [u8],
+    t: u16,
+    row: &mut [u64],
+) -> usize
+    requires { ⌜ Whole (now pages) (now desk) ⌝ }
+    requires { ⌜ 1 ≤ t ⌝ }
+    requires { ⌜ t ≤ transactionsMost ⌝ }
+    requires { ⌜ spaceLeast ≤ length (now answers) ⌝ }
+    requires { do ⌜ (← ⟦row.len()⟧) ≡ transactionsMost + 1 ⌝ }
+    ensures { λ r. ⌜ Wrote (now (answers .entry)) 0 (waitingLast book t (workedOf (now (pages .entry)) (now (desk .entry)))) (now (pages .exit)) (now (desk .exit)) (now (answers .exit)) r ⌝ }
+{
+    let end = turns::work(pages, desk, answers, 0, row);
+    say_waiting(pages, desk, answers, t, end, row)
+}
+
+// The same, with the room.
 fn work_for(pages: &mut [u8], desk: &mut [u8], answers: &mut [u8], t: u16) -> usize
     requires { ⌜ Whole (now pages) (now desk) ⌝ }
     requires { ⌜ 1 ≤ t ⌝ }
     requires { ⌜ t ≤ transactionsMost ⌝ }
-    requires { ⌜ RoomFor (now pages) (now desk) t (now answers) ⌝ }
+    requires { ⌜ spaceLeast ≤ length (now answers) ⌝ }
     ensures { λ r. ⌜ Wrote (now (answers .entry)) 0 (waitingLast book t (workedOf (now (pages .entry)) (now (desk .entry)))) (now (pages .exit)) (now (desk .exit)) (now (answers .exit)) r ⌝ }
 {
-    let end = turns::work(pages, desk, answers, 0);
-    say_waiting(pages, desk, answers, t, end)
+    let mut row: [u64; TRANSACTIONS + 1] = [0; TRANSACTIONS + 1];
+    work_with(pages, desk, answers, t, &mut row)
 }
 
 // t's request joins the queue, and the queue is worked.

@@ -1,6 +1,7 @@
 -- Two answers that mean the same are the same. By a map back. Assumes nothing.
 use Prim.Native.Nat.{ℕ}
 use mathlib.Core.Path.{_≡_, refl, ap}
+use mathlib.Core.Option.{none, some}
 use Rattle.rules.specs.Runs as R
 use Rattle.answers.specs.declared.Says.{Says}
 use Rattle.answers.specs.declared.Says.the-variants.{Done, Found, Nothing, Waiting, RunsAlready, RunsNot, WaitsAlready, IsPresent, LocksShort, PagesShort, Circle}
@@ -13,7 +14,8 @@ abbrev saysOf : R.Says ℕ ℕ → Says
 saysOf R.done = Done
 saysOf (R.found k r) = Found (record { 0 = k }) (valueOf r)
 saysOf R.nothing = Nothing
-saysOf R.waiting = Waiting
+saysOf (R.waiting (some u)) = Waiting u
+saysOf (R.waiting none) = Waiting 0
 saysOf R.runsAlready = RunsAlready
 saysOf R.runsNot = RunsNot
 saysOf R.waitsAlready = WaitsAlready
@@ -26,7 +28,7 @@ says-back : (m : Says) → saysOf (bookSays m) ≡ m
 says-back Done = refl
 says-back (Found k v) = ap (Found k) (value-back v)
 says-back Nothing = refl
-says-back Waiting = refl
+says-back (Waiting u) = refl
 says-back RunsAlready = refl
 says-back RunsNot = refl
 says-back WaitsAlready = refl

@@ -55,7 +55,7 @@ written-append s at (x ∷ xs) ys =
 -- ---- the way back: what is said from its number, key and record, an answer from its fields, answers from bytes
 abbrev saidBy : ℕ → ℕ → ℕ → Says ℕ ℕ
 saidBy n k r =
-    getD (done ∷ found k (some r) ∷ nothing ∷ waiting ∷ replicate 9 done
+    getD (done ∷ found k (some r) ∷ nothing ∷ waiting (some r) ∷ replicate 9 done
     ++ (runsAlready ∷ runsNot ∷ waitsAlready ∷ isPresent k (some r) ∷ locksShort ∷ pagesShort ∷ circle ∷ [])) n done
 
 abbrev answerFrom : List ℕ → Answer ℕ ℕ
@@ -65,13 +65,13 @@ unfoldable answersFrom : ℕ → List ℕ → ℕ → List (Answer ℕ ℕ)
 answersFrom zero s at = []
 answersFrom (suc n) s at = answerFrom (fieldsAt answerWidths s at) ∷ answersFrom n s (at + answerSize)
 
--- an answer that its bytes tell: its fields fit, and the record that it names is there
+-- an answer that its bytes tell: its fields fit, and the record that it names, or who is in the way, is there
 abbrev pub namesRecord : Says ℕ ℕ → Bool
 namesRecord (found k r) = isThere r
 namesRecord (isPresent k r) = isThere r
 namesRecord done = true
 namesRecord nothing = true
-namesRecord waiting = true
+namesRecord (waiting u) = isThere u
 namesRecord runsAlready = true
 namesRecord runsNot = true
 namesRecord waitsAlready = true
@@ -89,7 +89,8 @@ answer-back t done h = refl
 answer-back t (found k (some r)) h = refl
 answer-back t (found k none) h = absurd (false≢true h)
 answer-back t nothing h = refl
-answer-back t waiting h = refl
+answer-back t (waiting (some u)) h = refl
+answer-back t (waiting none) h = absurd (false≢true h)
 answer-back t runsAlready h = refl
 answer-back t runsNot h = refl
 answer-back t waitsAlready h = refl

@@ -8,12 +8,12 @@ ghost use Rattle.answers.specs.AnswerRecord.{putAnswer};
 use entries::Value;
 use keys::Key;
 
-// What the desk says.
+// What the desk says. Who waits is told the number of the one who is in the way.
 pub enum Says {
     Done,
     Found(Key, Value),
     Nothing,
-    Waiting,
+    Waiting(u16),
     RunsAlready,
     RunsNot,
     WaitsAlready,
@@ -23,7 +23,7 @@ pub enum Says {
     Circle,
 }
 
-// The paper's number, key and record; key and record are zero where there is none.
+// The paper's number, key and record; key and record are zero where there is none. The record's place has who is in the way with 3.
 pub struct Paper {
     pub number: u16,
     pub key: Key,
@@ -54,7 +54,11 @@ impl Says {
                 rec: now.record(),
             },
             Says::Nothing => numbered(2),
-            Says::Waiting => numbered(3),
+            Says::Waiting(by) => Paper {
+                number: 3,
+                key: Key::LOWEST,
+                rec: by as u32,
+            },
             Says::RunsAlready => numbered(13),
             Says::RunsNot => numbered(14),
             Says::WaitsAlready => numbered(15),

@@ -100,14 +100,14 @@ firstCommit =
     20 ∷ 0 ∷ 7 ∷ 0 ∷ 1 ∷ 0 ∷ 0 ∷ 0 ∷ zeros
     ++ (20 ∷ 0 ∷ 7 ∷ 0 ∷ 2 ∷ 0 ∷ 1 ∷ 0 ∷ 100 ∷ 0 ∷ 0 ∷ 0 ∷ 0 ∷ 0 ∷ 0 ∷ 0 ∷ 7 ∷ 0 ∷ 0 ∷ 0 ∷ [])
 
--- The table. Beside the commit's forty bytes: 0 and 3; 2; 19; 1 with the old record; 16 and 1, with key 300 (`2C 01`) and record 70000
--- (`70 11 01`); 14, 13 and 15.
+-- The table. Beside the commit's forty bytes: 0, and 3 with who is in the way; 2; 19; 1 with the old record; 16 and 1, with key 300 (`2C 01`)
+-- and record 70000 (`70 11 01`); 14, 13 and 15; 3 with the lowest of those in the way.
 unfoldable pub scorecard : List Scored
 scorecard =
     scored
     C.readerWaits
     (writes 0 (20 ∷ 0 ∷ 7 ∷ 0 ∷ 1 ∷ 0 ∷ 0 ∷ 0 ∷ zeros)
-    ∷ writes 3 (20 ∷ 0 ∷ 7 ∷ 0 ∷ 2 ∷ 0 ∷ 3 ∷ 0 ∷ zeros)
+    ∷ writes 3 (20 ∷ 0 ∷ 7 ∷ 0 ∷ 2 ∷ 0 ∷ 3 ∷ 0 ∷ 0 ∷ 0 ∷ 0 ∷ 0 ∷ 0 ∷ 0 ∷ 0 ∷ 0 ∷ 1 ∷ 0 ∷ 0 ∷ 0 ∷ [])
     ∷ writes 4 firstCommit
     ∷ [])
     ∷ scored C.nothingStaysNothing (writes 6 (20 ∷ 0 ∷ 7 ∷ 0 ∷ 1 ∷ 0 ∷ 2 ∷ 0 ∷ zeros) ∷ [])
@@ -136,11 +136,16 @@ scorecard =
     ∷ scored C.rollbackDrops []
     ∷ scored C.freedTogether []
     ∷ scored C.olderFirst []
+    ∷ scored
+    C.lowestNamed
+    (writes 11 (20 ∷ 0 ∷ 7 ∷ 0 ∷ 1 ∷ 0 ∷ 3 ∷ 0 ∷ 0 ∷ 0 ∷ 0 ∷ 0 ∷ 0 ∷ 0 ∷ 0 ∷ 0 ∷ 2 ∷ 0 ∷ 0 ∷ 0 ∷ [])
+    ∷ writes 12 (20 ∷ 0 ∷ 7 ∷ 0 ∷ 5 ∷ 0 ∷ 3 ∷ 0 ∷ 0 ∷ 0 ∷ 0 ∷ 0 ∷ 0 ∷ 0 ∷ 0 ∷ 0 ∷ 1 ∷ 0 ∷ 0 ∷ 0 ∷ [])
+    ∷ [])
     ∷ []
 
 -- the one claim
 pub record AllHoldOnBytes : Type 0 where
-  pub howMany : length scorecard ≡ 16
+  pub howMany : length scorecard ≡ 17
   pub same : map (λ (c : Scored). c .case) scorecard ≡ cases
   pub each : (c : Scored) → In c scorecard → (as′ : List Sent) (bs : List Back) (p d : List ℕ)
       → Bowled (c .case) as′ bs p d → Holds c as′ bs p d

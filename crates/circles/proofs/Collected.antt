@@ -21,7 +21,7 @@ use Rattle.rules.specs.Good.{otherAsker}
 use Rattle.circles.specs.CircleSets.{has, SetOf, isLink, RowOf}
 use Rattle.circles.specs.Search.{withOne}
 use Rattle.circles.proofs.Bits.{has-none, has-with}
-use Rattle.circles.proofs.WaitsKnown.{requests}
+use Rattle.rules.proofs.Waits.{requests}
 
 -- ---- a set
 pub set-none : SetOf 0 []

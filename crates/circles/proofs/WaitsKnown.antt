@@ -1,18 +1,15 @@
 -- What the search takes of the waits, and that the waits of a good state have it: who asks is queued and who blocks runs, and nobody is
 -- queued twice. By the rule book's own laws of who waits behind whom. The last law assumes the invariants of rules/specs/Good.
 use Prim.Native.Nat.{ℕ}
-use mathlib.Core.Path.{_≡_, refl, sym, ap, _∙_}
+use mathlib.Core.Path.{_≡_}
 use mathlib.Core.Bool.{true}
-use mathlib.Core.List.{List, [], _∷_, _++_, map}
+use mathlib.Core.List.{List}
 use Rattle.lists.specs.Lists.{In, pairs}
-use Rattle.lists.proofs.Pairs.{pairs-map}
 use Rattle.rules.specs.Kinds.{Book}
-use Rattle.rules.specs.Entries.{Entries}
-use Rattle.rules.specs.Locks.{Slots}
-use Rattle.rules.specs.Queue.{St, Q, Wait, waits, waitsFrom, everyone}
+use Rattle.rules.specs.Queue.{St, Wait, waits, everyone}
 use Rattle.rules.specs.Desk.{runs}
 use Rattle.rules.specs.Good.{Good, otherAsker}
-use Rattle.rules.proofs.Waits.{placed, in-everyone, runs-known, queued-runs, blocker-runs}
+use Rattle.rules.proofs.Waits.{placed, in-everyone, runs-known, queued-runs, waits-once, blocker-runs}
 
 module _ (B : Book) where
   -- who asks and who blocks is a transaction, and nobody asks twice
@@ -21,22 +18,12 @@ module _ (B : Book) where
     pub blockers : (w : Wait B) → In w ws → (u : ℕ) → In u (w .behind) → In u (everyone B)
     pub once : pairs (λ v w. otherAsker B (v .request) (w .request)) ws ≡ true
 
-  -- the waits are the queue's, one for one
-  pub requests : (es : Entries B) (ls : Slots B) (ahead qs : List (Q B)) → map (λ w. w .request) (waitsFrom B es ls ahead qs) ≡ qs
-  unfolding waitsFrom
-  requests es ls ahead [] = refl
-  requests es ls ahead (q ∷ qs) = ap (λ ps. q ∷ ps) (requests es ls (ahead ++ (q ∷ [])) qs)
-
   pub waits-known : (s : St B) → Good B s → Known (waits B s)
-  unfolding waits
   waits-known s good =
       record {
         askers = λ w i. known (w .request .asker) (queued-runs B s good (w .request) (placed B s w i .queued));
         blockers = λ w i u j. known u (blocker-runs B s good w i u j .0);
-        once =
-            sym (pairs-map (otherAsker B) (λ w. w .request) (waits B s))
-            ∙ ap (pairs (otherAsker B)) (requests (s .entries) (s .slots) [] (s .queue))
-            ∙ good .askers;
+        once = waits-once B s good;
       }
     where
       known : (t : ℕ) → runs B s t ≡ true → In t (everyone B)

@@ -1,2 +1,3 @@
 pub mod CircleSets
 pub mod Search
+pub mod InTheWay

@@ -6,4 +6,5 @@ pub mod Joins
 pub mod Tables
 pub mod Scans
 pub mod Finite
+pub mod Lowest
 pub mod Firsts

@@ -6,7 +6,7 @@ use mathlib.Core.Logic.{_⊎_}
 use mathlib.Core.Bool.{Bool, true, false, cond, _&&_, _||_}
 use mathlib.Core.List.{List, [], _∷_, _++_}
 use mathlib.Core.Option.{Option, none, some}
-use lib.Dec.{eqb}
+use lib.Dec.{eqb, leb}
 
 -- a value, or else another
 abbrev pub orElse : {A : Type 0} → Option A → Option A → Option A
@@ -71,6 +71,15 @@ times q (x ∷ xs) = cond (eqb x q) 1 0 + times q xs
 -- whether a number stands in a list of numbers
 abbrev pub member : ℕ → List ℕ → Bool
 member q xs = any (λ x. eqb x q) xs
+
+-- the lowest of some numbers, or none where there are none
+abbrev pub lower : ℕ → Option ℕ → ℕ
+lower x none = x
+lower x (some y) = cond (leb x y) x y
+
+unfoldable pub lowest : List ℕ → Option ℕ
+lowest [] = none
+lowest (x ∷ xs) = some (lower x (lowest xs))
 
 -- the lists that f gives of the elements, one after the other
 unfoldable pub join : {A B : Type 0} → (A → List B) → List A → List B

@@ -11,7 +11,7 @@ use Rattle.lists.proofs.Tests.{and-both, never}
 use Rattle.lists.proofs.Elements.{all-in}
 use Rattle.rules.specs.Kinds.{Book, Ordered, Ask, read, insert, delete, Request, begin, commit, rollback, ask}
 use Rattle.rules.specs.Entries.{Entries, atMost}
-use Rattle.rules.specs.Queue.{St, Q}
+use Rattle.rules.specs.Queue.{St, Q, blockerOf}
 use Rattle.rules.specs.Runs.{waiting, waitsAlready, circle, run}
 use Rattle.rules.specs.Desk.{Cl}
 use Rattle.rules.specs.Good.{Good}
@@ -38,7 +38,7 @@ module _ (B : Book) (L : Ordered (B .Key) (B .compare)) where
   told-ran t a s d z (goes w i b) g n e h = let q = is-asked B t a (w .request) n e in (ap (λ (q : Q B). run B s q .says) q, ap (λ (q : Q B). run B s q .entries) q)
   told-ran t a s d z (givesWay w i b) g n e h = tells-none B L circle (λ lo hi. refl) (λ k. refl) (w .request .asks) g h
   told-ran t a s d z (refuses u r m c) g n e h = refusal-told B L s u r m c g h
-  told-ran t a s d z (queues q i c) g n e h = tells-none B L waiting (λ lo hi. refl) (λ k. refl) (q .asks) g h
+  told-ran t a s d z (queues q i c) g n e h = tells-none B L (waiting (blockerOf B s (q .asker))) (λ lo hi. refl) (λ k. refl) (q .asks) g h
 
   -- an answer of the story, and who asks again when the deeds between have left what it was told about
   module _ (a m : Deed B) (ys : List (Deed B)) (v : Later B L a ys m) (g : Range B) (h : told B (a .request) (a .says) ≡ some g)

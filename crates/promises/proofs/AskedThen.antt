@@ -16,7 +16,7 @@ use Rattle.rules.specs.Entries.{atMost, inserted, put}
 use Rattle.rules.specs.Locks.{Slots, taken, named, itself}
 use Rattle.rules.specs.Queue.{St, Q, Wait, oldest, newest, leave}
 use Rattle.rules.specs.Runs.{done, found, nothing, waiting, runsAlready, runsNot, waitsAlready, pagesShort, Sy, En, Ran, unmoved, given, taking, readSays, insertMissing, insertThere, insertAs, deleteThere, deleteAs, runOn, run, Turn, refused, served, turn, worked}
-use Rattle.rules.specs.Desk.{An, runs, waitsNow, says, ifSo, unlessRuns, refusal, begun, ended, joined, acts}
+use Rattle.rules.specs.Desk.{An, runs, waitsNow, says, ifSo, unlessRuns, refusal, begun, ended, joined, waitingAt, acts}
 use Rattle.rules.specs.Good.{Good}
 use Rattle.rules.proofs.Rest.{turn-leaves, worked-by-turns}
 use Rattle.rules.proofs.Unblocked.{good-queues}
@@ -160,6 +160,6 @@ module _ (B : Book) where
   acts-stand s t rollback = refl
   acts-stand s t (ask a) = worked-stands (joined B s t a) _ (go (waitsNow B (worked B (joined B s t a) .state) t))
     where
-      go : (b : Bool) → turnedAway B (some (cond b (says B t waiting ∷ []) [])) ≡ false
+      go : (b : Bool) → turnedAway B (some (cond b (waitingAt B (worked B (joined B s t a) .state) t ∷ []) [])) ≡ false
       go true = refl
       go false = refl

@@ -326,7 +326,7 @@ module _ (B : Book) where
       Cause m done = Does B s (w .request) (m .entries) (m .pages)
       Cause m (found k o) = (was : B .Rec) × (o ≡ some was) × Finds B s (w .request) k was
       Cause m nothing = FindsNothing B s (w .request)
-      Cause m waiting = ⊥
+      Cause m (waiting u) = ⊥
       Cause m runsAlready = ⊥
       Cause m runsNot = ⊥
       Cause m waitsAlready = ⊥
@@ -397,7 +397,7 @@ module _ (B : Book) where
         twoCause = cause-of nothing;
         zero = says-done;
         zeroCause = cause-of done;
-        never = (cause-of waiting, cause-of runsAlready, cause-of runsNot, cause-of waitsAlready, cause-of circle);
+        never = (λ u. cause-of (waiting u), cause-of runsAlready, cause-of runsNot, cause-of waitsAlready, cause-of circle);
         queueAlone = right .queueAlone;
         takesLock = right .takesLock;
         lockAlone = right .lockAlone;

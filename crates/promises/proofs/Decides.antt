@@ -1,7 +1,7 @@
 -- Demand 2 decides: whatever it holds of is the rule book's step, state and answers (`demand2-decides`), so no idle desk satisfies it. A run is told
 -- by its causes, a turn by the oldest and the newest, and so on along the queue as it is worked. Assumes nothing.
 use Prim.Native.Nat.{ℕ}
-use mathlib.Core.Path.{_≡_, refl, sym, ap, ap₂, _∙_}
+use mathlib.Core.Path.{_≡_, refl, sym, ap, ap₂, subst, _∙_}
 use mathlib.Core.Logic.{_≢_, _⊎_, inl, inr}
 use mathlib.Core.Bool.{Bool, true, false, not, true≢false, false≢true}
 use mathlib.Core.List.{List, [], _∷_, _++_}
@@ -11,18 +11,19 @@ use Rattle.lists.proofs.Tests.{fails, never, nil-is, first-past, first-hit}
 use Rattle.lists.proofs.Elements.{all-in, in-all, in-right, first-in, last-in}
 use Rattle.rules.specs.Kinds.{Book, Ordered, insert, delete, Request, begin, commit, rollback, ask}
 use Rattle.rules.specs.Entries.{Entries, same, inserted, deleted, revived, put, changed}
-use Rattle.rules.specs.Queue.{St, Q, Wait, waits, oldest, newest, onCircle}
+use Rattle.rules.specs.Queue.{St, Q, Wait, waits, isFree, oldest, newest, onCircle}
 use Rattle.rules.specs.Runs.{done, found, nothing, waiting, runsAlready, runsNot, waitsAlready, isPresent, locksShort, pagesShort, circle, Sy, En, Ran, unmoved, run, Turn, left, refused, served, turn, Worked, worked, AtRest}
-use Rattle.rules.specs.Desk.{An, refusal, afterDone, waitingLast, acts, step, isTransaction, legalRequest}
+use Rattle.rules.specs.Desk.{An, refusal, joined, afterDone, waitingLast, acts, step, isTransaction, legalRequest}
 use Rattle.rules.specs.Good.{Good}
 use Rattle.rules.proofs.KeyTests.{same-itself}
-use Rattle.rules.proofs.Waits.{oldest-waits, newest-waits}
-use Rattle.rules.proofs.Rest.{worked-turn, worked-done}
+use Rattle.rules.proofs.Waits.{free-nil, oldest-waits, newest-waits, same-wait}
+use Rattle.rules.proofs.Rest.{worked-turn, worked-done, worked-rests}
 use Rattle.rules.proofs.Chains.{found-is-circle, circle-is-found}
 use Rattle.rules.proofs.GoodKept.{good-kept}
 use Rattle.promises.specs.Demand2.{LocksShort, Does, putsIn, bringsBack, takesAway, RunsRightly, MayRun, MustGiveWay, Rests, Works, rests, ran, gaveWay, onlySays, Acts, Demand2}
 use Rattle.promises.proofs.Causes.{runs-rightly}
-use Rattle.promises.proofs.Working.{same-wait}
+use Rattle.promises.proofs.Working.{worked-good}
+use Rattle.promises.proofs.LastSaid.{last-once}
 use Rattle.promises.proofs.Demand2.{Why, why, unrefused, says-only, goes-on, setOut, set-out-good}
 
 module _ (B : Book) (L : Ordered (B .Key) (B .compare)) where
@@ -73,7 +74,7 @@ module _ (B : Book) (L : Ordered (B .Key) (B .compare)) where
             let c = a .oneCause k o e in
             b .one (free (found k o) e (λ z. never (cc))) k (c .0) (c .2) ∙ ap (found k) (sym (c .1))
         go nothing e = b .two (free nothing e (λ z. never (cc))) (a .twoCause e)
-        go waiting e = absurd (a .never .0 e)
+        go (waiting u) e = absurd (a .never .0 u e)
         go runsAlready e = absurd (a .never .1 e)
         go runsNot e = absurd (a .never .2 e)
         go waitsAlready e = absurd (a .never .3 e)
@@ -117,7 +118,7 @@ module _ (B : Book) (L : Ordered (B .Key) (B .compare)) where
             (does-once s q (n .entries) (m .entries) (n .pages) (m .pages) (b .zeroCause (same-number ∙ e)) (a .zeroCause e))
         go (found k o) e = looked (found k o) e (λ z. never (cc)) (λ z. never (cc)) (λ z. never (cc))
         go nothing e = looked nothing e (λ z. never (cc)) (λ z. never (cc)) (λ z. never (cc))
-        go waiting e = looked waiting e (λ z. never (cc)) (λ z. never (cc)) (λ z. never (cc))
+        go (waiting u) e = looked (waiting u) e (λ z. never (cc)) (λ z. never (cc)) (λ z. never (cc))
         go runsAlready e = looked runsAlready e (λ z. never (cc)) (λ z. never (cc)) (λ z. never (cc))
         go runsNot e = looked runsNot e (λ z. never (cc)) (λ z. never (cc)) (λ z. never (cc))
         go waitsAlready e = looked waitsAlready e (λ z. never (cc)) (λ z. never (cc)) (λ z. never (cc))
@@ -145,22 +146,21 @@ module _ {A : Type 0} where
   last-here p [] x after h f = rw (none-passes p after f .1, h)
   last-here p (y ∷ ahead) x after h f = rw (last-here p ahead x after h f)
 
-  not-nil : (xs : List A) → xs ≢ [] → isNil xs ≡ false
-  not-nil xs n = fails (isNil xs) (λ e. n (nil-is xs e))
-
 module _ (B : Book) where
   -- ---- a turn
+  not-free : (w : Wait B) → w .behind ≢ [] → isFree B w ≡ false
+  not-free w n = free-nil (w .behind) ∙ fails (isNil (w .behind)) (λ e. n (nil-is (w .behind) e))
+
   oldest-is : (s : St B) (w : Wait B) → MayRun B s w → oldest B s ≡ some w
   unfolding oldest
   oldest-is s w h =
-      ap (first (λ v. isNil (v .behind))) (h .place)
-      ∙ first-past (λ v. isNil (v .behind)) (h .ahead) (w ∷ h .after)
-      (in-all (λ v. not (isNil (v .behind))) (h .ahead) (λ v i. ap not (not-nil (v .behind) (h .oldest v i))))
-      ∙ first-hit (λ v. isNil (v .behind)) w (h .after) (ap isNil (h .free))
+      ap (first (isFree B)) (h .place)
+      ∙ first-past (isFree B) (h .ahead) (w ∷ h .after) (in-all (λ v. not (isFree B v)) (h .ahead) (λ v i. ap not (not-free v (h .oldest v i))))
+      ∙ first-hit (isFree B) w (h .after) (free-nil (w .behind) ∙ ap isNil (h .free))
 
   oldest-none-is : (s : St B) → ((v : Wait B) → In v (waits B s) → v .behind ≢ []) → oldest B s ≡ none
   unfolding oldest
-  oldest-none-is s f = none-passes (λ v. isNil (v .behind)) (waits B s) (λ v i. not-nil (v .behind) (f v i)) .0
+  oldest-none-is s f = none-passes (isFree B) (waits B s) (λ v i. not-free v (f v i)) .0
 
   newest-is : (s : St B) → Good B s → (w : Wait B) → MustGiveWay B s w → newest B s ≡ some w
   unfolding newest
@@ -220,7 +220,12 @@ module _ (B : Book) where
     acted-once s t rollback w k h =
         let x = h .rollsBack refl in (λ i. record { state = w .state; answers = x .1 i }) ∙ ap (afterDone B t) (works-once (x .0) k)
     acted-once s t (ask a) w k h =
-        let x = h .asks a refl in (λ i. record { state = w .state; answers = x .1 i }) ∙ ap (waitingLast B t) (works-once (x .0) k)
+        let x = h .asks a refl in
+        let e = works-once (x .1) k in
+        let g : Good B (w .state) = subst (Good B) (ap (λ (y : Worked B). y .state) (sym e)) (worked-good B L (joined B s t a) k) in
+        let r : AtRest B (w .state) = subst (AtRest B) (ap (λ (y : Worked B). y .state) (sym e)) (worked-rests B (joined B s t a)) in
+        (λ i. record { state = w .state; answers = (x .3 ∙ ap (λ (as′ : List (An B)). h .others ++ as′) (last-once B (w .state) t g r (x .0) (x .2))) i })
+        ∙ ap (waitingLast B t) e
 
     pub demand2-decides : (s : St B) → Good B s → (t : ℕ) (r : Request (B .Key) (B .Rec)) → isTransaction B t ≡ true → legalRequest B r ≡ true
         → (w : Worked B) → Demand2 B s t r w → w ≡ step B s t r
@@ -233,7 +238,7 @@ module _ (B : Book) where
         by-why done y = absurd y
         by-why (found k o) y = absurd y
         by-why nothing y = absurd y
-        by-why waiting y = absurd y
+        by-why (waiting u) y = absurd y
         by-why (isPresent k o) y = absurd y
         by-why locksShort y = absurd y
         by-why pagesShort y = absurd y

@@ -10,18 +10,18 @@ use mathlib.Core.Option.{Option, none, some}
 use lib.Dec.{eqb}
 use lib.ListN.{length}
 use borrow.Author.Tests.{eq-eqb}
-use Rattle.lists.specs.Lists.{In, isNil}
-use Rattle.lists.proofs.Tests.{and-left, and-right, never, nil-is}
-use Rattle.lists.proofs.Elements.{any-in, none-any, first-in, append-in}
+use Rattle.lists.specs.Lists.{In}
+use Rattle.lists.proofs.Tests.{and-left, and-right, never}
+use Rattle.lists.proofs.Elements.{any-in, none-any, append-in}
 use Rattle.rules.specs.Kinds.{Book, Ordered, Ask, Request, begin, commit, rollback, ask}
 use Rattle.rules.specs.Entries.{committed, rolledBack}
-use Rattle.rules.specs.Queue.{St, Q, Wait, waits, oldest, newest}
+use Rattle.rules.specs.Queue.{St, Q, Wait, waits, blockerOf, oldest, newest}
 use Rattle.rules.specs.Runs.{done, waiting, runsAlready, waitsAlready, circle, Sy, unmoved, run, left, Turn, refused, served, turn, onward, turns, Worked, worked, AtRest}
 use Rattle.rules.specs.Desk.{Cl, runs, waitsNow, says, ifSo, unlessRuns, refusal, begun, ended, joined, acts, unless, step, isTransaction, legalAsk, legalRequest, legalCall, call, stateAfter, answersOf, fresh, after}
 use Rattle.rules.specs.Good.{Good}
 use Rattle.rules.proofs.Keeps.{Kept, Anyone, anyone-may, call-keeps}
 use Rattle.rules.proofs.Rest.{worked-rests}
-use Rattle.rules.proofs.Waits.{newest-waits}
+use Rattle.rules.proofs.Waits.{oldest-waits, oldest-free, newest-waits}
 use Rattle.rules.proofs.Did.{waits-in}
 use Rattle.rules.proofs.GoodKept.{good-kept, fresh-good, after-good}
 use Rattle.promises.specs.Story.{Deed, Asked, nothingAsked, askedThen, turnDeed, andOn, turnDeeds, queueDeeds, idleDeed, lastDeed, actDeeds, deedsUnless, callDeeds, storyFrom, story, Seamless, ends}
@@ -48,8 +48,8 @@ module _ (B : Book) where
         (left B s (w .request) (unmoved B s circle) .state)
     -- 13, 14, 15
     refuses : (t : ℕ) (r : Request (B .Key) (B .Rec)) (m : Sy B) → refusal B s t r ≡ some m → Acts s (deedOf s t r m s) s
-    -- 3: only at rest
-    queues : (q : Q B) → In q (s .queue) → AtRest B s → Acts s (deedOf s (q .asker) (ask (q .asks)) waiting s) s
+    -- 3: only at rest, and it names whom the question then names
+    queues : (q : Q B) → In q (s .queue) → AtRest B s → Acts s (deedOf s (q .asker) (ask (q .asks)) (waiting (blockerOf B s (q .asker))) s) s
 
   -- what the moves keep, a deed keeps, unless it is the end of one that may not end
   pub acts-keep : (Ends : ℕ → Type 0) (P : St B → Type 0) → Kept B Ends P → (s : St B) (d : Deed B) (z : St B) → Acts s d z
@@ -167,8 +167,8 @@ module _ (B : Book) where
         by-oldest none q e = by-newest (newest B s) refl q e
         by-oldest (some w) q e =
             let z : left B s (w .request) (run B s (w .request)) ≡ o = cc in
-            let i : In w (waits B s) × (isNil (w .behind) ≡ true) = first-in _ (waits B s) w q in
-            subst (λ (u : Turn B). Acts s (turnDeed B f s u) (u .state)) z (as-told w (run B s (w .request) .says) _ (i .0) (goes w (i .0) (nil-is (w .behind) (i .1))))
+            let i = oldest-waits B s w q in
+            subst (λ (u : Turn B). Acts s (turnDeed B f s u) (u .state)) z (as-told w (run B s (w .request) .says) _ i (goes w i (oldest-free B s w q)))
 
     pub good-after : (s : St B) (d : Deed B) (z : St B) → Acts s d z → Good B s → Good B z
     good-after s d z a = acts-keep (Anyone B) (Good B) (good-kept B L) s d z a (λ u e. tt)
@@ -220,7 +220,7 @@ module _ (B : Book) where
         u = joined B s t a
 
         go : (b : Bool) → waitsNow B (worked B u .state) t ≡ b
-            → Tells (worked B u .state) (cond b (idleDeed B (worked B u .state .entries) t (ask a) waiting ∷ []) []) (worked B u .state)
+            → Tells (worked B u .state) (cond b (idleDeed B (worked B u .state .entries) t (ask a) (waiting (blockerOf B (worked B u .state) t)) ∷ []) []) (worked B u .state)
         go true h = tells (queues (record { asker = t; asks = a }) (still-queued s t a n h) (worked-rests B u)) silent
         go false h = silent
 

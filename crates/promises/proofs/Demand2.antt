@@ -3,7 +3,7 @@
 use Prim.Native.Nat.{ℕ}
 use mathlib.Core.Path.{_≡_, refl, sym, ap, subst}
 use mathlib.Core.Logic.{_≢_, _⊎_, inl, inr}
-use mathlib.Core.Bool.{Bool, true, false, cond}
+use mathlib.Core.Bool.{Bool, true, false}
 use mathlib.Core.List.{List, [], _∷_}
 use mathlib.Core.Option.{Option, none, some}
 use Rattle.lists.specs.Lists.{In}
@@ -15,9 +15,11 @@ use Rattle.rules.specs.Queue.{St}
 use Rattle.rules.specs.Runs.{done, found, nothing, waiting, runsAlready, runsNot, waitsAlready, isPresent, locksShort, pagesShort, circle, Sy, Worked, worked}
 use Rattle.rules.specs.Desk.{An, runs, waitsNow, says, unlessRuns, ifSo, refusal, begun, ended, joined, acts, unless, step, isTransaction, legalRequest}
 use Rattle.rules.specs.Good.{Good}
+use Rattle.rules.proofs.Rest.{worked-rests}
 use Rattle.rules.proofs.GoodKept.{good-kept}
-use Rattle.promises.specs.Demand2.{Works, rests, ran, gaveWay, onlySays, Acts, Demand2}
-use Rattle.promises.proofs.Working.{works}
+use Rattle.promises.specs.Demand2.{Works, rests, ran, gaveWay, onlySays, SaidLast, nothingMore, waitsBehind, Acts, Demand2}
+use Rattle.promises.proofs.Working.{worked-good, works}
+use Rattle.promises.proofs.LastSaid.{last, said-last}
 
 module _ (B : Book) where
   -- ---- 13 to 15: why a request is refused at once
@@ -29,7 +31,7 @@ module _ (B : Book) where
     Why r done = ⊥
     Why r (found k o) = ⊥
     Why r nothing = ⊥
-    Why r waiting = ⊥
+    Why r (waiting u) = ⊥
     Why r (isPresent k o) = ⊥
     Why r locksShort = ⊥
     Why r pagesShort = ⊥
@@ -125,7 +127,7 @@ module _ (B : Book) where
   Later done = Unit {0}
   Later (found k o) = Unit {0}
   Later nothing = Unit {0}
-  Later waiting = Unit {0}
+  Later (waiting u) = Unit {0}
   Later (isPresent k o) = Unit {0}
   Later locksShort = Unit {0}
   Later pagesShort = Unit {0}
@@ -138,7 +140,7 @@ module _ (B : Book) where
   later done a b c = tt
   later (found k o) a b c = tt
   later nothing a b c = tt
-  later waiting a b c = tt
+  later (waiting u) a b c = tt
   later (isPresent k o) a b c = tt
   later locksShort a b c = tt
   later pagesShort a b c = tt
@@ -156,19 +158,21 @@ module _ (B : Book) where
   works-later (ran {as′ = bs} w m h r k) = one-more _ bs (later (m .says) (r .never .1) (r .never .2) (r .never .3)) (works-later k)
   works-later (gaveWay {as′ = bs} w h k) = one-more _ bs tt (works-later k)
 
-  waiting-later : (t : ℕ) (b : Bool) → AllLater (cond b (says B t waiting ∷ []) [])
-  waiting-later t true = one-more _ [] tt (λ a i. absurd i)
-  waiting-later t false = λ a i. absurd i
+  last-later : (s : St B) (t : ℕ) (last : List (An B)) → SaidLast B s t last → AllLater last
+  last-later s t last (nothingMore h) = λ a i. absurd i
+  last-later s t last (waitsBehind u l b f) = one-more _ [] tt (λ a i. absurd i)
 
   acted-later : (s : St B) (t : ℕ) (r : Request (B .Key) (B .Rec)) (w : Worked B) → Acts B s t r w → AllLater (w .answers)
   acted-later s t begin w h = let x = h .begins refl in subst AllLater (sym (x .1)) (one-more _ (h .others) tt (works-later (x .0)))
   acted-later s t commit w h = let x = h .commits refl in subst AllLater (sym (x .1)) (one-more _ (h .others) tt (works-later (x .0)))
   acted-later s t rollback w h = let x = h .rollsBack refl in subst AllLater (sym (x .1)) (one-more _ (h .others) tt (works-later (x .0)))
-  acted-later s t (ask a) w h = let x = h .asks a refl in subst AllLater (sym (x .1)) (λ y i. go y (append-in (h .others) _ y i) (works-later (x .0)))
+  acted-later s t (ask a) w h =
+      let x = h .asks a refl in
+      subst AllLater (sym (x .3)) (λ y i. go (x .0) y (append-in (h .others) (x .0) y i) (works-later (x .1)) (last-later (w .state) t (x .0) (x .2)))
     where
-      go : (y : An B) → In y (h .others) ⊎ In y (cond (waitsNow B (w .state) t) (says B t waiting ∷ []) []) → AllLater (h .others) → Later (y .says)
-      go y (inl i) f = f y i
-      go y (inr i) f = waiting-later t (waitsNow B (w .state) t) y i
+      go : (last : List (An B)) (y : An B) → In y (h .others) ⊎ In y last → AllLater (h .others) → AllLater last → Later (y .says)
+      go last y (inl i) f k = f y i
+      go last y (inr i) f k = k y i
 
   -- ---- a call
   -- where the queue is worked from
@@ -214,7 +218,14 @@ module _ (B : Book) where
       begins = λ e. never (cc);
       commits = λ e. never (cc);
       rollsBack = λ e. never (cc);
-      asks = λ x e. let z : a ≡ x = cc in rw (← z) (works B L (joined B s t a) k, refl);
+      asks = λ x e.
+          let z : a ≡ x = cc in
+          rw (← z) (
+            last B (worked B (joined B s t a) .state) t,
+            works B L (joined B s t a) k,
+            said-last B (worked B (joined B s t a) .state) t (worked-good B L (joined B s t a) k) (worked-rests B (joined B s t a)),
+            refl,
+          );
     }
 
     module _ (r : Request (B .Key) (B .Rec)) (l : legalRequest B r ≡ true) where

@@ -13,10 +13,10 @@ use Rattle.rules.specs.Entries as E
 use Rattle.rules.specs.Locks as K
 use Rattle.rules.specs.Queue as Q
 use Rattle.rules.specs.Runs as R
-use Rattle.rules.specs.Runs.{done, found, nothing, waiting, runsAlready, runsNot, waitsAlready, isPresent, locksShort, pagesShort, circle}
+use Rattle.rules.specs.Runs.{done, found, nothing, runsAlready, runsNot, waitsAlready, isPresent, locksShort, pagesShort, circle}
 use Rattle.rules.specs.Desk as D
 use Rattle.rules.specs.Desk.{Cl, isTransaction, legalCall, step, fresh, after, session}
-use Rattle.rules.specs.Cases.{Over, over, to, only, begins, reads, inserts}
+use Rattle.rules.specs.Cases.{Over, over, to, only, behind, begins, reads, inserts}
 use Rattle.rules.proofs.Orders.{numbers-ordered}
 use Rattle.rules.proofs.GoodKept.{after-good}
 use Rattle.promises.specs.Demand2.{Demand2}
@@ -42,7 +42,7 @@ everyNumber =
     ∷ begins 2
     ∷ reads 1 12 18 (only 1 nothing)
     ∷ reads 2 12 18 (only 2 nothing)
-    ∷ inserts 1 15 7 (only 1 waiting)
+    ∷ inserts 1 15 7 (only 1 (behind 2))
     ∷ reads 1 12 18 (only 1 waitsAlready)
     ∷ inserts 2 16 8 (only 2 circle)
     ∷ over 2 rollback (to 2 done ∷ to 1 done ∷ [])
@@ -54,7 +54,7 @@ everyNumber =
     ∷ []
 
 pub every-number : session smallDesk (fresh smallDesk) (map (λ o. o .bowled) everyNumber) ≡ map (λ o. o .answered) everyNumber
-unfolding everyNumber L.insertBefore L.any L.keep L.first L.last L.join L.tab E.left E.settled E.takenOut E.put E.changed K.inUse K.added K.taken K.released K.target K.mode K.wanted K.holders K.earlier K.blockers Q.waitsFrom Q.waits Q.oldest Q.further Q.reached Q.onCircle Q.newest Q.leave R.readSays R.insertMissing R.insertThere R.insertAs R.deleteThere R.deleteAs R.runOn R.run R.turn R.turns R.worked D.refusal D.begun D.ended D.joined D.acts D.step D.legalAsk D.legalRequest D.call D.fresh D.after D.session
+unfolding everyNumber L.insertBefore L.any L.keep L.first L.last L.lowest L.join L.tab E.left E.settled E.takenOut E.put E.changed K.inUse K.added K.taken K.released K.target K.mode K.wanted K.holders K.earlier K.blockers Q.waitsFrom Q.waits Q.blockerOf Q.oldest Q.further Q.reached Q.onCircle Q.newest Q.leave R.readSays R.insertMissing R.insertThere R.insertAs R.deleteThere R.deleteAs R.runOn R.run R.turn R.turns R.worked D.refusal D.begun D.ended D.joined D.acts D.step D.legalAsk D.legalRequest D.call D.fresh D.after D.session
 every-number = refl
 
 -- of any call after any others, so of each of these

@@ -9,9 +9,9 @@ use lib.ListN.{length}
 use Rattle.lists.specs.Lists.{join}
 use Rattle.rules.specs.Kinds.{Book, Request, begin, commit, rollback, ask}
 use Rattle.rules.specs.Entries.{committed, rolledBack}
-use Rattle.rules.specs.Queue.{St}
+use Rattle.rules.specs.Queue.{St, blockerOf}
 use Rattle.rules.specs.Runs.{waiting, done, Sy, Turn, turn, onward, turns, worked}
-use Rattle.rules.specs.Desk.{An, Cl, refusal, begun, ended, joined, waitsNow, says, acts, unless, step, legalCall, call, stateAfter, answersOf, fresh, session}
+use Rattle.rules.specs.Desk.{An, Cl, refusal, begun, ended, joined, waitsNow, says, waitingAt, acts, unless, step, legalCall, call, stateAfter, answersOf, fresh, session}
 use Rattle.promises.specs.Story.{Asked, nothingAsked, askedThen, andOn, turnDeeds, queueDeeds, idleDeed, actDeeds, deedsUnless, callDeeds, storyFrom, answerOf, given, Faithful}
 
 module _ (B : Book) where
@@ -35,12 +35,15 @@ module _ (B : Book) where
   acts-faithful f s t commit = ap (λ (as′ : List (An B)). says B t done ∷ as′) (queue-faithful f (ended B committed s t))
   acts-faithful f s t rollback = ap (λ (as′ : List (An B)). says B t done ∷ as′) (queue-faithful f (ended B rolledBack s t))
   acts-faithful f s t (ask a) =
-      map-append (answerOf B) (queueDeeds B f u) _ ∙ ap₂ (λ (xs ys : List (An B)). xs ++ ys) (queue-faithful f u) (go (waitsNow B (worked B u .state) t))
+      map-append (answerOf B) (queueDeeds B f u) _ ∙ ap₂ (λ (xs ys : List (An B)). xs ++ ys) (queue-faithful f u) (go (waitsNow B z t))
     where
       u : St B
       u = joined B s t a
 
-      go : (b : Bool) → map (answerOf B) (cond b (idleDeed B (worked B u .state .entries) t (ask a) waiting ∷ []) []) ≡ cond b (says B t waiting ∷ []) []
+      z : St B
+      z = worked B u .state
+
+      go : (b : Bool) → map (answerOf B) (cond b (idleDeed B (z .entries) t (ask a) (waiting (blockerOf B z t)) ∷ []) []) ≡ cond b (waitingAt B z t ∷ []) []
       go true = refl
       go false = refl
 

@@ -11,6 +11,7 @@ pub mod Then
 pub mod Demand3
 pub mod Causes
 pub mod Working
+pub mod LastSaid
 pub mod Demand2
 pub mod Decides
 pub mod EveryNumber

@@ -17,7 +17,7 @@ use Rattle.lists.proofs.Firsts.{first-agree}
 use Rattle.rules.specs.Kinds.{Book, Ordered, Ask, read, insert, delete, Request, ask}
 use Rattle.rules.specs.Entries.{Entries, atMost, committed, rolledBack}
 use Rattle.rules.specs.Locks.{holds, counts, target, named}
-use Rattle.rules.specs.Queue.{St}
+use Rattle.rules.specs.Queue.{St, blockerOf}
 use Rattle.rules.specs.Runs.{done, found, nothing, waiting, runsAlready, runsNot, waitsAlready, isPresent, locksShort, pagesShort, circle, Sy, En, readSays, run}
 use Rattle.rules.specs.Desk.{runs, begun, joined}
 use Rattle.rules.specs.Good.{below, ascending, Good}
@@ -47,7 +47,7 @@ module _ (B : Book) (L : Ordered (B .Key) (B .compare)) where
         read-stands B L s w t lo hi k i n (is-asked B t (read lo hi) (w .request) a e) (λ q. let v : toldRead B lo hi locksShort ≡ some g = rw q at y in never (cc))
     given-stands s d z (givesWay w i n) k g a e h = tells-none B L circle (λ lo hi. refl) (λ k. refl) (w .request .asks) g h
     given-stands s d z (refuses u r m c) k g a e h = refusal-told B L s u r m c g h
-    given-stands s d z (queues q i c) k g a e h = tells-none B L waiting (λ lo hi. refl) (λ k. refl) (q .asks) g h
+    given-stands s d z (queues q i c) k g a e h = tells-none B L (waiting (blockerOf B s (q .asker))) (λ lo hi. refl) (λ k. refl) (q .asks) g h
 
     -- it stands through deeds that are neither t's end nor t's own change there
     module _ (m : Sy B) where
@@ -152,7 +152,7 @@ module _ (B : Book) (L : Ordered (B .Key) (B .compare)) where
     told-stands hi nothing g h y f v =
         let e : record { low = lo; high = hi } ≡ g = cc in
         still-stands t lo hi nothing y (λ d i. let o = f d i in (o .0, rw e (o .1))) v
-    told-stands hi waiting g h y f v = never (cc)
+    told-stands hi (waiting u) g h y f v = never (cc)
     told-stands hi runsAlready g h y f v = never (cc)
     told-stands hi runsNot g h y f v = never (cc)
     told-stands hi waitsAlready g h y f v = never (cc)

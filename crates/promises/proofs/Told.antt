@@ -11,7 +11,7 @@ use Rattle.lists.proofs.Tests.{and-left, and-right, never}
 use Rattle.rules.specs.Kinds.{Book, Ordered, Ask, read, insert, delete, Request, begin, commit, rollback, ask}
 use Rattle.rules.specs.Entries.{atMost}
 use Rattle.rules.specs.Locks.{target, wanted}
-use Rattle.rules.specs.Queue.{St, Q, Wait, waits}
+use Rattle.rules.specs.Queue.{St, Q, Wait, waits, blockerOf}
 use Rattle.rules.specs.Runs.{done, found, nothing, waiting, runsAlready, runsNot, waitsAlready, isPresent, locksShort, pagesShort, circle, Sy, En, Ran, readSays, run, left}
 use Rattle.rules.specs.Desk.{runs, waitsNow, ifSo, unlessRuns, refusal}
 use Rattle.rules.specs.Good.{Good}
@@ -58,7 +58,7 @@ module _ (B : Book) (L : Ordered (B .Key) (B .compare)) where
   key-range k done g h = never (cc)
   key-range k (found j r) g h = never (cc)
   key-range k nothing g h = cc
-  key-range k waiting g h = never (cc)
+  key-range k (waiting u) g h = never (cc)
   key-range k runsAlready g h = never (cc)
   key-range k runsNot g h = never (cc)
   key-range k waitsAlready g h = never (cc)
@@ -127,4 +127,4 @@ module _ (B : Book) (L : Ordered (B .Key) (B .compare)) where
   told-covered s d z (goes v i n) good g x h w = run-told s v good i n g x h w
   told-covered s d z (givesWay v i n) good g x h w = tells-none circle (λ lo hi. refl) (λ k. refl) (v .request .asks) g h
   told-covered s d z (refuses t r m e) good g x h w = refusal-told s t r m e g h
-  told-covered s d z (queues q i e) good g x h w = tells-none waiting (λ lo hi. refl) (λ k. refl) (q .asks) g h
+  told-covered s d z (queues q i e) good g x h w = tells-none (waiting (blockerOf B s (q .asker))) (λ lo hi. refl) (λ k. refl) (q .asks) g h

@@ -5,21 +5,18 @@ use mathlib.Core.Logic.{_≢_, _⊎_, inl, inr}
 use mathlib.Core.Bool.{Bool, true, false, cond, true≢false}
 use mathlib.Core.List.{List, [], _∷_, _++_}
 use mathlib.Core.Option.{Option, none, some, Option·none-ne-some, Option·some-injective}
-use borrow.Author.Tests.{eq-eqb, not-true}
 use Rattle.lists.specs.Lists.{In, first, last, orElse, isNil}
-use Rattle.lists.proofs.Tests.{nil-is}
-use Rattle.lists.proofs.Elements.{first-in, last-in, none-last, in-right}
-use Rattle.lists.proofs.Pairs.{pairs-in}
+use Rattle.lists.proofs.Elements.{last-in, none-last, in-right}
 use Rattle.rules.specs.Kinds.{Book, Ordered}
-use Rattle.rules.specs.Queue.{St, Wait, waits, oldest, newest, onCircle}
+use Rattle.rules.specs.Queue.{St, Wait, waits, isFree, oldest, newest, onCircle}
 use Rattle.rules.specs.Runs.{circle, run, unmoved, Turn, left, refused, served, turn, Worked, worked, AtRest}
-use Rattle.rules.specs.Good.{otherAsker, Good}
+use Rattle.rules.specs.Good.{Good}
 use Rattle.rules.specs.Chains.{Circle}
-use Rattle.rules.proofs.Waits.{oldest-none, oldest-waits, newest-waits}
+use Rattle.rules.proofs.Waits.{free-nil, oldest-none, oldest-waits, oldest-free, newest-waits, same-wait}
+use Rattle.rules.proofs.Keeps.{Anyone, kept-turns, worked-keeps}
 use Rattle.rules.proofs.Rest.{worked-by-turns}
 use Rattle.rules.proofs.Chains.{found-is-circle, circle-is-found, rest-choices, chains-end}
 use Rattle.rules.proofs.GoodKept.{good-kept}
-use Rattle.circles.proofs.WaitsKnown.{waits-known}
 use Rattle.promises.specs.Demand2.{MayRun, MustGiveWay, Rests, Works, rests, ran, gaveWay}
 use Rattle.promises.proofs.Causes.{runs-rightly}
 
@@ -58,29 +55,17 @@ module _ {A : Type 0} where
   some-one xs h e = true≢false (ap isNil (sym e) ∙ h)
 
 module _ (B : Book) where
-  -- ---- each wait by its asker
-  pub same-wait : (s : St B) → Good B s → (v w : Wait B) → In v (waits B s) → In w (waits B s) → v .request .asker ≡ w .request .asker → v ≡ w
-  same-wait s g v w i j e = go (pairs-in r (waits B s) v w (waits-known B s g .once) i j)
-    where
-      r : Wait B → Wait B → Bool
-      r x y = otherAsker B (x .request) (y .request)
-
-      go : (v ≡ w) ⊎ ((r v w ≡ true) ⊎ (r w v ≡ true)) → v ≡ w
-      go (inl q) = q
-      go (inr (inl h)) = absurd (true≢false (sym (eq-eqb (v .request .asker) (w .request .asker) e) ∙ not-true _ h))
-      go (inr (inr h)) = absurd (true≢false (sym (eq-eqb (w .request .asker) (v .request .asker) (sym e)) ∙ not-true _ h))
-
   -- ---- the two choices
   may-run : (s : St B) (w : Wait B) → oldest B s ≡ some w → MayRun B s w
   unfolding oldest
   may-run s w e =
-      let p = first-place (λ v. isNil (v .behind)) (waits B s) w e in
+      let p = first-place (isFree B) (waits B s) w e in
       record {
         ahead = p .0;
         after = p .1;
         place = p .2;
-        free = nil-is (w .behind) (first-in (λ v. isNil (v .behind)) (waits B s) w e .1);
-        oldest = λ v i. some-one (v .behind) (p .3 v i);
+        free = oldest-free B s w e;
+        oldest = λ v i. some-one (v .behind) (sym (free-nil (v .behind)) ∙ p .3 v i);
       }
 
   nobody-free : (s : St B) → oldest B s ≡ none → (v : Wait B) → In v (waits B s) → v .behind ≢ []
@@ -106,7 +91,7 @@ module _ (B : Book) where
       behind-it ahead after q f v i c =
           let b = c .chain .0 in
           let j : In v (waits B s) = rw q (in-right ahead (w ∷ after) v (inr i)) in
-          let z = same-wait s g (b .wait) v (b .queued) j (b .asker) in
+          let z = same-wait B s g (b .wait) v (b .queued) j (b .asker) in
           true≢false (sym (rw z at (circle-is-found B s g (v .request .asker) c)) ∙ f v i)
 
   module _ (L : Ordered (B .Key) (B .compare)) where
@@ -131,6 +116,9 @@ module _ (B : Book) where
             let m = may-run s w q in
             subst (λ (u : Turn B). (Good B (u .state) → Works B (u .state) (z .answers) (z .state)) → Works B s (u .answer ∷ z .answers) (z .state)) v
             (λ k. ran w (run B s (w .request)) m (runs-rightly B L s w i (m .free) g) (k (good-kept B L .goes s w i (m .free) g))) more
+
+    pub worked-good : (s : St B) → Good B s → Good B (worked B s .state)
+    worked-good = worked-keeps B (Good B) (kept-turns B (Anyone B) (Good B) (good-kept B L))
 
     at-rest : (s : St B) → AtRest B s → Good B s → Rests B s
     at-rest s h g = record { nobody = nobody-free s (rest-choices B s h .0); noCircle = chains-end B s g h .noCircle }

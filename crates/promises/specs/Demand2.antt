@@ -1,10 +1,10 @@
 -- Demand 2 in its own words: "A refusal is given when its stated cause holds and at no other time." For each number of document 01, "What the
 -- desk says", from 0 on, the cause, and what is changed with it; and the order in which the queue is worked ("Working the queue"), without the
 -- search that finds it. Proofs/Decides: no second outcome of a call satisfies it, so no idle desk does. Assumes nothing.
-use Prim.Native.Nat.{ℕ}
+use Prim.Native.Nat.{ℕ, _≤_}
 use mathlib.Core.Path.{_≡_}
 use mathlib.Core.Logic.{_≢_, _⊎_}
-use mathlib.Core.Bool.{true, false, not, cond}
+use mathlib.Core.Bool.{true, false, not}
 use mathlib.Core.List.{List, [], _∷_, _++_}
 use mathlib.Core.Option.{Option, none, some}
 use Rattle.lists.specs.Lists.{all, In}
@@ -14,7 +14,7 @@ use Rattle.rules.specs.Locks.{holds, taken, target, named, wanted}
 use Rattle.rules.specs.Queue.{St, Q, Wait, waits}
 use Rattle.rules.specs.Runs.{done, found, nothing, waiting, runsAlready, runsNot, waitsAlready, isPresent, locksShort, pagesShort, circle, Sy, En, Ran, unmoved, left, Worked}
 use Rattle.rules.specs.Desk.{An, runs, waitsNow, says, begun, ended, joined}
-use Rattle.rules.specs.Chains.{Circle}
+use Rattle.rules.specs.Chains.{Behind, Circle}
 use Rattle.promises.specs.Demand3.{nowAt}
 
 module _ (B : Book) where
@@ -88,7 +88,7 @@ module _ (B : Book) where
     pub zero : (LocksShort s q → ⊥) → (es : Entries B) (ps : B .paging .Pages) → Does s q es ps → m .says ≡ done
     pub zeroCause : m .says ≡ done → Does s q (m .entries) (m .pages)
     -- none of these is said by a run
-    pub never : (m .says ≢ waiting) × (m .says ≢ runsAlready) × (m .says ≢ runsNot) × (m .says ≢ waitsAlready) × (m .says ≢ circle)
+    pub never : ((o : Option ℕ) → m .says ≢ waiting o) × (m .says ≢ runsAlready) × (m .says ≢ runsNot) × (m .says ≢ waitsAlready) × (m .says ≢ circle)
     -- "With 17, 18 or 19 no lock is taken": nothing but the queue
     pub queueAlone : (m .says ≡ locksShort) ⊎ (m .says ≡ pagesShort) → m ≡ unmoved B s (m .says)
     -- "A run takes its lasting lock": with 0, 1, 2 and 16; and but with 0 it changes nothing else
@@ -132,15 +132,20 @@ module _ (B : Book) where
   abbrev pub onlySays : St B → ℕ → Sy B → Worked B
   onlySays s t m = record { state = s; answers = says B t m ∷ [] }
 
-  -- "Begin, commit and rollback act first, answer first, and then the queue is worked"; "If the new request is still queued at rest, its answer
-  -- 3 comes last"
+  -- "If the new request is still queued at rest, its answer 3 comes last"; it names one who is in the way, never 0, and nobody in the way has
+  -- a lower number (document 02, [4])
+  pub data SaidLast (s : St B) (t : ℕ) : List (An B) → Type 0 where
+    nothingMore : waitsNow B s t ≡ false → SaidLast s t []
+    waitsBehind : (u : ℕ) → 1 ≤ u → Behind B s t u → ((v : ℕ) → Behind B s t v → u ≤ v) → SaidLast s t (says B t (waiting (some u)) ∷ [])
+
+  -- "Begin, commit and rollback act first, answer first, and then the queue is worked"
   pub record Acts (s : St B) (t : ℕ) (r : Request (B .Key) (B .Rec)) (w : Worked B) : Type 0 where
     pub others : List (An B)
     pub begins : r ≡ begin → Works (begun B s t) others (w .state) × (w .answers ≡ says B t done ∷ others)
     pub commits : r ≡ commit → Works (ended B committed s t) others (w .state) × (w .answers ≡ says B t done ∷ others)
     pub rollsBack : r ≡ rollback → Works (ended B rolledBack s t) others (w .state) × (w .answers ≡ says B t done ∷ others)
     pub asks : (a : Ask (B .Key) (B .Rec)) → r ≡ ask a
-        → Works (joined B s t a) others (w .state) × (w .answers ≡ others ++ cond (waitsNow B (w .state) t) (says B t waiting ∷ []) [])
+        → (last : List (An B)) × Works (joined B s t a) others (w .state) × SaidLast (w .state) t last × (w .answers ≡ others ++ last)
 
   -- a call of t on s that left and answered w
   pub record Demand2 (s : St B) (t : ℕ) (r : Request (B .Key) (B .Rec)) (w : Worked B) : Type 0 where

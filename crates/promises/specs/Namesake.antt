@@ -5,11 +5,11 @@ use mathlib.Core.Path.{_≡_}
 use mathlib.Core.List.{List, [], _∷_, _++_}
 use mathlib.Core.Option.{none, some}
 use Rattle.rules.specs.Kinds.{X, on, commit}
-use Rattle.rules.specs.Runs.{found, nothing, waiting, done}
+use Rattle.rules.specs.Runs.{found, nothing, done}
 use Rattle.rules.specs.Document.{endless}
 use Rattle.calls.specs.Calls.{Sent, Back}
 use Rattle.cases.specs.Overs.{Bowled, Scored, Holds, scored, writes, zeros}
-use Rattle.rules.specs.Cases.{Over, Case, over, to, only, begins, reads, inserts, row, settling, lock, settledAs, entry, left, played, stated}
+use Rattle.rules.specs.Cases.{Over, Case, over, to, only, behind, begins, reads, inserts, row, settling, lock, settledAs, entry, left, played, stated}
 
 -- "made of an upper half (pupil) and a lower half (delivery)"
 abbrev pub ball : ℕ → ℕ → ℕ
@@ -32,7 +32,7 @@ namesake =
           settling (row (ball 6 90) 400 ∷ row (ball 7 10) 501 ∷ row (ball 7 20) 502 ∷ row (ball 7 30) 503 ∷ row (ball 8 10) 600 ∷ [])
           ++ (begins 1 ∷ begins 2 ∷ [])
           ++ pupilRead
-          ++ (inserts 2 (ball 7 25) 777 (only 2 waiting) ∷ [])
+          ++ (inserts 2 (ball 7 25) 777 (only 2 (behind 1)) ∷ [])
           ++ pupilRead
           ++ (over 1 commit (to 1 done ∷ to 2 done ∷ []) ∷ []);
       scene =
@@ -52,7 +52,7 @@ abbrev pub NamesakeWaits : Type 0
 NamesakeWaits = played endless namesake ≡ stated namesake
 
 -- and on bytes: whoever sends the story's calls as their records, to a picture that was fresh, gets back what it states. The first delivery,
--- each time: pupil 7, number 10, record 501 (`F5 01`); the enrolment waits; the commit.
+-- each time: pupil 7, number 10, record 501 (`F5 01`); the enrolment waits behind 1; the commit.
 abbrev pub firstBall : List ℕ
 firstBall = 20 ∷ 0 ∷ 7 ∷ 0 ∷ 1 ∷ 0 ∷ 1 ∷ 0 ∷ 10 ∷ 0 ∷ 0 ∷ 0 ∷ 7 ∷ 0 ∷ 0 ∷ 0 ∷ 245 ∷ 1 ∷ 0 ∷ 0 ∷ []
 
@@ -61,7 +61,7 @@ namesakeScored =
     scored
     namesake
     (writes 9 firstBall
-    ∷ writes 13 (20 ∷ 0 ∷ 7 ∷ 0 ∷ 2 ∷ 0 ∷ 3 ∷ 0 ∷ zeros)
+    ∷ writes 13 (20 ∷ 0 ∷ 7 ∷ 0 ∷ 2 ∷ 0 ∷ 3 ∷ 0 ∷ 0 ∷ 0 ∷ 0 ∷ 0 ∷ 0 ∷ 0 ∷ 0 ∷ 0 ∷ 1 ∷ 0 ∷ 0 ∷ 0 ∷ [])
     ∷ writes 14 firstBall
     ∷ writes 18 (20 ∷ 0 ∷ 7 ∷ 0 ∷ 1 ∷ 0 ∷ 0 ∷ 0 ∷ zeros ++ (20 ∷ 0 ∷ 7 ∷ 0 ∷ 2 ∷ 0 ∷ 0 ∷ 0 ∷ zeros))
     ∷ [])

@@ -12,7 +12,7 @@ use lib.ListN.{length}
 use Rattle.lists.specs.Lists.{join}
 use Rattle.rules.specs.Kinds.{Book, Ask, read, insert, delete, Request, begin, commit, rollback, ask}
 use Rattle.rules.specs.Entries.{Entries, atMost, committed, rolledBack}
-use Rattle.rules.specs.Queue.{St}
+use Rattle.rules.specs.Queue.{St, blockerOf}
 use Rattle.rules.specs.Runs.{done, found, nothing, waiting, runsAlready, runsNot, waitsAlready, isPresent, locksShort, pagesShort, circle, Sy, Turn, turn, worked}
 use Rattle.rules.specs.Desk.{An, Cl, refusal, begun, ended, joined, waitsNow, legalCall, call, stateAfter, answersOf, fresh, session}
 
@@ -37,7 +37,7 @@ module _ (B : Book) where
   isTurnedAway done = false
   isTurnedAway (found k r) = false
   isTurnedAway nothing = false
-  isTurnedAway waiting = false
+  isTurnedAway (waiting u) = false
   isTurnedAway runsAlready = true
   isTurnedAway runsNot = true
   isTurnedAway waitsAlready = true
@@ -87,7 +87,7 @@ module _ (B : Book) where
   idleDeed es t r m = record { actor = t; request = r; says = m; before = es; after = es }
 
   abbrev pub lastDeed : St B → ℕ → Ask (B .Key) (B .Rec) → List Deed
-  lastDeed s t a = cond (waitsNow B s t) (idleDeed (s .entries) t (ask a) waiting ∷ []) []
+  lastDeed s t a = cond (waitsNow B s t) (idleDeed (s .entries) t (ask a) (waiting (blockerOf B s t)) ∷ []) []
 
   unfoldable pub actDeeds : Asked → St B → ℕ → Request (B .Key) (B .Rec) → List Deed
   actDeeds f s t begin = doneDeeds f s t begin (begun B s t)
@@ -142,7 +142,7 @@ module _ (B : Book) where
   toldRead lo hi done = none
   toldRead lo hi (found k r) = range lo k
   toldRead lo hi nothing = range lo hi
-  toldRead lo hi waiting = none
+  toldRead lo hi (waiting u) = none
   toldRead lo hi runsAlready = none
   toldRead lo hi runsNot = none
   toldRead lo hi waitsAlready = none
@@ -155,7 +155,7 @@ module _ (B : Book) where
   toldKey k done = none
   toldKey k (found j r) = none
   toldKey k nothing = range k k
-  toldKey k waiting = none
+  toldKey k (waiting u) = none
   toldKey k runsAlready = none
   toldKey k runsNot = none
   toldKey k waitsAlready = none
@@ -180,7 +180,7 @@ module _ (B : Book) where
   isDone done = true
   isDone (found k r) = false
   isDone nothing = false
-  isDone waiting = false
+  isDone (waiting u) = false
   isDone runsAlready = false
   isDone runsNot = false
   isDone waitsAlready = false

@@ -92,7 +92,7 @@ before =
 abbrev pub between : List (Deed plain)
 between =
     deed 2 begin done one one
-    ∷ deed 2 (ask (delete 20)) waiting one one
+    ∷ deed 2 (ask (delete 20)) (waiting (some 1)) one one
     ∷ deed 2 commit waitsAlready one one
     ∷ deed 1 (ask (insert 50 5)) done one two
     ∷ []
@@ -131,7 +131,7 @@ pub record Pins : Type 0 where
       ≡ deed 16 (ask (insert 20 2)) done [] made
       ∷ deed 1 (ask (insert 20 9)) (isPresent 20 (some 2)) one one
       ∷ deed 1 (ask (delete 15)) nothing one one
-      ∷ deed 2 (ask (delete 20)) waiting one one
+      ∷ deed 2 (ask (delete 20)) (waiting (some 1)) one one
       ∷ deed 2 (ask (delete 20)) done both gone
       ∷ []
   -- and those that did: 1 changed none from 10 to 40, for it was told 16 and 2; up to 50 it changed one

@@ -18,8 +18,8 @@ use Rattle.lists.proofs.Finite.{no-more}
 use Rattle.rules.specs.Kinds.{Book, Ask, Request, begin, commit, rollback, ask}
 use Rattle.rules.specs.Entries.{committed, rolledBack}
 use Rattle.rules.specs.Queue.{St, Q, leave, everyone}
-use Rattle.rules.specs.Runs.{Sy, En, Turn, turn, Worked, worked, waiting, done, runsAlready}
-use Rattle.rules.specs.Desk.{An, runs, waitsNow, says, refusal, begun, ended, joined, waitingLast, acts, unless, step, isTransaction}
+use Rattle.rules.specs.Runs.{Sy, En, Turn, turn, Worked, worked, done, runsAlready}
+use Rattle.rules.specs.Desk.{An, runs, waitsNow, says, refusal, begun, ended, joined, waitingAt, waitingLast, acts, unless, step, isTransaction}
 use Rattle.rules.specs.Good.{Good}
 use Rattle.rules.proofs.Waits.{in-everyone, runs-known, queued-runs}
 use Rattle.rules.proofs.Rest.{Leaves, turn-leaves, worked-by-turns}
@@ -126,18 +126,21 @@ module _ (B : Book) where
         other : (a : An B) → In a xs → waitsNow B (worked B s .state) t ≡ true → a .asker ≡ t → ⊥
         other a i h e = true≢false (sym h ∙ subst (λ u. waitsNow B (worked B s .state) u ≡ false) e (worked-served s .freed a i))
 
-        each : (a : An B) → In a xs ⊎ In a (says B t waiting ∷ []) → isTransaction B (a .asker) ≡ true
+        mine : An B
+        mine = waitingAt B (worked B s .state) t
+
+        each : (a : An B) → In a xs ⊎ In a (mine ∷ []) → isTransaction B (a .asker) ≡ true
         each a (inl i) = worked-known a i
         each a (inr (inl e)) = subst (λ (b : An B). isTransaction B (b .asker) ≡ true) e known
         each a (inr (inr i)) = absurd i
 
-        go : (b : Bool) → waitsNow B (worked B s .state) t ≡ b → OnceEach (xs ++ cond b (says B t waiting ∷ []) [])
+        go : (b : Bool) → waitsNow B (worked B s .state) t ≡ b → OnceEach (xs ++ cond b (mine ∷ []) [])
         go true h =
             record {
-              known = in-all (λ a. isTransaction B (a .asker)) (xs ++ (says B t waiting ∷ []))
-                  (λ a i. each a (append-in xs (says B t waiting ∷ []) a i));
-              once = pairs-last otherAnswered xs (says B t waiting) (worked-served s .once)
-                  (in-all (λ a. otherAnswered a (says B t waiting)) xs (λ a i. ap not (ne-eqb (a .asker) t (other a i h))));
+              known = in-all (λ a. isTransaction B (a .asker)) (xs ++ (mine ∷ []))
+                  (λ a i. each a (append-in xs (mine ∷ []) a i));
+              once = pairs-last otherAnswered xs (mine) (worked-served s .once)
+                  (in-all (λ a. otherAnswered a (mine)) xs (λ a i. ap not (ne-eqb (a .asker) t (other a i h))));
             }
         go false h =
             rw append-nil (record { known = in-all (λ a. isTransaction B (a .asker)) xs worked-known; once = worked-served s .once })

@@ -7,22 +7,25 @@ use mathlib.Core.Bool.{Bool, true, false, not, _&&_, _||_, true≢false}
 use mathlib.Core.List.{List, [], _∷_}
 use mathlib.Core.Option.{Option, none, some, Option·none-ne-some}
 use native.Mathlib.Omega.{arith}
-use borrow.Author.Tests.{eqb-true, eqb-false, ne-eqb, not-false}
-use lib.Dec.{eqb}
+use borrow.Author.Tests.{eq-eqb, eqb-true, eqb-false, leb-true, ne-eqb, not-false}
+use lib.Dec.{eqb, leb}
 use lib.ListN.{length}
-use Rattle.lists.specs.Lists.{In, all, pairs, member}
+use Rattle.lists.specs.Lists.{In, all, first, lowest, pairs, member}
 use Rattle.lists.proofs.Tests.{and-left, and-right, and-both, or-left, or-right}
 use Rattle.lists.proofs.Tables.{length-tab}
-use Rattle.lists.proofs.Elements.{some-in, any-in, in-any, all-fails, keep-in, in-keep, member-in, in-member, in-all}
+use Rattle.lists.proofs.Elements.{some-in, any-in, in-any, first-in, all-fails, keep-in, in-keep, member-in, in-member, in-all}
 use Rattle.lists.proofs.Pairs.{pairs-cons, pairs-tail}
 use Rattle.lists.proofs.Finite.{no-more}
+use Rattle.lists.proofs.Firsts.{first-only}
+use Rattle.lists.proofs.Lowest.{lowest-of, some-lowest}
 use Rattle.rules.specs.Kinds.{Book}
-use Rattle.rules.specs.Queue.{St, Q, Wait, waits, oldest, newest, everyone, linked, further, reached, onCircle}
+use Rattle.rules.specs.Entries.{isThere}
+use Rattle.rules.specs.Queue.{St, Q, Wait, waits, blockerIn, blockerOf, oldest, newest, everyone, linked, further, reached, onCircle}
 use Rattle.rules.specs.Runs.{refused, served, turn, AtRest}
 use Rattle.rules.specs.Desk.{runs, waitsNow}
 use Rattle.rules.specs.Good.{Good}
-use Rattle.rules.specs.Chains.{Behind, Chain, endOf, Circle, Free, ReachesFree, ChainsEnd}
-use Rattle.rules.proofs.Waits.{placed, wait-of, oldest-none, newest-none, in-everyone, runs-known, queued-runs, blocker-runs}
+use Rattle.rules.specs.Chains.{Behind, Chain, endOf, Circle, Free, ReachesFree, Named, orSelf, followed, ChainsEnd}
+use Rattle.rules.proofs.Waits.{placed, wait-of, same-wait, oldest-none, newest-none, in-everyone, runs-known, queued-runs, blocker-runs}
 
 -- two transactions
 abbrev different : ℕ → ℕ → Bool
@@ -256,6 +259,75 @@ module _ (B : Book) (s : St B) where
         go false e r = inl (record { itRuns = h; itWaitsNot = e })
         go true e r = inr (someone t e, r)
 
+    -- ---- the one who is named
+    named-of : (t v : ℕ) → Behind B s t v → (u : ℕ) × Named B s t u
+    unfolding blockerOf
+    named-of t v b = go (lowest (w .behind)) refl
+      where
+        w : Wait B
+        w = b .wait
+
+        first-is : first (λ x. eqb (x .request .asker) t) (waits B s) ≡ some w
+        first-is =
+            first-only (λ x. eqb (x .request .asker) t) (waits B s) w (b .queued) (eq-eqb (w .request .asker) t (b .asker))
+            (λ x i h. same-wait B s good x w i (b .queued) (eqb-true (x .request .asker) t h ∙ sym (b .asker)))
+
+        go : (o : Option ℕ) → lowest (w .behind) ≡ o → (u : ℕ) × Named B s t u
+        go none e = absurd (some-lowest (w .behind) v (b .blocker) e)
+        go (some u) e =
+            let l = lowest-of (w .behind) u e in
+            let mine : Behind B s t u = record { wait = w; queued = b .queued; asker = b .asker; blocker = l .among } in (
+              u,
+              record {
+                told = ap (blockerIn B) first-is ∙ e;
+                blocks = mine;
+                somebody = somebody-runs (another good t u mine .0);
+                lowest = λ x c.
+                    l .least x
+                    (subst (λ (y : Wait B). In x (y .behind)) (same-wait B s good (c .wait) w (c .queued) (b .queued) (c .asker ∙ sym (b .asker)))
+                    (c .blocker));
+              },
+            )
+          where
+            somebody-runs : runs B s u ≡ true → 1 ≤ u
+            somebody-runs r = leb-true 1 u (and-left (leb 1 u) (leb u (B .transactions)) (runs-known B s good u r))
+
+    named : (t : ℕ) → waitsNow B s t ≡ true → (u : ℕ) × Named B s t u
+    named t h = let u = someone t h in named-of t (u .0) (u .1)
+
+    -- who waits for nobody is told of nobody, and so stays where it is
+    told-nobody : (t : ℕ) → waitsNow B s t ≡ false → blockerOf B s t ≡ none
+    unfolding blockerOf
+    told-nobody t h = go (first (λ x. eqb (x .request .asker) t) (waits B s)) refl
+      where
+        go : (o : Option (Wait B)) → first (λ x. eqb (x .request .asker) t) (waits B s) ≡ o → blockerIn B o ≡ none
+        go none e = refl
+        go (some w) e =
+            let f = first-in (λ x. eqb (x .request .asker) t) (waits B s) w e in
+            absurd (true≢false (sym (in-any (λ q. eqb (q .asker) t) (s .queue) (w .request) (placed B s w (f .0) .queued) (f .1)) ∙ h))
+
+    -- so at rest the question whether its request is blocked tells whether one waits
+    pub rest-told : (t : ℕ) → isThere (blockerOf B s t) ≡ waitsNow B s t
+    rest-told t = go (waitsNow B s t) refl
+      where
+        go : (b : Bool) → waitsNow B s t ≡ b → isThere (blockerOf B s t) ≡ b
+        go true h = ap isThere (named t h .1 .told)
+        go false h = ap isThere (told-nobody t h)
+
+    followed-stays : (n t : ℕ) → Free B s t → Free B s (followed B s n t)
+    unfolding followed
+    followed-stays zero t f = f
+    followed-stays (suc n) t f =
+        subst (λ u. Free B s (followed B s n u)) (sym (ap (orSelf B t) (told-nobody t (f .itWaitsNot)))) (followed-stays n t f)
+
+    followed-free : (n t : ℕ) → ReachesFree B s n t → Free B s (followed B s n t)
+    unfolding followed
+    followed-free zero t f = f
+    followed-free (suc n) t (inl f) = followed-stays (suc n) t f
+    followed-free (suc n) t (inr r) =
+        let u = named-of t (r .0 .0) (r .0 .1) in
+        subst (λ v. Free B s (followed B s n v)) (sym (ap (orSelf B t) (u .1 .told))) (followed-free n (u .0) (r .1 (u .0) (u .1 .blocks)))
+
     pub chains-end : ChainsEnd B s
     chains-end =
         record {
@@ -265,4 +337,6 @@ module _ (B : Book) (s : St B) where
           nobodyTwice = nobody-twice;
           links = links;
           free = λ t h. free-within (B .transactions - 1) t h (links t);
+          named = named;
+          namedFree = λ t h. followed-free (B .transactions - 1) t (free-within (B .transactions - 1) t h (links t));
         }

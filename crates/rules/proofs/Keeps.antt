@@ -8,14 +8,14 @@ use mathlib.Core.Bool.{Bool, true, false, cond}
 use mathlib.Core.List.{List, [], _∷_}
 use mathlib.Core.Option.{Option, none, some}
 use lib.ListN.{length}
-use Rattle.lists.specs.Lists.{In, isNil}
-use Rattle.lists.proofs.Tests.{and-left, and-right, never, nil-is}
-use Rattle.lists.proofs.Elements.{first-in, last-in}
+use Rattle.lists.specs.Lists.{In}
+use Rattle.lists.proofs.Tests.{and-left, and-right, never}
 use Rattle.rules.specs.Kinds.{Book, Ask, Request, begin, commit, rollback, ask}
 use Rattle.rules.specs.Entries.{committed, rolledBack}
 use Rattle.rules.specs.Queue.{St, Wait, waits, oldest, newest}
 use Rattle.rules.specs.Runs.{runsAlready, waitsAlready, circle, run, unmoved, left, Turn, refused, served, turn, onward, turns, worked}
 use Rattle.rules.specs.Desk.{runs, waitsNow, refusal, unlessRuns, ifSo, begun, ended, joined, acts, unless, step, isTransaction, legalAsk, legalRequest, Cl, legalCall, call, stateAfter, after}
+use Rattle.rules.proofs.Waits.{oldest-waits, oldest-free, newest-waits}
 
 module _ (B : Book) where
   -- P is kept by the two moves of a turn
@@ -62,14 +62,13 @@ module _ (B : Book) where
         by-newest none q e = never (cc)
         by-newest (some w) q e =
             let z : left B s (w .request) (unmoved B s circle) ≡ o = cc in
-            subst (λ (u : Turn B). P (u .state)) z (K .givesWay s w (last-in _ (waits B s) w q .0) p)
+            subst (λ (u : Turn B). P (u .state)) z (K .givesWay s w (newest-waits B s w q) p)
 
         by-oldest : (w : Option (Wait B)) → oldest B s ≡ w → served B s w ≡ some o → P (o .state)
         by-oldest none q e = by-newest (newest B s) refl e
         by-oldest (some w) q e =
             let z : left B s (w .request) (run B s (w .request)) ≡ o = cc in
-            let i : In w (waits B s) × (isNil (w .behind) ≡ true) = first-in _ (waits B s) w q in
-            subst (λ (u : Turn B). P (u .state)) z (K .goes s w (i .0) (nil-is (w .behind) (i .1)) p)
+            subst (λ (u : Turn B). P (u .state)) z (K .goes s w (oldest-waits B s w q) (oldest-free B s w q) p)
 
     pub turns-keep : (n : ℕ) (s : St B) → P s → P (turns B n s .state)
     unfolding turns

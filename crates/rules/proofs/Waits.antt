@@ -8,18 +8,25 @@ use mathlib.Core.List.{List, [], _∷_, _++_, map}
 use native.Mathlib.Omega.{arith}
 use native.Mathlib.Decide.{decLt}
 use mathlib.Core.Option.{none, some}
-use borrow.Author.Tests.{not-true, leb-true, le-leb}
+use borrow.Author.Tests.{not-true, eq-eqb, leb-true, le-leb}
 use lib.Dec.{eqb, leb}
 use lib.ListN.{length, List·getD-eq-default}
-use Rattle.lists.specs.Lists.{keep, In, isNil}
-use Rattle.lists.proofs.Tests.{and-left, and-right, and-both}
+use Rattle.lists.specs.Lists.{keep, In, isNil, lowest, pairs}
+use Rattle.lists.proofs.Tests.{and-left, and-right, and-both, nil-is}
 use Rattle.lists.proofs.Elements.{all-in, first-in, none-first, last-in, none-last, append-in, keep-in, in-tab, map-in}
+use Rattle.lists.proofs.Pairs.{pairs-in, pairs-map}
 use Rattle.rules.specs.Kinds.{Book, idle}
-use Rattle.rules.specs.Entries.{Entries}
+use Rattle.rules.specs.Entries.{Entries, isThere}
 use Rattle.rules.specs.Locks.{Slots, Want, wanted, inUse, sameName, conflict, clash, holds, holders, earlier, blockers}
-use Rattle.rules.specs.Queue.{St, Q, Wait, waits, waitsFrom, oldest, everyone, onCircle, newest}
+use Rattle.rules.specs.Queue.{St, Q, Wait, waits, waitsFrom, isFree, oldest, everyone, onCircle, newest}
 use Rattle.rules.specs.Desk.{runs, isRunning, isTransaction, legalAsk}
-use Rattle.rules.specs.Good.{Good, Lk, isName, lockStands, queueStands}
+use Rattle.rules.specs.Good.{Good, Lk, isName, lockStands, otherAsker, queueStands}
+
+-- nobody is the lowest of those who block a request where nobody blocks it
+pub free-nil : (us : List ℕ) → not (isThere (lowest us)) ≡ isNil us
+unfolding lowest
+free-nil [] = refl
+free-nil (u ∷ us) = refl
 
 module _ (B : Book) where
   -- a wait is a queued request, blocked with an eye to some of the queue
@@ -59,14 +66,24 @@ module _ (B : Book) where
   unfolding waits
   wait-of s = wait-from (s .entries) (s .slots) [] (s .queue)
 
+  -- the waits have the queue's requests, one for one
+  pub requests : (es : Entries B) (ls : Slots B) (ahead qs : List (Q B)) → map (λ w. w .request) (waitsFrom B es ls ahead qs) ≡ qs
+  unfolding waitsFrom
+  requests es ls ahead [] = refl
+  requests es ls ahead (q ∷ qs) = ap (λ ps. q ∷ ps) (requests es ls (ahead ++ (q ∷ [])) qs)
+
   -- what is used of the two choices: who is chosen waits, and where nobody is, none waits unblocked, and none lies on a circle
   pub oldest-waits : (s : St B) (w : Wait B) → oldest B s ≡ some w → In w (waits B s)
   unfolding oldest
-  oldest-waits s w e = first-in (λ v. isNil (v .behind)) (waits B s) w e .0
+  oldest-waits s w e = first-in (isFree B) (waits B s) w e .0
+
+  pub oldest-free : (s : St B) (w : Wait B) → oldest B s ≡ some w → w .behind ≡ []
+  unfolding oldest
+  oldest-free s w e = nil-is (w .behind) (sym (free-nil (w .behind)) ∙ first-in (isFree B) (waits B s) w e .1)
 
   pub oldest-none : (s : St B) (w : Wait B) → oldest B s ≡ none → In w (waits B s) → isNil (w .behind) ≡ false
   unfolding oldest
-  oldest-none s w e i = none-first (λ v. isNil (v .behind)) (waits B s) w e i
+  oldest-none s w e i = sym (free-nil (w .behind)) ∙ none-first (isFree B) (waits B s) w e i
 
   pub newest-waits : (s : St B) (w : Wait B) → newest B s ≡ some w → In w (waits B s)
   unfolding newest
@@ -86,11 +103,11 @@ module _ (B : Book) where
       (h (w .0) (k .0), not-true (eqb (f (w .0)) t) (and-left (not (eqb (f (w .0)) t)) (r (w .0)) (k .1)))
 
   -- a blocker is another one than the asker, and holds a lock or is queued ahead
-  blocker : (P : ℕ → Type 0) (es : Entries B) (ls : Slots B) (ahead : List (Q B)) (q : Q B) (u : ℕ)
+  one-of : (P : ℕ → Type 0) (es : Entries B) (ls : Slots B) (ahead : List (Q B)) (q : Q B) (u : ℕ)
       → ((l : Lk B) → In l (inUse ls) → P (l .holder)) → ((p : Q B) → In p ahead → P (p .asker))
       → In u (blockers B es ls ahead q) → P u × (eqb u (q .asker) ≡ false)
   unfolding blockers holders earlier
-  blocker P es ls ahead q u held queued i =
+  one-of P es ls ahead q u held queued i =
       go (holds B ls (q .asker) (w .name)) (append-in (holders B ls (q .asker) w) _ u i)
     where
       w : Want B
@@ -133,8 +150,24 @@ module _ (B : Book) where
     holder-runs l i =
         and-left (runs B s (l .holder)) (isName B (s .entries) (l .name)) (all-in (lockStands B s) (inUse (s .slots)) l (good .names) i)
 
+    -- nobody is queued twice, so that an asker has one wait
+    pub waits-once : pairs (λ v w. otherAsker B (v .request) (w .request)) (waits B s) ≡ true
+    unfolding waits
+    waits-once =
+        sym (pairs-map (otherAsker B) (λ w. w .request) (waits B s))
+        ∙ ap (pairs (otherAsker B)) (requests (s .entries) (s .slots) [] (s .queue))
+        ∙ good .askers
+
+    pub same-wait : (v w : Wait B) → In v (waits B s) → In w (waits B s) → v .request .asker ≡ w .request .asker → v ≡ w
+    same-wait v w i j e = go (pairs-in (λ x y. otherAsker B (x .request) (y .request)) (waits B s) v w waits-once i j)
+      where
+        go : (v ≡ w) ⊎ ((otherAsker B (v .request) (w .request) ≡ true) ⊎ (otherAsker B (w .request) (v .request) ≡ true)) → v ≡ w
+        go (inl q) = q
+        go (inr (inl h)) = absurd (true≢false (sym (eq-eqb (v .request .asker) (w .request .asker) e) ∙ not-true _ h))
+        go (inr (inr h)) = absurd (true≢false (sym (eq-eqb (w .request .asker) (v .request .asker) (sym e)) ∙ not-true _ h))
+
     pub blocker-runs : (w : Wait B) → In w (waits B s) → (u : ℕ) → In u (w .behind) → (runs B s u ≡ true) × (eqb u (w .request .asker) ≡ false)
     blocker-runs w i u j =
         let p = placed s w i in
-        blocker (λ v. runs B s v ≡ true) (s .entries) (s .slots) (p .ahead) (w .request) u holder-runs
+        one-of (λ v. runs B s v ≡ true) (s .entries) (s .slots) (p .ahead) (w .request) u holder-runs
         (λ q k. queued-runs q (p .among q k)) (subst (In u) (p .behind) j)

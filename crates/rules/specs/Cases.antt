@@ -2,18 +2,21 @@
 -- table; and a short one with few locks and pages.
 -- Each case is played from a fresh index, call by call. It says for each call exactly what is answered, in order, and then who is left
 -- waiting at what, which locks are held, and every entry with its owner, now and before. Transaction 16 settles the keys that a case
--- starts with. The claim `AllHold` is proved in proofs/Table.antt. Assumes nothing.
+-- starts with. The claim `AllHold` is proved in proofs/Table.antt. And one call on a desk that is not at rest: `NamedAtRest`, proved there
+-- too. Assumes nothing.
 use Prim.Native.Nat.{ℕ}
 use mathlib.Core.Path.{_≡_}
 use mathlib.Core.List.{List, [], _∷_, _++_, map}
 use mathlib.Core.Option.{Option, none, some}
-use lib.ListN.{length}
+use lib.ListN.{length, replicate}
 use Rattle.limits.specs.Limits.{locksMost}
-use Rattle.rules.specs.Kinds.{Paging, Entry, Mode, S, X, Name, on, end, Lock, read, insert, delete, Request, begin, commit, rollback, ask, Call, Queued, State}
+use Rattle.rules.specs.Kinds.{Paging, Entry, Mode, S, X, Name, on, end, Lock, read, insert, delete, Request, begin, commit, rollback, ask, Call, Queued, idle, running, State}
 use Rattle.rules.specs.Locks.{inUse, wanted}
 use Rattle.rules.specs.Runs.{Says, done, found, nothing, waiting, runsAlready, runsNot, waitsAlready, isPresent, locksShort, pagesShort, circle, Answer}
-use Rattle.rules.specs.Desk.{fresh, after, session}
-use Rattle.rules.specs.Document.{limited, document, roomFor}
+use Rattle.rules.specs.Queue.{blockerOf}
+use Rattle.rules.specs.Desk.{joined, step, fresh, after, session}
+use Rattle.rules.specs.Document.{limited, document, endless, roomFor}
+use Rattle.rules.specs.Good.{Good}
 
 -- one call and what it is answered; none is number 12
 pub record Over : Type 0 where
@@ -43,6 +46,10 @@ refused12 t r = record { bowled = record { asker = t; request = r }; answered = 
 
 abbrev pub to : ℕ → Says ℕ ℕ → Answer ℕ ℕ
 to t m = record { asker = t; says = m }
+
+-- "3: still queued", and who is in the way
+abbrev pub behind : ℕ → Says ℕ ℕ
+behind u = waiting (some u)
 
 abbrev pub only : ℕ → Says ℕ ℕ → List (Answer ℕ ℕ)
 only t m = to t m ∷ []
@@ -94,7 +101,7 @@ readerWaits =
           begins 1
           ∷ inserts 1 100 7 (only 1 done)
           ∷ begins 2
-          ∷ reads 2 50 150 (only 2 waiting)
+          ∷ reads 2 50 150 (only 2 (behind 1))
           ∷ over 1 commit (to 1 done ∷ to 2 (found 100 (some 7)) ∷ [])
           ∷ [];
       scene = left [] (lock S (on 100) 2 ∷ []) (settledAs 100 7 ∷ []);
@@ -109,7 +116,7 @@ nothingStaysNothing =
           ++ (begins 1
           ∷ begins 2
           ∷ reads 1 12 18 (only 1 nothing)
-          ∷ inserts 2 15 5 (only 2 waiting)
+          ∷ inserts 2 15 5 (only 2 (behind 1))
           ∷ reads 1 12 18 (only 1 nothing)
           ∷ over 1 commit (to 1 done ∷ to 2 done ∷ [])
           ∷ []);
@@ -126,7 +133,7 @@ twoReaders =
           ∷ begins 2
           ∷ reads 1 12 18 (only 1 nothing)
           ∷ reads 2 12 18 (only 2 nothing)
-          ∷ inserts 1 15 5 (only 1 waiting)
+          ∷ inserts 1 15 5 (only 1 (behind 2))
           ∷ inserts 2 16 6 (only 2 circle)
           ∷ over 2 rollback (to 2 done ∷ to 1 done ∷ [])
           ∷ []);
@@ -147,8 +154,8 @@ circleAtCommit =
           ∷ deletes 1 20 (only 1 done)
           ∷ reads 2 50 50 (only 2 (found 50 (some 5)))
           ∷ reads 3 30 30 (only 3 (found 30 (some 3)))
-          ∷ inserts 2 15 6 (only 2 waiting)
-          ∷ deletes 3 50 (only 3 waiting)
+          ∷ inserts 2 15 6 (only 2 (behind 1))
+          ∷ deletes 3 50 (only 3 (behind 2))
           ∷ over 1 commit (to 1 done ∷ to 3 circle ∷ [])
           ∷ []);
       scene =
@@ -200,7 +207,7 @@ lastKey =
 unfoldable pub emptyIndex : Case
 emptyIndex =
     record {
-      overs = begins 1 ∷ begins 2 ∷ reads 1 5 9 (only 1 nothing) ∷ inserts 2 7 1 (only 2 waiting) ∷ [];
+      overs = begins 1 ∷ begins 2 ∷ reads 1 5 9 (only 1 nothing) ∷ inserts 2 7 1 (only 2 (behind 1)) ∷ [];
       scene = left (waits 2 end ∷ []) (lock S end 1 ∷ []) [];
     }
 
@@ -213,7 +220,7 @@ soleHolder =
           ++ (begins 1
           ∷ begins 2
           ∷ reads 1 20 20 (only 1 (found 20 (some 2)))
-          ∷ deletes 2 20 (only 2 waiting)
+          ∷ deletes 2 20 (only 2 (behind 1))
           ∷ deletes 1 20 (only 1 done)
           ∷ []);
       scene = left (waits 2 (on 20) ∷ []) (lock X (on 20) 1 ∷ []) (entry 20 1 none (some 2) ∷ []);
@@ -228,7 +235,7 @@ targetMoves =
           ++ (begins 1
           ∷ begins 2
           ∷ deletes 1 20 (only 1 done)
-          ∷ reads 2 10 25 (only 2 waiting)
+          ∷ reads 2 10 25 (only 2 (behind 1))
           ∷ inserts 1 15 8 (only 1 done)
           ∷ over 1 commit (to 1 done ∷ to 2 (found 15 (some 8)) ∷ [])
           ∷ []);
@@ -245,8 +252,8 @@ joiningFrees =
           ∷ begins 2
           ∷ begins 3
           ∷ reads 1 20 20 (only 1 (found 20 (some 2)))
-          ∷ inserts 2 12 7 (only 2 waiting)
-          ∷ deletes 3 17 (only 3 waiting)
+          ∷ inserts 2 12 7 (only 2 (behind 1))
+          ∷ deletes 3 17 (only 3 (behind 2))
           ∷ inserts 1 15 5 (to 1 done ∷ to 3 nothing ∷ [])
           ∷ []);
       scene =
@@ -265,7 +272,7 @@ presentStaysPresent =
           ++ (begins 1
           ∷ begins 2
           ∷ inserts 1 20 9 (only 1 (isPresent 20 (some 2)))
-          ∷ deletes 2 20 (only 2 waiting)
+          ∷ deletes 2 20 (only 2 (behind 1))
           ∷ inserts 1 20 9 (only 1 (isPresent 20 (some 2)))
           ∷ over 1 commit (to 1 done ∷ to 2 done ∷ [])
           ∷ []);
@@ -302,7 +309,7 @@ turnedAway =
           ∷ over 1 begin (only 1 runsAlready)
           ∷ begins 2
           ∷ reads 1 20 20 (only 1 (found 20 (some 2)))
-          ∷ deletes 2 20 (only 2 waiting)
+          ∷ deletes 2 20 (only 2 (behind 1))
           ∷ reads 2 30 40 (only 2 waitsAlready)
           ∷ inserts 2 30 3 (only 2 waitsAlready)
           ∷ deletes 2 30 (only 2 waitsAlready)
@@ -323,8 +330,8 @@ rollbackDrops =
           ∷ begins 2
           ∷ begins 3
           ∷ reads 1 20 20 (only 1 (found 20 (some 2)))
-          ∷ deletes 2 20 (only 2 waiting)
-          ∷ reads 3 20 20 (only 3 waiting)
+          ∷ deletes 2 20 (only 2 (behind 1))
+          ∷ reads 3 20 20 (only 3 (behind 2))
           ∷ over 2 rollback (to 2 done ∷ to 3 (found 20 (some 2)) ∷ [])
           ∷ over 2 rollback (only 2 runsNot)
           ∷ over 1 commit (only 1 done)
@@ -343,8 +350,8 @@ freedTogether =
           ∷ begins 2
           ∷ begins 3
           ∷ deletes 1 20 (only 1 done)
-          ∷ reads 3 20 20 (only 3 waiting)
-          ∷ reads 2 10 25 (only 2 waiting)
+          ∷ reads 3 20 20 (only 3 (behind 1))
+          ∷ reads 2 10 25 (only 2 (behind 1))
           ∷ over 1 rollback (to 1 done ∷ to 3 (found 20 (some 2)) ∷ to 2 (found 20 (some 2)) ∷ [])
           ∷ []);
       scene = left [] (lock S (on 20) 3 ∷ lock S (on 20) 2 ∷ []) (settledAs 20 2 ∷ []);
@@ -361,11 +368,36 @@ olderFirst =
           ∷ begins 2
           ∷ begins 3
           ∷ reads 1 20 20 (only 1 (found 20 (some 2)))
-          ∷ deletes 3 20 (only 3 waiting)
-          ∷ reads 2 20 20 (only 2 waiting)
+          ∷ deletes 3 20 (only 3 (behind 1))
+          ∷ reads 2 20 20 (only 2 (behind 3))
           ∷ over 1 commit (to 1 done ∷ to 3 done ∷ [])
           ∷ []);
       scene = left (waits 2 (on 20) ∷ []) (lock X (on 20) 3 ∷ []) (entry 20 3 none (some 2) ∷ []);
+    }
+
+-- Document 02, [4]: "the lowest-numbered transaction that blocks it": of three who hold it the second to come; and of holders and one who
+-- waits, that one.
+unfoldable pub lowestNamed : Case
+lowestNamed =
+    record {
+      overs =
+          settling (row 20 2 ∷ [])
+          ++ (begins 1
+          ∷ begins 2
+          ∷ begins 3
+          ∷ begins 4
+          ∷ begins 5
+          ∷ reads 3 20 20 (only 3 (found 20 (some 2)))
+          ∷ reads 2 20 20 (only 2 (found 20 (some 2)))
+          ∷ reads 4 20 20 (only 4 (found 20 (some 2)))
+          ∷ deletes 1 20 (only 1 (behind 2))
+          ∷ inserts 5 15 5 (only 5 (behind 1))
+          ∷ []);
+      scene =
+          left
+          (waits 1 (on 20) ∷ waits 5 (on 20) ∷ [])
+          (lock S (on 20) 3 ∷ lock S (on 20) 2 ∷ lock S (on 20) 4 ∷ [])
+          (settledAs 20 2 ∷ []);
     }
 
 unfoldable pub cases : List Case
@@ -386,6 +418,7 @@ cases =
     ∷ rollbackDrops
     ∷ freedTogether
     ∷ olderFirst
+    ∷ lowestNamed
     ∷ []
 
 -- ---- with two locks, and pages that take two keys: what is said when they run short
@@ -455,6 +488,24 @@ roomAgain =
 unfoldable pub tight : List Case
 tight = locksInUse ∷ pagesFull ∷ roomAgain ∷ []
 
+-- Document 02, [4]: "as it stands at rest", and not when the request joins. From a desk at rest the two are the same, for whoever gives way is the
+-- request that joined. A whole picture need not be at rest: here 1 and 2 wait in a circle, and 3 deletes what 1 waits for and 2 holds.
+-- Both are in its way; then 1 gives way, and 3 is told of 2.
+abbrev pub inCircle : State ℕ ℕ (Unit {0})
+inCircle =
+    record {
+      entries = settledAs 10 1 ∷ settledAs 20 2 ∷ [];
+      pages = tt;
+      slots = some (lock S (on 10) 1) ∷ some (lock S (on 20) 2) ∷ [];
+      queue = record { asker = 2; asks = delete 10 } ∷ record { asker = 1; asks = delete 20 } ∷ [];
+      marks = idle ∷ running ∷ running ∷ running ∷ replicate 13 idle;
+    }
+
+pub record NamedAtRest : Type 0 where
+  pub good : Good (limited 2 endless) inCircle
+  pub joining : blockerOf (limited 2 endless) (joined (limited 2 endless) inCircle 3 (delete 20)) 3 ≡ some 1
+  pub atRest : step (limited 2 endless) inCircle 3 (ask (delete 20)) .answers ≡ to 1 circle ∷ to 3 (behind 2) ∷ []
+
 -- what the rule book says of a case: its answers, and where things stand afterwards
 pub record Outcome : Type 0 where
   pub answers : List (Option (List (Answer ℕ ℕ)))
@@ -485,7 +536,7 @@ stated c = record { answers = map (λ (o : Over). o .answered) (c .overs); scene
 
 -- the one claim
 pub record AllHold (P : Paging ℕ) : Type 0 where
-  pub howMany : length cases ≡ 16
+  pub howMany : length cases ≡ 17
   pub hold : map (played P) cases ≡ map stated cases
   -- with two locks, and pages that take two keys
   pub howManyTight : length tight ≡ 3

@@ -5,11 +5,12 @@ use mathlib.Core.Path.{_≡_}
 use mathlib.Core.Logic.{_≢_, _⊎_}
 use mathlib.Core.Bool.{true, false, not}
 use mathlib.Core.List.{List, [], _∷_}
+use mathlib.Core.Option.{Option, none, some}
 use lib.Dec.{eqb}
 use lib.ListN.{length}
 use Rattle.lists.specs.Lists.{In, pairs}
 use Rattle.rules.specs.Kinds.{Book}
-use Rattle.rules.specs.Queue.{St, Wait, waits, linksMost}
+use Rattle.rules.specs.Queue.{St, Wait, waits, blockerOf, linksMost}
 use Rattle.rules.specs.Desk.{runs, waitsNow}
 
 module _ (B : Book) where
@@ -48,6 +49,22 @@ module _ (B : Book) where
   ReachesFree s (suc links) t =
       Free s t ⊎ (((u : ℕ) × Behind s t u) × ((u : ℕ) → Behind s t u → ReachesFree s links u))
 
+  -- Document 02, [4]: u is the one whom t is told of: t waits behind it, it is somebody, and nobody whom t waits behind has a lower number
+  pub record Named (s : St B) (t u : ℕ) : Type 0 where
+    pub told : blockerOf B s t ≡ some u
+    pub blocks : Behind s t u
+    pub somebody : 1 ≤ u
+    pub lowest : (v : ℕ) → Behind s t v → u ≤ v
+
+  -- following the named ones alone, so many links; one who waits for nobody stays
+  abbrev pub orSelf : ℕ → Option ℕ → ℕ
+  orSelf t none = t
+  orSelf t (some u) = u
+
+  unfoldable pub followed : St B → ℕ → ℕ → ℕ
+  followed s zero t = t
+  followed s (suc links) t = followed s links (orSelf t (blockerOf B s t))
+
   -- what is promised of a desk at rest
   pub record ChainsEnd (s : St B) : Type 0 where
     -- who waits, waits behind someone, and only behind others that run
@@ -60,3 +77,6 @@ module _ (B : Book) where
     pub links : (t : ℕ) (us : List ℕ) → Chain s t us → length us ≤ linksMost B
     -- "following whom one waits behind reaches, within fifteen links, a running transaction that isn't waiting"
     pub free : (t : ℕ) → runs B s t ≡ true → ReachesFree s (linksMost B) t
+    -- who waits is told of one; and following those alone leads, within as many links, to such a one too
+    pub named : (t : ℕ) → waitsNow B s t ≡ true → (u : ℕ) × Named s t u
+    pub namedFree : (t : ℕ) → runs B s t ≡ true → Free s (followed s (linksMost B) t)

@@ -10,7 +10,7 @@ use Rattle.lists.specs.Lists.{any}
 use Rattle.rules.specs.Kinds.{Book, Ask, read, insert, delete, Request, begin, commit, rollback, ask, Call, Mark, idle, running}
 use Rattle.rules.specs.Entries.{atMost, committed, rolledBack, settled, takenOut}
 use Rattle.rules.specs.Locks.{released}
-use Rattle.rules.specs.Queue.{St, leave}
+use Rattle.rules.specs.Queue.{St, blockerOf, leave}
 use Rattle.rules.specs.Runs.{done, waiting, runsAlready, runsNot, waitsAlready, Answer, Sy, En, Worked, worked}
 
 abbrev pub isRunning : Mark → Bool
@@ -76,10 +76,13 @@ module _ (B : Book) where
   abbrev pub afterDone : ℕ → Worked B → Worked B
   afterDone t w = record { state = w .state; answers = says t done ∷ w .answers }
 
-  -- "If the new request is still queued at rest, its answer 3 comes last."
+  -- "If the new request is still queued at rest, its answer 3 comes last." It names who is in the way, "as it stands at rest".
+  abbrev pub waitingAt : St B → ℕ → An
+  waitingAt s t = says t (waiting (blockerOf B s t))
+
   abbrev pub waitingLast : ℕ → Worked B → Worked B
   waitingLast t w =
-      record { state = w .state; answers = w .answers ++ cond (waitsNow (w .state) t) (says t waiting ∷ []) [] }
+      record { state = w .state; answers = w .answers ++ cond (waitsNow (w .state) t) (waitingAt (w .state) t ∷ []) [] }
 
   unfoldable pub acts : St B → ℕ → Request (B .Key) (B .Rec) → Worked B
   acts s t begin = afterDone t (worked B (begun s t))

@@ -2,11 +2,11 @@
 use Prim.Native.Nat.{ℕ, zero, suc, _-_}
 use mathlib.Core.Bool.{Bool, not, _&&_, _||_}
 use mathlib.Core.List.{List, [], _∷_, _++_}
-use mathlib.Core.Option.{Option}
+use mathlib.Core.Option.{Option, none, some}
 use lib.Dec.{eqb}
-use Rattle.lists.specs.Lists.{any, keep, first, last, member, tab, isNil}
+use Rattle.lists.specs.Lists.{any, keep, first, last, lowest, member, tab}
 use Rattle.rules.specs.Kinds.{Book, State, Queued}
-use Rattle.rules.specs.Entries.{Entries}
+use Rattle.rules.specs.Entries.{Entries, isThere}
 use Rattle.rules.specs.Locks.{Slots, blockers}
 
 module _ (B : Book) where
@@ -29,9 +29,24 @@ module _ (B : Book) where
   unfoldable pub waits : St → List Wait
   waits s = waitsFrom (s .entries) (s .slots) [] (s .queue)
 
+  -- Document 02, [4]: "The question whether a request is blocked shall answer with the lowest-numbered transaction that blocks it, or none."
+  abbrev pub blocker : Wait → Option ℕ
+  blocker w = lowest (w .behind)
+
+  -- the same of t's queued request; none, too, where it has none
+  abbrev pub blockerIn : Option Wait → Option ℕ
+  blockerIn none = none
+  blockerIn (some w) = blocker w
+
+  unfoldable pub blockerOf : St → ℕ → Option ℕ
+  blockerOf s t = blockerIn (first (λ w. eqb (w .request .asker) t) (waits s))
+
+  abbrev pub isFree : Wait → Bool
+  isFree w = not (isThere (blocker w))
+
   -- "if some queued request isn't blocked, the oldest such"
   unfoldable pub oldest : St → Option Wait
-  oldest s = first (λ w. isNil (w .behind)) (waits s)
+  oldest s = first isFree (waits s)
 
   -- Circles go by everyone who blocks. From a set of transactions, one link further: those of the set, and whom one of them waits behind.
   abbrev pub everyone : List ℕ

@@ -12,12 +12,12 @@ use Rattle.rules.specs.Locks.{Slots, taken, target, named, itself}
 use Rattle.rules.specs.Queue.{St, Q, Wait, oldest, newest, leave}
 
 -- Document 01, "What the desk says", line by line. A record that is absent cannot be found: where the entry stands in a whole index,
--- the record of `found` and `isPresent` is there.
+-- the record of `found` and `isPresent` is there. `waiting` says who is in the way (document 02, [4]): at rest there is one.
 pub data Says (K R : Type 0) : Type 0 where
   done : Says K R
   found : K → Option R → Says K R
   nothing : Says K R
-  waiting : Says K R
+  waiting : Option ℕ → Says K R
   runsAlready : Says K R
   runsNot : Says K R
   waitsAlready : Says K R
@@ -26,24 +26,29 @@ pub data Says (K R : Type 0) : Type 0 where
   pagesShort : Says K R
   circle : Says K R
 
--- the paper's number, key and record of each; "key and record are zero except in 1 and 16"
+-- the paper's number, key and record of each; "key and record are zero except in 1 and 16"; and who is in the way, which is no record but
+-- stands in its field: "Answer 3 then carries that number in its record field, no longer zero"
 pub record Paper (K R : Type 0) : Type 0 where
   pub number : ℕ
   pub key : Option K
   pub rec : Option R
+  pub by : Option ℕ
 
 abbrev pub numbered : {K R : Type 0} → ℕ → Paper K R
-numbered n = record { number = n; key = none; rec = none }
+numbered n = record { number = n; key = none; rec = none; by = none }
+
+abbrev pub showing : {K R : Type 0} → ℕ → K → Option R → Paper K R
+showing n k r = record { number = n; key = some k; rec = r; by = none }
 
 abbrev pub paper : {K R : Type 0} → Says K R → Paper K R
 paper done = numbered 0
-paper (found k r) = record { number = 1; key = some k; rec = r }
+paper (found k r) = showing 1 k r
 paper nothing = numbered 2
-paper waiting = numbered 3
+paper (waiting u) = record { number = 3; key = none; rec = none; by = u }
 paper runsAlready = numbered 13
 paper runsNot = numbered 14
 paper waitsAlready = numbered 15
-paper (isPresent k r) = record { number = 16; key = some k; rec = r }
+paper (isPresent k r) = showing 16 k r
 paper locksShort = numbered 17
 paper pagesShort = numbered 18
 paper circle = numbered 19

@@ -2,24 +2,15 @@
 -- wait, since nobody is queued twice, so nobody blocks the oldest that was chosen. Assumes nothing.
 use Prim.Native.Nat.{ℕ, _≤_, _<_}
 use mathlib.Core.Path.{_≡_, refl, sym, ap, ap₂, subst, _∙_}
-use mathlib.Core.Logic.{_⊎_, inl, inr}
-use mathlib.Core.Bool.{true, not}
 use mathlib.Core.List.{List}
 use mathlib.Core.Option.{Option, none, some, Option·none-ne-some, Option·some-injective}
-use borrow.Author.Tests.{eqb-false, not-true}
-use lib.Dec.{eqb}
 use Rattle.limits.specs.Limits.{transactionsMost}
-use Rattle.lists.specs.Lists.{In, tab, isNil}
-use Rattle.lists.proofs.Tests.{nil-is}
-use Rattle.lists.proofs.Elements.{first-in}
-use Rattle.lists.proofs.Pairs.{pairs-in}
+use Rattle.lists.specs.Lists.{In, tab}
 use Rattle.rules.specs.Kinds.{Queued}
 use Rattle.rules.specs.Locks.{blockers}
 use Rattle.rules.specs.Queue.{Wait, waits, oldest, newest}
 use Rattle.rules.specs.Runs.{circle, unmoved, run, left, refused, served, turn}
-use Rattle.rules.specs.Good.{otherAsker}
-use Rattle.rules.proofs.Waits.{oldest-waits}
-use Rattle.circles.proofs.WaitsKnown.{waits-known}
+use Rattle.rules.proofs.Waits.{oldest-waits, oldest-free, same-wait}
 use Rattle.answers.specs.declared.Answer.{Answer}
 use Rattle.answers.specs.declared.Says.the-variants.{Circle}
 use Rattle.queue.specs.QueueLayout.{queued, inPlace, queuedAt}
@@ -35,7 +26,7 @@ use Rattle.waits.specs.declared.Next.{Next}
 use Rattle.waits.specs.declared.Turn.{Turn}
 use Rattle.waits.specs.declared.Turn.the-variants.{Runs, Nobody}
 use Rattle.waits.specs.Choices.{requestAt, requestOf, Inside, Chosen, NewestAt, Known, placeIn, KnownIn, OldestIs}
-use Rattle.waits.specs.Notes.{Noted, NotedIn}
+use Rattle.waits.specs.Blocks.{Rows, RowsIn}
 use Rattle.runs.specs.RunsAt as A
 use Rattle.states.proofs.PlacesWait.{place-waits}
 use Rattle.states.proofs.MovesSay.{way-says}
@@ -69,8 +60,8 @@ module _ (p d : List ℕ) (r : Turn) (e : r ≡ Nobody) where
   pub nobody-runs : OldestIs p d r → oldest book (stateOf p d) ≡ none
   nobody-runs h = chosen-none d (oldest book (stateOf p d)) (placeIn r) (h .chosen) (ap placeIn e)
 
-  pub nobody-noted : (ns ms : List ℕ) → NotedIn p d ns ms r → Noted p d ns ms (queued d)
-  nobody-noted ns ms k = subst (NotedIn p d ns ms) e k
+  pub nobody-rows : (row : List ℕ) → RowsIn p d row r → Rows p d row
+  nobody-rows row k = subst (RowsIn p d row) e k
 
 module _ (p d : List ℕ) (w : Whole p d) where
   -- ---- the one wait of the request at a place
@@ -78,25 +69,7 @@ module _ (p d : List ℕ) (w : Whole p d) where
       → v .behind ≡ blockers book (entriesIn p) (slotsOf d) (tab q 0 (queuedAt d)) (queuedAt d q)
   one-wait q h v i e =
       ap (λ (x : Wait book). x .behind)
-      (go (pairs-in (λ x y. otherAsker book (x .request) (y .request)) (waits book (stateOf p d)) v mine
-      (waits-known book (stateOf p d) (w .values) .once) i (place-waits p d q h)))
-    where
-      mine : Wait book
-      mine = record { request = queuedAt d q; behind = blockers book (entriesIn p) (slotsOf d) (tab q 0 (queuedAt d)) (queuedAt d q) }
-
-      a : ℕ
-      a = v .request .asker
-
-      b : ℕ
-      b = queuedAt d q .asker
-
-      same : a ≡ b
-      same = ap (λ (x : Queued ℕ ℕ). x .asker) e
-
-      go : (v ≡ mine) ⊎ ((not (eqb a b) ≡ true) ⊎ (not (eqb b a) ≡ true)) → v ≡ mine
-      go (inl x) = x
-      go (inr (inl x)) = absurd (eqb-false a b (not-true (eqb a b) x) same)
-      go (inr (inr x)) = absurd (eqb-false b a (not-true (eqb b a) x) (sym same))
+      (same-wait book (stateOf p d) (w .values) v _ i (place-waits p d q h) (ap (λ (x : Queued ℕ ℕ). x .asker) e))
 
   -- ---- the oldest that isn't blocked
   module _ (r : Turn) (h : OldestIs p d r) where
@@ -108,7 +81,6 @@ module _ (p d : List ℕ) (w : Whole p d) where
       picked = chosen-is d (oldest book (stateOf p d)) (placeIn r) (h .chosen) (x .place) (ap placeIn e)
 
       pub next-clear : A.Clear p d (x .place)
-      unfolding oldest
       next-clear =
           let v = picked in
           let l = next-known .inside in
@@ -116,12 +88,12 @@ module _ (p d : List ℕ) (w : Whole p d) where
             inside = l;
             nobody =
                 sym (one-wait (x .place) l (v .0) (oldest-waits book (stateOf p d) (v .0) (v .1)) (v .2))
-                ∙ nil-is (v .0 .behind) (first-in (λ y. isNil (y .behind)) (waits book (stateOf p d)) (v .0) (v .1) .1);
+                ∙ oldest-free book (stateOf p d) (v .0) (v .1);
           }
 
-      pub turned-ran : (p′ d′ : List ℕ) (a : Answer) → A.Ran p d p′ d′ (x .place) a → Turns p d p′ d′ (Said a)
+      pub turned-ran : (p′ d′ : List ℕ) (a : Answer) → A.Ran p d p′ d′ (x .place) a → (row : List ℕ) → Turns p d p′ d′ row (Said a)
       unfolding turn A.ranAt
-      turned-ran p′ d′ a ran =
+      turned-ran p′ d′ a ran row =
           let s = stateOf p d in
           let v = picked in
           record {
@@ -131,6 +103,7 @@ module _ (p d : List ℕ) (w : Whole p d) where
                 ∙ ap (λ y. some (left book s y (run book s y))) (v .2)
                 ∙ ap₂ (λ y z. some (record { state = y; answer = z })) (sym (ran .says .state)) (sym (ran .answer));
             still = tt;
+            rows = tt;
           }
 
   -- ---- none of them; the newest on a circle
@@ -139,9 +112,9 @@ module _ (p d : List ℕ) (w : Whole p d) where
     unfolding turn
     blocked = ap (served book (stateOf p d)) nobody
 
-    pub turned-way : (q : ℕ) → l ≡ At q → (d′ : List ℕ) (a : Answer) → GaveWay p d d′ q a → Turns p d p d′ (Said a)
+    pub turned-way : (q : ℕ) → l ≡ At q → (d′ : List ℕ) (a : Answer) → GaveWay p d d′ q a → (row : List ℕ) → Turns p d p d′ row (Said a)
     unfolding wayAt
-    turned-way q e d′ a gave =
+    turned-way q e d′ a gave row =
         let s = stateOf p d in
         let v = chosen-is d (newest book s) l k q e in
         record {
@@ -152,11 +125,17 @@ module _ (p d : List ℕ) (w : Whole p d) where
               ∙ ap (λ x. some (left book s x (unmoved book s circle))) (v .2)
               ∙ ap₂ (λ x y. some (record { state = x; answer = y })) (sym (gave .says .state)) (sym (gave .answer));
           still = tt;
+          rows = tt;
         }
 
-    pub turned-rest : l ≡ Nowhere → Turns p d p d Rest
-    turned-rest e =
-        record { whole = w; turned = blocked ∙ ap (refused book (stateOf p d)) (chosen-none d (newest book (stateOf p d)) l k e); still = refl }
+    pub turned-rest : l ≡ Nowhere → (row : List ℕ) → Rows p d row → Turns p d p d row Rest
+    turned-rest e row r =
+        record {
+          whole = w;
+          turned = blocked ∙ ap (refused book (stateOf p d)) (chosen-none d (newest book (stateOf p d)) l k e);
+          still = refl;
+          rows = r;
+        }
 
   -- ---- a request that gives way
   pub place-high : (q : ℕ) → q < queued d → inPlace d q ≤ transactionsMost

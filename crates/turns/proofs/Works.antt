@@ -7,7 +7,8 @@ use mathlib.Core.Option.{some}
 use native.Mathlib.Omega.{arith}
 use lib.ListN.{length}
 use Rattle.limits.specs.Limits.{answerSize}
-use Rattle.rules.specs.Runs.{Worked, turn}
+use Rattle.rules.specs.Queue.{St}
+use Rattle.rules.specs.Runs.{Worked, turn, AtRest}
 use Rattle.rules.proofs.Rest.{turn-takes-one, worked-turn, worked-done}
 use Rattle.answers.specs.declared.Answer.{Answer}
 use Rattle.answers.specs.AnswerMeaning.{bookAnswer}
@@ -19,10 +20,10 @@ use Rattle.states.specs.States.{book, stateOf}
 use Rattle.states.specs.Whole.{Whole}
 use Rattle.turns.specs.declared.Turned.{Turned}
 use Rattle.turns.specs.declared.Turned.the-variants.{Said, Rest}
-use Rattle.turns.specs.Working.{Wrote, workedOf, bookTurn, StillAt, Turns}
+use Rattle.turns.specs.Working.{Wrote, workedOf, Rested, RoomLeft, bookTurn, StillAt, RowsAt, Turns}
 
 -- ---- a turn takes one request off the queue
-module _ (p d p′ d′ : List ℕ) (w : Whole p d) (x : Turned) (h : Turns p d p′ d′ x) (a : Answer) (e : x ≡ Said a) where
+module _ (p d p′ d′ row : List ℕ) (w : Whole p d) (x : Turned) (h : Turns p d p′ d′ row x) (a : Answer) (e : x ≡ Said a) where
   turn-is : turn book (stateOf p d) ≡ some (record { state = stateOf p′ d′; answer = bookAnswer a })
   turn-is = subst (λ y. turn book (stateOf p d) ≡ bookTurn (stateOf p′ d′) y) e (h .turned)
 
@@ -47,11 +48,11 @@ pub record Left (p₀ d₀ o₀ : List ℕ) (from : ℕ) (p d o : List ℕ) (end
 pub left-start : (p d o : List ℕ) (from : ℕ) → Whole p d → from + answerSize * queued d ≤ length o → Left p d o from p d o from
 left-start p d o from w h = record { whole = w; room = h; pages = refl; desk = refl; space = refl; state = refl; answers = refl; ends = refl }
 
-module _ (p₀ d₀ o₀ : List ℕ) (from : ℕ) (p d o : List ℕ) (end : ℕ) (l : Left p₀ d₀ o₀ from p d o end) (p′ d′ : List ℕ) (x : Turned)
-    (h : Turns p d p′ d′ x) where
+module _ (p₀ d₀ o₀ : List ℕ) (from : ℕ) (p d o : List ℕ) (end : ℕ) (l : Left p₀ d₀ o₀ from p d o end) (p′ d′ row : List ℕ) (x : Turned)
+    (h : Turns p d p′ d′ row x) where
   module _ (a : Answer) (e : x ≡ Said a) where
     one : suc (queued d′) ≡ queued d
-    one = takes-one p d p′ d′ (l .whole) x h a e
+    one = takes-one p d p′ d′ row (l .whole) x h a e
 
     pub left-room : end + answerSize ≤ length o
     left-room = let r = l .room in omega (arith, one)
@@ -62,7 +63,7 @@ module _ (p₀ d₀ o₀ : List ℕ) (from : ℕ) (p d o : List ℕ) (end : ℕ)
     pub left-turn : (o′ : List ℕ) → o′ ≡ putAnswer o end (bookAnswer a) → Left p₀ d₀ o₀ from p′ d′ o′ (end + answerSize)
     unfolding written
     left-turn o′ k =
-        let on = goes-on p d p′ d′ (l .whole) x h a e in
+        let on = goes-on p d p′ d′ row (l .whole) x h a e in
         let n : length (workedOf p d .answers) ≡ suc (length (workedOf p′ d′ .answers)) = ap (λ (y : Worked book). length (y .answers)) on in
         let z : length o′ ≡ length o = ap length k ∙ length-putAnswer o end (bookAnswer a) in
         record {
@@ -79,6 +80,9 @@ module _ (p₀ d₀ o₀ : List ℕ) (from : ℕ) (p d o : List ℕ) (end : ℕ)
         }
 
   module _ (e : x ≡ Rest) where
+    still : stateOf p′ d′ ≡ stateOf p d
+    still = subst (λ y. StillAt y (stateOf p d) (stateOf p′ d′)) e (h .still)
+
     pub left-done : Wrote o₀ from (workedOf p₀ d₀) p′ d′ o end
     unfolding written
     left-done =
@@ -87,13 +91,23 @@ module _ (p₀ d₀ o₀ : List ℕ) (from : ℕ) (p d o : List ℕ) (end : ℕ)
         record {
           says = record {
             whole = h .whole;
-            state =
-                subst (λ y. StillAt y (stateOf p d) (stateOf p′ d′)) e (h .still)
-                ∙ sym (l .state ∙ ap (λ (y : Worked book). y .state) rests);
+            state = still ∙ sym (l .state ∙ ap (λ (y : Worked book). y .state) rests);
           };
           answers = sym (l .answers ∙ ap (λ (y : Worked book). written o end (y .answers)) rests);
           ends = let m = l .ends in omega (arith, n);
         }
+
+    pub left-rests : Rested p′ d′ row
+    left-rests = record {
+      rest = subst (AtRest book) (sym still) (subst (λ y. turn book (stateOf p d) ≡ bookTurn (stateOf p′ d′) y) e (h .turned));
+      rows = subst (λ y. RowsAt y p′ d′ row) e (h .rows);
+    }
+
+    pub left-space : RoomLeft d′ o end
+    unfolding stateOf
+    left-space =
+        let r = l .room in
+        record { room = omega (arith, sym (length-queue d′) ∙ ap (λ (s : St book). length (s .queue)) still ∙ length-queue d) }
 
     pub left-pages : length p′ ≡ length p₀
     left-pages = h .whole .pages .size ∙ sym (l .whole .pages .size) ∙ l .pages

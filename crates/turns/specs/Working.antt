@@ -1,18 +1,19 @@
 -- What is left, and written, where the queue is worked: a turn, and the queue at rest. Not for readers of the promises. Assumes nothing.
-use Prim.Native.Nat.{ℕ, _+_, _*_}
+use Prim.Native.Nat.{ℕ, _+_, _*_, _≤_}
 use mathlib.Core.Path.{_≡_}
 use mathlib.Core.List.{List}
 use mathlib.Core.Option.{Option, none, some}
 use lib.ListN.{length}
 use Rattle.limits.specs.Limits.{answerSize}
 use Rattle.rules.specs.Queue.{St}
-use Rattle.rules.specs.Runs.{circle, unmoved, left, Turn, turn, Worked, worked}
+use Rattle.rules.specs.Runs.{circle, unmoved, left, Turn, turn, Worked, worked, AtRest}
 use Rattle.answers.specs.declared.Answer.{Answer}
 use Rattle.answers.specs.AnswerMeaning.{bookAnswer}
 use Rattle.answers.specs.AnswerRecord.{written}
-use Rattle.queue.specs.QueueLayout.{queuedAt}
+use Rattle.queue.specs.QueueLayout.{queued, queuedAt}
 use Rattle.states.specs.States.{book, stateOf}
 use Rattle.states.specs.Whole.{Whole, Says}
+use Rattle.waits.specs.Blocks.{Rows}
 use Rattle.turns.specs.declared.Turned.{Turned}
 use Rattle.turns.specs.declared.Turned.the-variants as TV
 
@@ -25,6 +26,15 @@ pub record Wrote (o : List ℕ) (at : ℕ) (w : Worked book) (p′ d′ o′ : L
 -- the queue worked
 abbrev pub workedOf : List ℕ → List ℕ → Worked book
 workedOf p d = worked book (stateOf p d)
+
+-- the desk at rest, with all who block each request in the row
+pub record Rested (p d row : List ℕ) : Type 0 where
+  pub rest : AtRest book (stateOf p d)
+  pub rows : Rows p d row
+
+-- behind the answers there is room for one to each that is still queued
+pub record RoomLeft (d o : List ℕ) (end : ℕ) : Type 0 where
+  pub room : end + answerSize * queued d ≤ length o
 
 -- the request at place q of the queue answered 19
 unfoldable pub wayAt : List ℕ → List ℕ → ℕ → Turn book
@@ -44,7 +54,13 @@ abbrev pub StillAt : Turned → St book → St book → Type 0
 StillAt (TV.Said a) s s′ = Unit {0}
 StillAt TV.Rest s s′ = s′ ≡ s
 
-pub record Turns (p d p′ d′ : List ℕ) (r : Turned) : Type 0 where
+-- and the row has all who block each request
+abbrev pub RowsAt : Turned → List ℕ → List ℕ → List ℕ → Type 0
+RowsAt (TV.Said a) p d row = Unit {0}
+RowsAt TV.Rest p d row = Rows p d row
+
+pub record Turns (p d p′ d′ row : List ℕ) (r : Turned) : Type 0 where
   pub whole : Whole p′ d′
   pub turned : turn book (stateOf p d) ≡ bookTurn (stateOf p′ d′) r
   pub still : StillAt r (stateOf p d) (stateOf p′ d′)
+  pub rows : RowsAt r p′ d′ row

@@ -8,8 +8,9 @@ ghost use Rattle.rules.specs.Queue.{oldest};
 ghost use Rattle.queue.specs.QueueLayout.{queued};
 ghost use Rattle.states.specs.States.{book, stateOf};
 ghost use Rattle.states.specs.Whole.{Whole};
-ghost use Rattle.waits.specs.Notes.{Noted};
-ghost use Rattle.turns.specs.Working.{GaveWay, Turns, Wrote, workedOf};
+ghost use Rattle.waits.specs.Choices.{OldestIs};
+ghost use Rattle.waits.specs.Blocks.{Rows, RowsIn};
+ghost use Rattle.turns.specs.Working.{GaveWay, Rested, RoomLeft, Turns, Wrote, workedOf};
 use answers::Answer;
 use answers::Says;
 use limits::TRANSACTIONS;
@@ -36,53 +37,65 @@ fn give_way(pages: &[u8], desk: &mut [u8], q: usize) -> Answer
     }
 }
 
-// A turn where nobody can run, and what each request wants is noted: the newest that lies on a circle gives way, or the desk is at rest.
-fn circle_turn(pages: &[u8], desk: &mut [u8], names: &[u64], modes: &[u16]) -> Turned
+// A turn where nobody can run, and the row has all who block each request: the newest that lies on a circle gives way, or the desk is at rest.
+fn circle_turn(pages: &[u8], desk: &mut [u8], row: &[u64]) -> Turned
     requires { ⌜ Whole (now pages) (now desk) ⌝ }
     requires { ⌜ oldest book (stateOf (now pages) (now desk)) ≡ none ⌝ }
-    requires { ⌜ Noted (now pages) (now desk) (now names) (now modes) (queued (now desk)) ⌝ }
-    ensures { λ r. ⌜ Turns (now (pages .entry)) (now (desk .entry)) (now (pages .entry)) (now (desk .exit)) r ⌝ }
+    requires { ⌜ Rows (now pages) (now desk) (now row) ⌝ }
+    ensures { λ r. ⌜ Turns (now (pages .entry)) (now (desk .entry)) (now (pages .entry)) (now (desk .exit)) (now (row .entry)) r ⌝ }
 {
-    let newest = waits::newest_on_circle(pages, desk, names, modes);
+    let newest = waits::newest_on_circle(pages, desk, row);
     let Place::At(q) = newest else {
         return Turned::Rest;
     };
     Turned::Said(give_way(pages, desk, q))
 }
 
-// One turn, with room to note what each request wants: the oldest that nobody blocks runs; where each is blocked, a circle is looked for.
-fn turn_noting(pages: &mut [u8], desk: &mut [u8], names: &mut [u64], modes: &mut [u16]) -> Turned
+// The oldest request that nobody blocks, with room to note what each wants. The row gets all who block each that is looked at.
+fn choose(pages: &[u8], desk: &[u8], row: &mut [u64]) -> Turn
     requires { ⌜ Whole (now pages) (now desk) ⌝ }
-    requires { do ⌜ (← ⟦names.len()⟧) ≡ transactionsMost ⌝ }
-    requires { do ⌜ (← ⟦modes.len()⟧) ≡ transactionsMost ⌝ }
-    ensures { λ r. ⌜ Turns (now (pages .entry)) (now (desk .entry)) (now (pages .exit)) (now (desk .exit)) r ⌝ }
+    requires { do ⌜ (← ⟦row.len()⟧) ≡ transactionsMost + 1 ⌝ }
+    ensures chosen { λ r. ⌜ OldestIs (now (pages .entry)) (now (desk .entry)) r ⌝ }
+    ensures rows { λ r. ⌜ RowsIn (now (pages .entry)) (now (desk .entry)) (now (row .exit)) r ⌝ }
 {
-    let oldest = waits::oldest(pages, desk, names, modes);
+    let mut names: [u64; TRANSACTIONS] = [0; TRANSACTIONS];
+    let mut modes: [u16; TRANSACTIONS] = [0; TRANSACTIONS];
+    circles::clear(row);
+    waits::oldest(pages, desk, &mut names, &mut modes, row)
+}
+
+// One turn: the oldest that nobody blocks runs; where each is blocked, a circle is looked for. At rest the row has all who block each request.
+fn turn(pages: &mut [u8], desk: &mut [u8], row: &mut [u64]) -> Turned
+    requires { ⌜ Whole (now pages) (now desk) ⌝ }
+    requires { do ⌜ (← ⟦row.len()⟧) ≡ transactionsMost + 1 ⌝ }
+    ensures { λ r. ⌜ Turns (now (pages .entry)) (now (desk .entry)) (now (pages .exit)) (now (desk .exit)) (now (row .exit)) r ⌝ }
+{
+    let oldest = choose(pages, desk, row);
     let Turn::Runs(next) = oldest else {
-        return circle_turn(pages, desk, names, modes);
+        return circle_turn(pages, desk, row);
     };
     Turned::Said(runs::run_at(pages, desk, next))
 }
 
-// One turn.
-fn turn(pages: &mut [u8], desk: &mut [u8]) -> Turned
-    requires { ⌜ Whole (now pages) (now desk) ⌝ }
-    ensures { λ r. ⌜ Turns (now (pages .entry)) (now (desk .entry)) (now (pages .exit)) (now (desk .exit)) r ⌝ }
-{
-    let mut names: [u64; TRANSACTIONS] = [0; TRANSACTIONS];
-    let mut modes: [u16; TRANSACTIONS] = [0; TRANSACTIONS];
-    turn_noting(pages, desk, &mut names, &mut modes)
-}
-
-// Works the queue to rest. The answers are written one after the other from a place on; it gives the place where they end.
-pub fn work(pages: &mut [u8], desk: &mut [u8], answers: &mut [u8], at: usize) -> usize
+// Works the queue to rest. The answers are written one after the other from a place on; it gives the place where they end. The row has then all
+// who block each request that is left, and there is room for an answer to each.
+pub fn work(
+    pages: &mut [u8],
+    desk: &mut [u8],
+    answers: &mut [u8],
+    at: usize,
+    row: &mut [u64],
+) -> usize
     requires { ⌜ Whole (now pages) (now desk) ⌝ }
     requires { ⌜ at + answerSize * queued (now desk) ≤ length (now answers) ⌝ }
-    ensures { λ r. ⌜ Wrote (now (answers .entry)) at (workedOf (now (pages .entry)) (now (desk .entry))) (now (pages .exit)) (now (desk .exit)) (now (answers .exit)) r ⌝ }
+    requires { do ⌜ (← ⟦row.len()⟧) ≡ transactionsMost + 1 ⌝ }
+    ensures wrote { λ r. ⌜ Wrote (now (answers .entry)) at (workedOf (now (pages .entry)) (now (desk .entry))) (now (pages .exit)) (now (desk .exit)) (now (answers .exit)) r ⌝ }
+    ensures rests { λ _. ⌜ Rested (now (pages .exit)) (now (desk .exit)) (now (row .exit)) ⌝ }
+    ensures room { λ r. ⌜ RoomLeft (now (desk .exit)) (now (answers .exit)) r ⌝ }
 {
     let mut end = at;
     loop {
-        let turned = turn(pages, desk);
+        let turned = turn(pages, desk, row);
         let Turned::Said(answer) = turned else {
             return end;
         };

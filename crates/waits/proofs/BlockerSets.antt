@@ -2,7 +2,7 @@
 -- Who is collected so far are the rule book's blockers of the slots, or of the places, that are passed. Assumes nothing.
 use Prim.Native.Nat.{ℕ, _+_, _≤_, _<_}
 use mathlib.Core.Path.{_≡_, refl, sym, ap, ap₂, subst, _∙_}
-use mathlib.Core.Bool.{Bool, true, false, cond, false≢true, _||_}
+use mathlib.Core.Bool.{Bool, true, false, cond, not, false≢true, _||_}
 use mathlib.Core.List.{List, [], _∷_, _++_, map, append-nil}
 use mathlib.Core.Option.{Option, none, some}
 use native.Mathlib.Omega.{arith}
@@ -15,11 +15,12 @@ use Rattle.lists.proofs.Tests.{any-append, keep-append}
 use Rattle.lists.proofs.Joins.{map-append}
 use Rattle.lists.proofs.Tables.{tab-last}
 use Rattle.rules.specs.Kinds.{Name, Mode, Lock, Queued}
+use Rattle.rules.specs.Entries.{isThere}
 use Rattle.rules.specs.Locks as K
 use Rattle.locks.specs.declared.Slot.{Slot}
 use Rattle.queue.specs.QueueLayout.{queued, inPlace, queuedAt}
 use Rattle.locks.specs.SlotLayout.{slotAt, slotsOf, bookSlot}
-use Rattle.locks.specs.SlotMoves.{isSlotOf, isSlotAgainst, heldIn}
+use Rattle.locks.specs.SlotMoves.{isSlotOf, isSlotAgainst, heldIn, freeIn}
 use Rattle.locks.proofs.Holders as H
 use Rattle.index.specs.Pictures.{entriesIn}
 use Rattle.states.specs.States.{book}
@@ -102,9 +103,10 @@ module _ (t : ℕ) (w : K.Want book) where
       rw (H.holders-next paging t w (some l) []) (set-more m us s (isSlotAgainst t (w .name) (w .mode) (some l)) (l .holder) (h l refl))
 
 module _ (d : List ℕ) (t : ℕ) (w : K.Want book) where
-  pub scan-start : Scanned d t w 0 (record { against = 0; own = 0 })
+  pub scan-start : Scanned d t w 0 (record { against = 0; own = 0; free = 0 })
   unfolding tab K.holders K.inUse keep
-  scan-start = record { against = set-none; own = place-start (isSlotOf t (w .name)) (slotAt d) }
+  scan-start =
+      record { against = set-none; own = place-start (isSlotOf t (w .name)) (slotAt d); free = place-start (λ x. not (isThere x)) (slotAt d) }
 
   pub scan-turn : (i : ℕ) (c r : Collected) (x : Slot) → HoldersKnown d → i < locksMost → bookSlot x ≡ slotAt d i
       → r ≡ collectedWith c i t w (bookSlot x) → Scanned d t w i c → Scanned d t w (i + 1) r
@@ -116,15 +118,28 @@ module _ (d : List ℕ) (t : ℕ) (w : K.Want book) where
             rw (e, ← tab-last i (slotAt d), holders-append t w (tab i 0 (slotAt d)) (slotAt d i ∷ []))
             (set-slot t w (c .against) us (s .against) (slotAt d i) (λ l q. k .each i h .low l q));
         own = place-to (isSlotOf t (w .name)) (slotAt d) i (c .own) (isSlotOf t (w .name) (bookSlot x)) (ap (isSlotOf t (w .name)) e) (s .own);
+        free = place-to (λ y. not (isThere y)) (slotAt d) i (c .free) (not (isThere (bookSlot x))) (ap (λ y. not (isThere y)) e) (s .free);
       })
 
   pub scan-end : (i : ℕ) (c : Collected) → locksMost ≤ i → i ≤ locksMost → Scanned d t w i c → Scanned d t w locksMost c
   scan-end i c h l s = let e : i ≡ locksMost = omega arith in subst (λ n. Scanned d t w n c) e s
 
-pub collected-next : (c : Collected) (i t m k : ℕ) (w : K.Want book) (x : Slot) (b : Bool) → m ≡ withHolder (c .against) t w (bookSlot x)
-    → b ≡ isSlotOf t (w .name) (bookSlot x) → k ≡ firstTo (c .own) i b
-    → _≡_ {A = Collected} (record { against = m; own = k }) (collectedWith c i t w (bookSlot x))
-collected-next c i t m k w x b e f g = ap₂ (λ y z. record { against = y; own = z }) e (g ∙ ap (firstTo (c .own) i) f)
+  module _ (c : Collected) (s : Scanned d t w locksMost c) where
+    pub scanned-own : c .own ≡ heldIn d t (w .name)
+    unfolding heldIn slotsOf
+    scanned-own = s .own
+
+    pub scanned-free : c .free ≡ freeIn d
+    unfolding freeIn slotsOf
+    scanned-free = s .free
+
+pub collected-next : (c : Collected) (i t m k j : ℕ) (w : K.Want book) (x : Slot) (a b : Bool) → m ≡ withHolder (c .against) t w (bookSlot x)
+    → a ≡ isSlotOf t (w .name) (bookSlot x) → k ≡ firstTo (c .own) i a → b ≡ not (isThere (bookSlot x)) → j ≡ firstTo (c .free) i b
+    → _≡_ {A = Collected} (record { against = m; own = k; free = j }) (collectedWith c i t w (bookSlot x))
+collected-next c i t m k j w x a b e f g h l =
+    ap₂ (λ y z. record { against = y; own = z; free = j }) e (g ∙ ap (firstTo (c .own) i) f)
+    ∙ ap (λ z. record { against = withHolder (c .against) t w (bookSlot x); own = firstTo (c .own) i (isSlotOf t (w .name) (bookSlot x)); free = z })
+    (l ∙ ap (firstTo (c .free) i) h)
 
 -- ---- the earlier ones, place by place
 module _ (p d : List ℕ) (t : ℕ) (w : Want) where
@@ -183,12 +198,8 @@ module _ (p d : List ℕ) (q : ℕ) (w : Want) (k : WantAt p d q w) (c : Collect
   unfolding slotsOf
   collected = s .against
 
-  own-is : c .own ≡ heldIn d t (bookWant w .name)
-  unfolding heldIn slotsOf
-  own-is = s .own
-
   blockers-by : (b : Bool) → ltb (c .own) locksMost ≡ b → blockersAt p d q ≡ holders ++ cond b [] waiting
-  blockers-by b h = blockers-are p d q w k ∙ ap (λ x. holders ++ cond x [] waiting) (holds-by d t (c .own) (bookWant w .name) own-is ∙ h)
+  blockers-by b h = blockers-are p d q w k ∙ ap (λ x. holders ++ cond x [] waiting) (holds-by d t (c .own) (bookWant w .name) (scanned-own d t (bookWant w) c s) ∙ h)
 
   pub blockers-held : c .own < locksMost → SetOf (c .against) (blockersAt p d q)
   blockers-held h = rw (blockers-by true (lt-ltb (c .own) locksMost h), append-nil) collected

@@ -6,3 +6,4 @@ pub mod Blocks
 pub mod Queue
 pub mod BlockerSets
 pub mod WaitRows
+pub mod OldestTurns

@@ -11,16 +11,13 @@ use lib.ListN.{length, getD, set, length-set}
 use lib.Seq.{getD-set-same, getD-set-other}
 use Rattle.limits.specs.Limits.{transactionsMost}
 use Rattle.locks.specs.declared.Mode.{Mode}
-use Rattle.queue.specs.QueueLayout.{queued, inPlace}
+use Rattle.queue.specs.QueueLayout.{inPlace}
 use Rattle.locks.specs.SlotLayout.{nameIn, modeIn, modeNumber, bookMode}
 use Rattle.locks.proofs.SlotBack.{mode-there}
 use Rattle.waits.specs.declared.Want.{Want}
 use Rattle.waits.specs.declared.Looked.{Looked}
-use Rattle.waits.specs.declared.Next.{Next}
-use Rattle.waits.specs.declared.Turn.{Turn}
-use Rattle.waits.specs.declared.Turn.the-variants.{Runs, Nobody}
 use Rattle.waits.specs.Blocks.{wantedAt, WantAt}
-use Rattle.waits.specs.Notes.{notedAt, Noted, LookedAt, NotedIn}
+use Rattle.waits.specs.Notes.{notedAt, Noted, LookedAt}
 
 module _ (p d ns ms : List ℕ) where
   pub noted-none : length ns ≡ transactionsMost → length ms ≡ transactionsMost → Noted p d ns ms 0
@@ -32,9 +29,6 @@ module _ (p d ns ms : List ℕ) where
 
   pub noted-to : (q : ℕ) → Noted p d ns ms (q + 1) → (i : ℕ) → i < q → Noted p d ns ms (i + 1)
   noted-to q k i h = fewer (q + 1) k (i + 1) (omega arith)
-
-  pub noted-queued : (n : ℕ) → Noted p d ns ms (queued d) → n ≡ queued d → (q : ℕ) → q < n → Noted p d ns ms (q + 1)
-  noted-queued n k e q h = fewer (queued d) k (q + 1) (omega arith)
 
   -- ---- one more
 
@@ -75,9 +69,10 @@ module _ (p d ns ms : List ℕ) where
     pub modes-same : length ms ≡ length ys
     modes-same = k .noted .modes ∙ sym (h .modes)
 
-  -- ---- where nobody can run
-  pub noted-all : (n q : ℕ) (turn : Turn) → n ≡ queued d → n ≤ q → q ≤ n → Noted p d ns ms q → turn ≡ Nobody → NotedIn p d ns ms turn
-  noted-all n q turn e h l k t = let s : q ≡ queued d = omega arith in rw t (subst (Noted p d ns ms) s k)
+  -- ---- what is known of a request that has been looked at
+  module _ (q : ℕ) (g : Looked) (k : LookedAt p d ns ms q g) where
+    pub looked-noted : Noted p d ns ms (q + 1)
+    looked-noted = k .noted
 
-  pub noted-runs : (turn : Turn) (x : Next) → turn ≡ Runs x → NotedIn p d ns ms turn
-  noted-runs turn x e = rw e tt
+    pub looked-want : WantAt p d q (g .want)
+    looked-want = k .want

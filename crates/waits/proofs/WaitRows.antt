@@ -8,7 +8,7 @@ use mathlib.Core.List.{List, [], _∷_, _++_, append-assoc, append-nil}
 use mathlib.Core.Option.{Option, none, some}
 use native.Mathlib.Nat.{sub-zero, zero-add}
 use native.Mathlib.Omega.{arith}
-use lib.ListN.{length, set, replicate}
+use lib.ListN.{length, set, replicate, length-set, length-replicate}
 use Rattle.limits.specs.Limits.{transactionsMost}
 use Rattle.lists.specs.Lists.{In, last, pairs, tab}
 use Rattle.lists.proofs.Tables.{tab-append, tab-next}
@@ -30,7 +30,11 @@ use Rattle.circles.proofs.Links.{circle-is}
 use Rattle.circles.proofs.Collected.{row-none, row-queued}
 use Rattle.waits.specs.declared.Place.the-variants.{At, Nowhere}
 use Rattle.waits.specs.Choices.{Chosen}
-use Rattle.waits.specs.Blocks.{ahead, blockersAt, Rows}
+use Rattle.waits.specs.declared.Want.{Want}
+use Rattle.waits.specs.declared.Next.{Next}
+use Rattle.waits.specs.declared.Turn.{Turn}
+use Rattle.waits.specs.declared.Turn.the-variants.{Runs, Nobody}
+use Rattle.waits.specs.Blocks.{ahead, WantAt, blockersAt, waitsTo, RowTo, Rows, RowsIn}
 use Rattle.waits.proofs.QueueKnown.{whole-order}
 use Rattle.waits.proofs.Queue.{waitAt, ahead-next}
 
@@ -52,10 +56,6 @@ queue-split d q h =
     ∙ ap (λ k. tab q 0 (queuedAt d) ++ tab (queued d - q) k (queuedAt d)) (zero-add q)
     ∙ ap (λ xs. tab q 0 (queuedAt d) ++ xs) (tab-next (queued d) q (queuedAt d) h)
 
--- the waits of the places before q
-unfoldable pub waitsTo : List ℕ → List ℕ → ℕ → List (Wait book)
-waitsTo p d q = waitsFrom book (entriesIn p) (slotsOf d) [] (ahead d q)
-
 module _ (p d : List ℕ) where
   waits-next : (q : ℕ) → waitsTo p d (q + 1) ≡ waitsTo p d q ++ (waitAt p d q ∷ [])
   unfolding waitsTo waitsFrom blockersAt
@@ -66,7 +66,7 @@ module _ (p d : List ℕ) where
   unfolding waitsTo waits stateOf queueOf ahead
   waits-all = refl
 
-  wait-in : (q : ℕ) → q < queued d → In (waitAt p d q) (waits book (stateOf p d))
+  pub wait-in : (q : ℕ) → q < queued d → In (waitAt p d q) (waits book (stateOf p d))
   unfolding waits stateOf waitsFrom blockersAt
   wait-in q h =
       let rest = tab (queued d - (q + 1)) (q + 1) (queuedAt d) in
@@ -75,25 +75,38 @@ module _ (p d : List ℕ) where
       (in-right (waitsFrom book (entriesIn p) (slotsOf d) [] (ahead d q)) (waitsFrom book (entriesIn p) (slotsOf d) (ahead d q) (queuedAt d q ∷ rest)) (waitAt p d q) (inl refl))
 
   -- ---- the rows
-  pub rows-start : RowOf book (replicate (transactionsMost + 1) 0) (waitsTo p d 0)
+  pub rows-start : (row row₀ : List ℕ) → length row₀ ≡ transactionsMost + 1 → row ≡ replicate (length row₀) 0 → RowTo p d row 0
   unfolding waitsTo waitsFrom ahead tab
-  rows-start = row-none book (transactionsMost + 1)
+  rows-start row row₀ h e = rw e (record { long = length-replicate (length row₀) 0 ∙ h; links = row-none book (length row₀) })
 
-  pub rows-turn : (row : List ℕ) (n q t m : ℕ) → Whole p d → n ≡ queued d → q < n → t ≡ inPlace d q → SetOf m (blockersAt p d q) → length row ≡ transactionsMost + 1
-      → RowOf book row (waitsTo p d q) → RowOf book (set row t m) (waitsTo p d (q + 1))
+  rows-turn : (row : List ℕ) (q m : ℕ) → Whole p d → q < queued d → SetOf m (blockersAt p d q) → length row ≡ transactionsMost + 1
+      → RowOf book row (waitsTo p d q) → RowOf book (set row (inPlace d q) m) (waitsTo p d (q + 1))
   unfolding waitsTo blockersAt queuedAt stateOf
-  rows-turn row n q t m k e h a s l r =
-      let there : q < queued d = omega arith in
+  rows-turn row q m k there s l r =
       let differ : pairs (otherAsker book) (ahead d q ++ (queuedAt d q ∷ tab (queued d - (q + 1)) (q + 1) (queuedAt d))) ≡ true =
       subst (λ qs. pairs (otherAsker book) qs ≡ true) (queue-split d q there) (k .values .askers) in
       let low : inPlace d q < length row = omega (arith, whole-order p d k .to q there) in
-      rw (a, ← ahead-next d q)
+      rw (← ahead-next d q)
       (row-queued book (entriesIn p) (slotsOf d) (ahead d q) (queuedAt d q) (tab (queued d - (q + 1)) (q + 1) (queuedAt d)) row m differ low s r)
 
-  pub rows-end : (row : List ℕ) (n q : ℕ) → n ≡ queued d → n ≤ q → q ≤ n → length row ≡ transactionsMost + 1 → RowOf book row (waitsTo p d q) → Rows p d row
-  rows-end row n q e h l s r =
+  module _ (row : List ℕ) (q t : ℕ) (v : Want) (k : Whole p d) (h : q < queued d) (x : WantAt p d q v) (a : t ≡ v .asker) (r : RowTo p d row q) where
+    pub asker-in : t < length row
+    asker-in = omega (arith, r .long, whole-order p d k .to q h, x .asker)
+
+    pub rows-next : (m : ℕ) → SetOf m (blockersAt p d q) → RowTo p d (set row t m) (q + 1)
+    rows-next m s =
+        record {
+          long = length-set row t m ∙ r .long;
+          links = subst (λ u. RowOf book (set row u m) (waitsTo p d (q + 1))) (sym (a ∙ x .asker)) (rows-turn row q m k h s (r .long) (r .links));
+        }
+
+  pub rows-end : (row : List ℕ) (n q : ℕ) (turn : Turn) → n ≡ queued d → n ≤ q → q ≤ n → RowTo p d row q → turn ≡ Nobody → RowsIn p d row turn
+  rows-end row n q turn e h l r f =
       let same : q ≡ queued d = omega arith in
-      record { long = s; links = subst (RowOf book row) (ap (waitsTo p d) same ∙ waits-all) r }
+      rw f (record { long = r .long; links = subst (RowOf book row) (ap (waitsTo p d) same ∙ waits-all) (r .links) })
+
+  pub rows-left : (row : List ℕ) (turn : Turn) (x : Next) → turn ≡ Runs x → RowsIn p d row turn
+  rows-left row turn x e = rw e tt
 
   -- ---- from the last place down
   abbrev onOne : Wait book → Bool

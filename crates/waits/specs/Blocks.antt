@@ -1,16 +1,17 @@
--- The queue at one of its places: who is ahead, who blocks the request there, and whether it is behind another's. Assumes nothing.
+-- The queue at one of its places: who is ahead, and who blocks the request there. Assumes nothing.
 use Prim.Native.Nat.{ℕ, _+_, _≤_, _<_}
 use mathlib.Core.Path.{_≡_}
-use mathlib.Core.Bool.{Bool, cond, not, _&&_}
-use mathlib.Core.List.{List}
+use mathlib.Core.Bool.{Bool, true, cond, not, _&&_}
+use mathlib.Core.List.{List, []}
 use mathlib.Core.Option.{Option, none, some}
 use lib.Dec.{eqb}
 use lib.ListN.{length}
 use Rattle.limits.specs.Limits.{transactionsMost, locksMost}
-use Rattle.lists.specs.Lists.{any, tab}
+use Rattle.lists.specs.Lists.{lowest, tab}
 use Rattle.rules.specs.Kinds.{Entry, Queued, Lock}
+use Rattle.rules.specs.Entries.{isThere}
 use Rattle.rules.specs.Locks as K
-use Rattle.rules.specs.Queue.{waits}
+use Rattle.rules.specs.Queue.{Wait, waitsFrom, waits}
 use Rattle.queue.specs.QueueLayout.{inPlace, queuedAt}
 use Rattle.locks.specs.SlotLayout.{slotAt, slotsOf}
 use Rattle.locks.specs.SlotMoves.{isSlotAgainst}
@@ -19,7 +20,10 @@ use Rattle.states.specs.States.{book, stateOf}
 use Rattle.circles.specs.CircleSets.{RowOf}
 use Rattle.circles.specs.Search.{withOne}
 use Rattle.waits.specs.declared.Want.{Want}
-use Rattle.waits.specs.Choices.{bookWant}
+use Rattle.waits.specs.declared.Next.{Next}
+use Rattle.waits.specs.declared.Turn.{Turn}
+use Rattle.waits.specs.declared.Turn.the-variants.{Runs, Nobody}
+use Rattle.waits.specs.Choices.{bookWant, Known}
 
 -- the target of the request at a place, and what it wants
 abbrev pub targetAt : List ℕ → List ℕ → ℕ → Option (Entry ℕ ℕ)
@@ -44,10 +48,6 @@ blockersAt p d q = K.blockers book (entriesIn p) (slotsOf d) (ahead d q) (queued
 abbrev pub isRival : List ℕ → ℕ → K.Want book → Queued ℕ ℕ → Bool
 isRival p t w x = not (eqb (x .asker) t) && K.clash book (K.wanted book (entriesIn p) x) w
 
--- "or if T holds no lock on it and U has an earlier waiting request with the same target and a conflicting mode"
-unfoldable pub isBehind : List ℕ → List ℕ → ℕ → ℕ → K.Want book → Bool
-isBehind p d q t w = not (K.holds book (slotsOf d) t (w .name)) && any (isRival p t w) (ahead d q)
-
 -- a lock's holder is a transaction; every lock's is
 pub record HolderKnown (x : Option (Lock ℕ)) : Type 0 where
   pub low : (l : Lock ℕ) → x ≡ some l → 1 ≤ l .holder
@@ -68,7 +68,30 @@ withHolder m t w x = cond (isSlotAgainst t (w .name) (w .mode) x) (withOne m (ho
 abbrev pub withRival : ℕ → List ℕ → ℕ → K.Want book → Queued ℕ ℕ → ℕ
 withRival m p t w x = cond (isRival p t w x) (withOne m (x .asker)) m
 
+-- the waits of the places before q, and for each transaction, at its number, all who block its request where it stands at one of them
+unfoldable pub waitsTo : List ℕ → List ℕ → ℕ → List (Wait book)
+waitsTo p d q = waitsFrom book (entriesIn p) (slotsOf d) [] (ahead d q)
+
+pub record RowTo (p d row : List ℕ) (q : ℕ) : Type 0 where
+  pub long : length row ≡ transactionsMost + 1
+  pub links : RowOf book row (waitsTo p d q)
+
+-- the turn of the request at a place: it runs where nobody is in its way, and what is known of it is said
+pub record RunsAt (p d : List ℕ) (q : ℕ) (x : Next) : Type 0 where
+  pub place : x .place ≡ q
+  pub nobody : lowest (blockersAt p d q) ≡ none
+  pub known : Known p d x
+
+abbrev pub TurnAt : List ℕ → List ℕ → ℕ → Turn → Type 0
+TurnAt p d q (Runs x) = RunsAt p d q x
+TurnAt p d q Nobody = isThere (lowest (blockersAt p d q)) ≡ true
+
 -- for each transaction, at its number, all who block its queued request
 pub record Rows (p d row : List ℕ) : Type 0 where
   pub long : length row ≡ transactionsMost + 1
   pub links : RowOf book row (waits book (stateOf p d))
+
+-- all of them, where nobody can run
+abbrev pub RowsIn : List ℕ → List ℕ → List ℕ → Turn → Type 0
+RowsIn p d row (Runs x) = Unit {0}
+RowsIn p d row Nobody = Rows p d row

@@ -2,7 +2,7 @@
 // (Document 01, "Locks".) What each request wants is noted.
 ghost use mathlib.Core.Path.{_≡_};
 ghost use Prim.Native.Nat.{_+_, _<_};
-ghost use Rattle.limits.specs.Limits.{locksMost, deskSize};
+ghost use Rattle.limits.specs.Limits.{locksMost};
 ghost use Rattle.rules.specs.Locks.{earlier};
 ghost use Rattle.queue.specs.QueueLayout.{queued, queuedAt};
 ghost use Rattle.locks.specs.SlotLayout.{bookSlot};
@@ -11,7 +11,7 @@ ghost use Rattle.states.specs.States.{book};
 ghost use Rattle.states.specs.Whole.{Whole};
 ghost use Rattle.circles.specs.CircleSets.{SetOf};
 ghost use Rattle.waits.specs.Choices.{bookWant};
-ghost use Rattle.waits.specs.Blocks.{ahead, blockersAt, isRival, HolderKnown, HoldersKnown, holderOf, withHolder, withRival};
+ghost use Rattle.waits.specs.Blocks.{ahead, WantAt, blockersAt, isRival, HolderKnown, holderOf, withHolder, withRival};
 ghost use Rattle.waits.specs.Notes.{Noted};
 ghost use Rattle.waits.specs.Slots.{collectedWith, Scanned};
 use super::Collected;
@@ -51,23 +51,19 @@ fn collected_with(held: Collected, i: usize, slot: Slot, w: Want) -> Collected
     Collected {
         against: with_holder(held.against, slot, w),
         own: slots::first_to(held.own, i, slots::is_own(slot, w)),
+        free: slots::first_to(held.free, i, slot.is_free()),
     }
 }
 
-// Who holds what is wanted, in a conflicting mode, and the slot of the asker's own lock on it.
-fn scan(desk: &[u8], w: Want) -> Collected
-    requires { do ⌜ (← ⟦desk.len()⟧) ≡ deskSize ⌝ }
-    requires { ⌜ HoldersKnown (now desk) ⌝ }
-    ensures { λ r. ⌜ Scanned (now (desk .entry)) (w .asker) (bookWant w) locksMost r ⌝ }
+// Looks at slot i, where those before it have been looked at.
+pub fn see(pages: &[u8], desk: &[u8], i: usize, w: Want, held: Collected) -> Collected
+    requires { ⌜ Whole (now pages) (now desk) ⌝ }
+    requires { ⌜ i < locksMost ⌝ }
+    requires { ⌜ Scanned (now desk) (w .asker) (bookWant w) i held ⌝ }
+    ensures { λ r. ⌜ Scanned (now (desk .entry)) (w .asker) (bookWant w) (i + 1) r ⌝ }
 {
-    let mut held = Collected { against: 0, own: 0 };
-    let mut i: usize = 0;
-    while i < LOCKS {
-        let slot = locks::slot_at(desk, i);
-        held = collected_with(held, i, slot, w);
-        i += 1;
-    }
-    held
+    let slot = locks::slot_at(desk, i);
+    collected_with(held, i, slot, w)
 }
 
 // Whether the request at place i, whose want is noted, is another's and wants the same, in a conflicting mode.
@@ -117,15 +113,23 @@ fn rivals_of(pages: &[u8], desk: &[u8], names: &[u64], modes: &[u16], q: usize, 
     set
 }
 
-// All who block the request at place q.
-pub fn blockers_of(pages: &[u8], desk: &[u8], names: &[u64], modes: &[u16], q: usize) -> u64
+// All who block the request at place q, which wants this, where all slots have been looked at and the wants are noted.
+pub fn blockers_of(
+    pages: &[u8],
+    desk: &[u8],
+    names: &[u64],
+    modes: &[u16],
+    q: usize,
+    w: Want,
+    held: Collected,
+) -> u64
     requires { ⌜ Whole (now pages) (now desk) ⌝ }
     requires { ⌜ q < queued (now desk) ⌝ }
     requires { ⌜ Noted (now pages) (now desk) (now names) (now modes) (q + 1) ⌝ }
+    requires { ⌜ WantAt (now pages) (now desk) q w ⌝ }
+    requires { ⌜ Scanned (now desk) (w .asker) (bookWant w) locksMost held ⌝ }
     ensures { λ r. ⌜ SetOf r (blockersAt (now (pages .entry)) (now (desk .entry)) q) ⌝ }
 {
-    let w = notes::noted_at(pages, desk, names, modes, q);
-    let held = scan(desk, w);
     if held.own < LOCKS {
         return held.against;
     }

@@ -61,24 +61,12 @@ struct Looked {
     want: Want,
 }
 
-// The slots that a scan of the lock table has seen: the first with the asker's own lock on what it wants, and the first that is free.
-// Where there is no such slot, it is the number of those seen.
-struct Seen {
-    own: usize,
-    free: usize,
-}
-
-// What a scan of the lock table comes upon: a lock that stands against the asker, or what it has seen so far.
-enum Sight {
-    Against,
-    Clear(Seen),
-}
-
-// What a scan of the lock table has collected: who stands against the asker, as a set, and the first slot with the asker's own lock on what
-// it wants, or the number of those seen.
+// What a scan of the lock table has collected: who stands against the asker, as a set, the first slot with the asker's own lock on what it
+// wants, and the first that is free. Where there is no such slot, it is the number of those seen.
 struct Collected {
     against: u64,
     own: usize,
+    free: usize,
 }
 
 // Whose turn it is: the oldest request that nobody blocks.

@@ -1,13 +1,11 @@
 // One scan of the lock table tells a request all that it needs of the locks, a slot at a time. (Document 01, "Locks".)
 ghost use mathlib.Core.Path.{_≡_};
 ghost use Prim.Native.Nat.{_<_};
-ghost use Rattle.limits.specs.Limits.{locksMost, deskSize};
+ghost use Rattle.limits.specs.Limits.{locksMost};
 ghost use Rattle.locks.specs.SlotLayout.{bookSlot};
 ghost use Rattle.locks.specs.SlotMoves.{isSlotOf, isSlotAgainst};
 ghost use Rattle.waits.specs.Choices.{bookWant};
-ghost use Rattle.waits.specs.Slots.{firstTo, seenWith, SeenTo, SightAt};
-use super::Seen;
-use super::Sight;
+ghost use Rattle.waits.specs.Slots.{firstTo};
 use super::Want;
 use locks::Slot;
 
@@ -38,29 +36,4 @@ pub fn first_to(first: usize, i: usize, passes: bool) -> usize
         return i + 1;
     }
     first
-}
-
-// What has been seen, with slot i.
-fn seen_with(seen: Seen, i: usize, slot: Slot, w: Want) -> Seen
-    requires { ⌜ i < locksMost ⌝ }
-    ensures { λ r. ⌜ r ≡ seenWith seen i (w .asker) (bookWant w .name) (bookSlot slot) ⌝ }
-{
-    Seen {
-        own: first_to(seen.own, i, is_own(slot, w)),
-        free: first_to(seen.free, i, slot.is_free()),
-    }
-}
-
-// Looks at slot i, where none before it stands against the asker.
-pub fn see(desk: &[u8], i: usize, w: Want, seen: Seen) -> Sight
-    requires { do ⌜ (← ⟦desk.len()⟧) ≡ deskSize ⌝ }
-    requires { ⌜ i < locksMost ⌝ }
-    requires { ⌜ SeenTo (now desk) (w .asker) (bookWant w) i seen ⌝ }
-    ensures { λ r. ⌜ SightAt (now (desk .entry)) (w .asker) (bookWant w) i r ⌝ }
-{
-    let slot = locks::slot_at(desk, i);
-    if is_against(slot, w) {
-        return Sight::Against;
-    }
-    Sight::Clear(seen_with(seen, i, slot, w))
 }

@@ -70,6 +70,8 @@ text { font: 13px 'DejaVu Sans Mono', 'SFMono-Regular', Menlo, Consolas, monospa
 .badge { fill: #33414f; }
 .arrow { fill: none; stroke: #8a4fc0; stroke-width: 2; }
 .tip { fill: #8a4fc0; }
+.arrow.dashed { stroke: #a67ccf; stroke-width: 1.5; stroke-dasharray: 4 4; }
+.tip.dashed { fill: #a67ccf; }
 ";
 
 impl Canvas {
@@ -119,13 +121,17 @@ impl Canvas {
     }
 
     /// An arrow along a path, its tip pointing left or down to the path's end.
-    pub fn arrow(&mut self, path: &str, (x, y): (i32, i32), tip: Tip) {
-        self.path("arrow", path);
+    pub fn arrow(&mut self, stroke: Stroke, path: &str, (x, y): (i32, i32), tip: Tip) {
+        let (line, head) = match stroke {
+            Stroke::Full => ("arrow", "tip"),
+            Stroke::Dashed => ("arrow dashed", "tip dashed"),
+        };
+        self.path(line, path);
         let (one, two) = match tip {
             Tip::Left => ((x + 10, y - 5), (x + 10, y + 5)),
             Tip::Down => ((x - 5, y - 9), (x + 5, y - 9)),
         };
-        self.path("tip", &format!("M{x} {y}L{} {}L{} {}Z", one.0, one.1, two.0, two.1));
+        self.path(head, &format!("M{x} {y}L{} {}L{} {}Z", one.0, one.1, two.0, two.1));
     }
 
     /// Adds another drawing, so far down.
@@ -146,6 +152,12 @@ impl Canvas {
             self.elements
         )
     }
+}
+
+/// How an arrow is drawn: strong, or pale.
+pub enum Stroke {
+    Full,
+    Dashed,
 }
 
 /// Where an arrow's tip points.

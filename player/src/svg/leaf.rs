@@ -1,6 +1,6 @@
 //! A leaf: its entries from the lowest down, each below the gap that a lock on it covers.
 
-use super::canvas::{Area, Canvas, Tip, wide};
+use super::canvas::{Area, Canvas, Stroke, Tip, wide};
 use crate::keys::Key;
 use crate::picture::{Entry, LEAF_FULL, Mode, Page, Standing};
 use crate::rows::{Held, Row, State, held, numbers, rows, waiters};
@@ -161,7 +161,8 @@ impl Line {
         }
         if !self.waiters.is_empty() {
             let (x, from) = (row.x + 12, y - 7);
-            canvas.arrow(&format!("M{x} {from}L{x} {}", row.y - 5), (x, row.y), Tip::Down);
+            let path = format!("M{x} {from}L{x} {}", row.y - 5);
+            canvas.arrow(Stroke::Full, &path, (x, row.y), Tip::Down);
         }
     }
 }

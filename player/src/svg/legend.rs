@@ -1,6 +1,6 @@
 //! What the colours and marks mean.
 
-use super::canvas::{Area, Canvas, Tip};
+use super::canvas::{Area, Canvas, Stroke, Tip};
 use crate::rows::counted;
 
 /// Draws the legend within a width, in as many rows as it needs. It says how many arrows are left
@@ -30,14 +30,15 @@ fn items(left_out: usize) -> Vec<(Mark, String)> {
     items
 }
 
-const ITEMS: [(Mark, &str); 7] = [
+const ITEMS: [(Mark, &str); 8] = [
     (|canvas, area| canvas.rect("settled", area), "settled"),
     (|canvas, area| canvas.rect("owned", area), "owned: inserted, not yet committed"),
     (|canvas, area| canvas.rect("ghost", area), "ghost: deleted, not yet committed"),
     (|canvas, area| pill(canvas, "S", area), "S lock, with its holders"),
     (|canvas, area| pill(canvas, "X", area), "X lock, with its holder"),
     (bars, "the gap that a lock covers with its key"),
-    (waits, "waits, and behind whom"),
+    (waits, "waits, and behind whom: the lowest number in the way"),
+    (also, "also in the way"),
 ];
 
 fn pill(canvas: &mut Canvas, mode: &str, area: Area) {
@@ -52,17 +53,21 @@ fn bars(canvas: &mut Canvas, area: Area) {
 
 fn waits(canvas: &mut Canvas, area: Area) {
     canvas.rect("waits", area);
-    arrow(canvas, area.x + 4, area.right() - 4, area.y + area.height / 2);
+    arrow(canvas, Stroke::Full, area.x + 4, area.right() - 4, area);
+}
+
+fn also(canvas: &mut Canvas, area: Area) {
+    arrow(canvas, Stroke::Dashed, area.x, area.right(), area);
 }
 
 /// Two arrows one after the other.
 fn steps(canvas: &mut Canvas, area: Area) {
-    let y = area.y + area.height / 2;
-    arrow(canvas, area.x, area.middle() - 1, y);
-    arrow(canvas, area.middle() + 1, area.right(), y);
+    arrow(canvas, Stroke::Full, area.x, area.middle() - 1, area);
+    arrow(canvas, Stroke::Full, area.middle() + 1, area.right(), area);
 }
 
-/// An arrow to the left.
-fn arrow(canvas: &mut Canvas, to: i32, from: i32, y: i32) {
-    canvas.arrow(&format!("M{from} {y}L{} {y}", to + 8), (to, y), Tip::Left);
+/// An arrow to the left, half-way down an area.
+fn arrow(canvas: &mut Canvas, stroke: Stroke, to: i32, from: i32, area: Area) {
+    let y = area.y + area.height / 2;
+    canvas.arrow(stroke, &format!("M{from} {y}L{} {y}", to + 8), (to, y), Tip::Left);
 }

@@ -1,13 +1,13 @@
 //! The transactions that run, each on a card, with arrows from those who wait to those they wait
-//! behind.
+//! behind: a full one to the one that is named, dashed ones to whoever else is in the way.
 
-use super::canvas::{Area, Canvas, Tip, wide};
-use crate::behind::behind;
+use super::canvas::{Area, Canvas, Stroke, Tip, wide};
+use crate::behind::{behind, named};
 use crate::keys::Key;
 use crate::picture::{Mode, Standing, Waiting};
 use crate::plain::wrapped;
 use crate::rows::wants;
-use crate::words::waits;
+use crate::words::{Waits, waits};
 use std::cmp::Reverse;
 
 /// A card ready to be drawn.
@@ -17,7 +17,9 @@ struct Card {
     /// Whether it runs, or behind whom it waits.
     head: Vec<String>,
     lines: Vec<String>,
+    /// Everyone it waits behind, and who of them is named.
     behind: Vec<u16>,
+    named: Option<u16>,
 }
 
 const LINE: i32 = 20;
@@ -50,11 +52,12 @@ pub fn draw(standing: &Standing, canvas: &mut Canvas, x: i32, y: i32) -> usize {
     draw_arrows(canvas, &cards, &areas)
 }
 
-/// Draws the arrows between cards that stand in these places, and gives how many are left out. They
-/// start on the upper part of a card and end below that, so that a chain of them doesn't cross.
+/// Draws the arrows between cards that stand in these places, full ones over dashed ones, and gives
+/// how many are left out. They start on the upper part of a card and end below that, so that a chain
+/// of them doesn't cross.
 fn draw_arrows(canvas: &mut Canvas, cards: &[Card], areas: &[Area]) -> usize {
     let place_of = |transaction: u16| cards.iter().position(|card| card.transaction == transaction);
-    let mut left_out = 0;
+    let (mut arrows, mut left_out) = (Vec::new(), 0);
     for (own, card) in cards.iter().enumerate() {
         let drawn = drawn_arrows(cards, card);
         left_out += card.behind.len() - drawn.len();
@@ -64,15 +67,21 @@ fn draw_arrows(canvas: &mut Canvas, cards: &[Card], areas: &[Area]) -> usize {
         let (right, from) = (areas[own].right(), areas[own].y + 10);
         let apart = ((areas[own].height - 36) / to.len().max(1) as i32).min(6);
         for (place, to) in (0..).zip(to) {
-            arrow(canvas, (right, from + apart * place), areas[to]);
+            let named = card.named == Some(cards[to].transaction);
+            arrows.push((named, (right, from + apart * place), areas[to]));
         }
+    }
+    arrows.sort_by_key(|(named, ..)| *named);
+    for (named, from, to) in arrows {
+        arrow(canvas, if named { Stroke::Full } else { Stroke::Dashed }, from, to);
     }
     left_out
 }
 
 /// Those to whom an arrow goes from a card: everyone it waits behind. Among many arrows those are
-/// left out that lead where two others lead one after the other. Nobody waits in a circle, so that
-/// the arrows that are drawn still lead there, in two steps or more.
+/// left out that lead where two others lead one after the other; the one to whoever is named stays.
+/// Nobody waits in a circle, so that the arrows that are drawn still lead there, in two steps or
+/// more.
 fn drawn_arrows(cards: &[Card], card: &Card) -> Vec<u16> {
     let behind = |transaction: u16| {
         let card = cards.iter().find(|card| card.transaction == transaction);
@@ -81,7 +90,9 @@ fn drawn_arrows(cards: &[Card], card: &Card) -> Vec<u16> {
     let few = cards.iter().map(|card| card.behind.len()).sum::<usize>() <= ARROWS;
     let in_two_steps =
         |other: &u16| card.behind.iter().any(|between| behind(*between).contains(other));
-    card.behind.iter().copied().filter(|other| few || !in_two_steps(other)).collect()
+    let is_named = |other: &u16| card.named == Some(*other);
+    let drawn = |other: &u16| few || is_named(other) || !in_two_steps(other);
+    card.behind.iter().copied().filter(drawn).collect()
 }
 
 fn cards(standing: &Standing) -> Vec<Card> {
@@ -93,19 +104,23 @@ fn cards(standing: &Standing) -> Vec<Card> {
         head: vec!["runs".to_string()],
         lines: in_lines(&holds(standing, *transaction)),
         behind: vec![],
+        named: None,
     });
     running.chain(standing.queue.iter().map(|waiting| waiting_card(standing, waiting))).collect()
 }
 
 fn waiting_card(standing: &Standing, waiting: &Waiting) -> Card {
+    let Waits { behind: head, also } = waits(standing, waiting);
     let wants = format!("{} {}", waiting.asks, wants(standing, waiting));
     let holds = holds(standing, waiting.transaction);
+    let lines = also.into_iter().chain([wants, holds]);
     Card {
         transaction: waiting.transaction,
         waits: true,
-        head: in_lines(&waits(standing, waiting)),
-        lines: [in_lines(&wants), in_lines(&holds)].concat(),
+        head: in_lines(&head),
+        lines: lines.flat_map(|text| in_lines(&text)).collect(),
         behind: behind(standing, waiting),
+        named: named(standing, waiting),
     }
 }
 
@@ -149,10 +164,10 @@ impl Card {
 }
 
 /// An arrow from a card's right side to the card that it waits behind. The further away, the wider.
-fn arrow(canvas: &mut Canvas, (right, start): (i32, i32), to: Area) {
+fn arrow(canvas: &mut Canvas, stroke: Stroke, (right, start): (i32, i32), to: Area) {
     let end = to.bottom() - 14;
     let bend = right + 30 + (start - end).abs() / 5;
     let path = format!("M{right} {start}C{bend} {start} {bend} {end} {} {end}", to.right() + 9);
-    canvas.arrow(&path, (to.right() + 1, end), Tip::Left);
+    canvas.arrow(stroke, &path, (to.right() + 1, end), Tip::Left);
     canvas.reach(bend, 0);
 }

@@ -155,6 +155,29 @@ fn a_step_has_the_words_of_its_line() {
     assert!(commit.at("waits").list().is_empty());
 }
 
+/// An answer named 2 and 1; when 2 has ended, the list says who is in the way then.
+#[test]
+fn a_step_says_who_is_in_the_way_as_things_stand_after_it() {
+    let data = data(&page(include_str!("../../../examples/in-the-way.txt")));
+    let waits = |line: i64| step_of_line(&data, line).at("waits").texts();
+    let before = [
+        "4 waits behind 2, who holds S on 20; also in the way is 3, who holds S on it",
+        "1 waits behind 2, who holds S on 20; also in the way are 3, who holds S on it, and 4, who \
+         asked for it before",
+        "5 waits behind 1, who asked for 20 before; also in the way are 2, 3, who hold S on it, and \
+         4, who asked for it before",
+    ];
+    assert_eq!(waits(24), before);
+    let after = [
+        "4 waits behind 3, who holds S on 20",
+        "1 waits behind 3, who holds S on 20; also in the way is 4, who asked for it before",
+        "5 waits behind 1, who asked for 20 before; also in the way are 3, who holds S on it, and \
+         4, who asked for it before",
+    ];
+    assert_eq!(waits(27), after);
+    assert_eq!(waits(30), ["5 waits behind 1, who holds X on 20"]);
+}
+
 #[test]
 fn a_line_that_cannot_be_read_is_a_step_and_is_counted() {
     let played = html("1 begin\n1 bgin\n1 commit\n", "the test");

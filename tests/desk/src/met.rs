@@ -34,6 +34,16 @@ pub struct Met {
     /// Calls that left an index of three levels.
     pub height_3: usize,
     pub calls_with_16_answers: usize,
+    /// Answers 3 that named a holder of what is waited for.
+    pub holders_named: usize,
+    /// Answers 3 that named an earlier waiter, who held nothing there.
+    pub waiters_named: usize,
+    /// The same where a holder was in the way too, with a higher number.
+    pub waiters_named_before_holders: usize,
+    /// Answers 3 with several in the way, of whom one is named.
+    pub several_in_the_way: usize,
+    /// Answers 3 that named another than the lowest in the way when the request joined the queue.
+    pub named_otherwise_at_rest: usize,
 }
 
 impl Met {
@@ -66,7 +76,8 @@ impl Met {
                 self.settlings += owned(before) - owned(after);
             }
             RequestKind::Keys(keys) => {
-                self.take_in_keys(request.transaction, keys, answers, before)
+                self.take_in_keys(request.transaction, keys, answers, before);
+                self.take_in_named(request.transaction, keys, answers, before, after);
             }
             RequestKind::Begin => {}
         }
@@ -102,6 +113,32 @@ impl Met {
         }
     }
 
+    /// The same for whom a request that still waits is told of.
+    fn take_in_named(
+        &mut self,
+        asker: u16,
+        request: KeyRequest,
+        answers: &[Answer],
+        before: &Tables,
+        after: &Tables,
+    ) {
+        let mut told = answers.iter().filter(|answer| answer.number == number::STILL_QUEUED);
+        let Some(named) = told.next().map(|answer| answer.record as u16) else { return };
+        let target = after.target(asker, request);
+        let in_the_way = Waits::of(after).behind(asker).cloned().unwrap_or_default();
+        let is_holder = |other: u16| {
+            after.held(other, target.name).is_some_and(|mode| mode.conflicts(target.mode))
+        };
+        let is_waiter = after.held(named, target.name).is_none();
+        let past_a_holder = in_the_way.iter().any(|other| is_holder(*other));
+        let when_joined = Waits::of(&joined(asker, request, before)).named(asker);
+        self.holders_named += usize::from(is_holder(named));
+        self.waiters_named += usize::from(is_waiter);
+        self.waiters_named_before_holders += usize::from(is_waiter && past_a_holder);
+        self.several_in_the_way += usize::from(in_the_way.len() > 1);
+        self.named_otherwise_at_rest += usize::from(when_joined != Some(named));
+    }
+
     /// Both counts together.
     pub fn and(mut self, other: Met) -> Met {
         for (number, times) in other.numbers {
@@ -121,6 +158,11 @@ impl Met {
         self.full_index += other.full_index;
         self.height_3 += other.height_3;
         self.calls_with_16_answers += other.calls_with_16_answers;
+        self.holders_named += other.holders_named;
+        self.waiters_named += other.waiters_named;
+        self.waiters_named_before_holders += other.waiters_named_before_holders;
+        self.several_in_the_way += other.several_in_the_way;
+        self.named_otherwise_at_rest += other.named_otherwise_at_rest;
         self
     }
 }
@@ -159,8 +201,13 @@ fn owned_entries(tables: &Tables, owner: u16) -> usize {
 
 /// The length of the shortest circle that a request closes by joining the queue.
 fn circle_closed_by(asker: u16, request: KeyRequest, before: &Tables) -> Option<usize> {
+    Waits::of(&joined(asker, request, before)).shortest_circle(asker)
+}
+
+/// Where the desk stands when a request has joined the queue, which is not worked yet.
+fn joined(asker: u16, request: KeyRequest, before: &Tables) -> Tables {
     let mut joined = before.clone();
     joined.desk.set_transaction(asker, Transaction::Waiting(request));
     joined.desk.queue.push(asker);
-    Waits::of(&joined).shortest_circle(asker)
+    joined
 }

@@ -8,6 +8,7 @@ use model::generators::requests::{Bias, Requests};
 use model::key::Key;
 use model::layout::desk::{LOCK_COUNT, Lock, Mode, Slot, TRANSACTION_COUNT, Transaction};
 use model::layout::request::{KeyRequest, Request, RequestKind};
+use model::locks::Target;
 use model::picture::Tables;
 
 /// So many pictures of the model's generator: any page numbering, holes in the lock table, X on the
@@ -19,6 +20,38 @@ pub fn not_at_rest(seed: u64, count: usize) -> Vec<Tables> {
 
 fn decoded(picture: &model::desk::Picture) -> Tables {
     picture.decode().expect("a whole picture follows the layouts")
+}
+
+/// A picture that is not at rest, and a request that has to wait: those in its way at rest are others
+/// than when it joins, since two have run, since one on a circle got 19, or since one has run and
+/// holds now what the asker holds too. Which of them are lower is up to chance.
+pub fn others_in_the_way_at_rest(random: &mut Random) -> (Tables, Request) {
+    let mut tables = running(settled_apart(2, 10));
+    let members: Vec<u16> = random.order(1, 16).into_iter().map(|member| member as u16).collect();
+    let [asker, one, other, ..] = members[..] else { panic!("there are sixteen") };
+    let (low, high) = (Key(10), Key(20));
+    let read = |key| KeyRequest::Read { lo: key, hi: key };
+    let request = match random.below(3) {
+        0 => {
+            tables.join_queue(one, KeyRequest::Insert { key: Key(15), record: 0 });
+            tables.join_queue(other, KeyRequest::Delete { key: high });
+            KeyRequest::Read { lo: Key(12), hi: Key(18) }
+        }
+        1 => {
+            tables.take_lock(one, Target { name: low, mode: Mode::X });
+            tables.take_lock(other, Target { name: high, mode: Mode::X });
+            tables.join_queue(other, read(low));
+            tables.join_queue(one, KeyRequest::Delete { key: high });
+            read(high)
+        }
+        _ => {
+            tables.take_lock(asker, Target { name: high, mode: Mode::S });
+            tables.take_lock(other, Target { name: high, mode: Mode::S });
+            tables.join_queue(one, read(high));
+            KeyRequest::Delete { key: high }
+        }
+    };
+    (tables, Request { transaction: asker, kind: RequestKind::Keys(request) })
 }
 
 /// Where sessions from fresh stand after few, some and many requests, under every bias.

@@ -2,8 +2,10 @@
 
 use crate::beside::Beside;
 use crate::met::Met;
+use crate::pictures::others_in_the_way_at_rest;
 use crate::under_test::UnderTest;
 use model::desk::Picture;
+use model::generators::random::Random;
 use model::generators::requests::{Bias, Requests};
 use model::layout::request::Request;
 
@@ -63,6 +65,17 @@ pub fn scripted(under_test: UnderTest, scripts: Vec<Vec<Request>>, tail: usize) 
             run.step(request);
         }
         run.steps(&mut Requests::without_opening(seed, Bias::WAITS), tail);
+        run.met()
+    }))
+}
+
+/// One request on each of so many pictures on which its 3 is not about those who were in its way when
+/// it joined the queue.
+pub fn named_at_rest(under_test: UnderTest, pictures: u64) -> Met {
+    together((1..=pictures).map(|seed| {
+        let (tables, request) = others_in_the_way_at_rest(&mut Random::new(seed));
+        let mut run = Run::from(under_test, seed, tables.encode());
+        run.step(request);
         run.met()
     }))
 }

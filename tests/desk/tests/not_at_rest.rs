@@ -3,7 +3,7 @@
 
 use desk::beside::{Lent, call};
 use desk::pictures::not_at_rest;
-use desk::runs::{Run, together};
+use desk::runs::{Run, named_at_rest, together};
 use desk::under_test::LIBRARY;
 use model::demand3::waits::Waits;
 use model::generators::random::Random;
@@ -79,6 +79,16 @@ fn runs_from_pictures_not_at_rest() {
         assert!(times >= 20, "number {number} came {times} times");
     }
     assert!(met.calls_with_16_answers >= 1 && met.older_freed >= 20, "{met:?}");
+    assert!(met.holders_named >= 100 && met.waiters_named_before_holders >= 100, "{met:?}");
+}
+
+/// "As it stands at rest" (document 02, [4]): each request waits, and of about every second one the
+/// lowest in the way is another than when it joined.
+#[test]
+fn a_3_names_who_is_in_the_way_at_rest() {
+    let met = named_at_rest(LIBRARY, 200);
+    assert_eq!(met.count(3), 200);
+    assert!(met.named_otherwise_at_rest >= 50, "{met:?}");
 }
 
 /// Whole calls of the model, which judges the picture too: good requests and spoiled ones.

@@ -82,7 +82,7 @@ fn one_commit_gives_thirteen_nineteens() {
         assert_eq!(desk.read(transaction, 30, 30), found);
     }
     for transaction in 2..=16 {
-        assert_eq!(desk.insert(transaction, 15, 0), [Answer::plain(transaction, 3)]);
+        assert_eq!(desk.insert(transaction, 15, 0), [Answer::waiting(transaction, 1)]);
     }
     let mut expected = vec![Answer::plain(1, 0)];
     expected.extend((3..=15).rev().map(|transaction| Answer::plain(transaction, 19)));
@@ -100,7 +100,8 @@ fn a_circle_of_sixteen_is_found() {
     }
     for transaction in 1..=15u16 {
         let next = (u64::from(transaction) + 1) * 10;
-        assert_eq!(desk.read(transaction, next, next), [Answer::plain(transaction, 3)]);
+        let behind_the_next = [Answer::waiting(transaction, transaction + 1)];
+        assert_eq!(desk.read(transaction, next, next), behind_the_next);
     }
     assert_eq!(desk.read(16, 10, 10), [Answer::plain(16, 19)]);
 }

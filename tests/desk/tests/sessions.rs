@@ -43,11 +43,19 @@ fn assert_numbers(met: &Met, least: usize, numbers: &[u16]) {
     }
 }
 
+/// Asserts that a 3 has named holders and earlier waiters, also one waiter of a lower number than a
+/// holder, and that it often had several to choose from.
+fn assert_named(met: &Met) {
+    assert!(met.holders_named >= 1000 && met.waiters_named >= 100, "{met:?}");
+    assert!(met.waiters_named_before_holders >= 20 && met.several_in_the_way >= 500, "{met:?}");
+}
+
 #[test]
 fn waits() {
     let met = sessions(Bias::WAITS, WAITS);
     assert_numbers(&met, 100, &[0, 1, 2, 3, 13, 14, 15, 16, 19]);
     assert!(met.older_freed >= 1);
+    assert_named(&met);
 }
 
 #[test]
@@ -57,6 +65,7 @@ fn circles() {
     for length in 2..=4 {
         assert!(met.circles[&length] >= 10, "circles of {length}");
     }
+    assert_named(&met);
 }
 
 #[test]

@@ -32,12 +32,15 @@ fn answers() {
     assert_eq!(read("0 to 1"), Some(Answer { transaction: 1, says: Number::Done }));
     let found = Number::Found { key: Key(100), record: 7 };
     assert_eq!(read("1 to 2: 100, record 7"), Some(Answer { transaction: 2, says: found }));
+    let waits = Number::StillQueued { behind: 1 };
+    assert_eq!(read("3 to 2: 1 is in the way"), Some(Answer { transaction: 2, says: waits }));
 }
 
-/// Every number of the page stands in answers or is a refusal, and there are no others.
+/// Every number of the page stands in answers or is a refusal, and there are no others. The record
+/// names a transaction, as a 3 has to.
 #[test]
 fn numbers() {
-    let mut record: [u8; 20] = example("0 to 1").try_into().expect("20 bytes");
+    let mut record: [u8; 20] = example("3 to 2: 1 is in the way").try_into().expect("20 bytes");
     let mut in_answers = |number: u16| {
         record[6..8].copy_from_slice(&number.to_le_bytes());
         Answer::read(&record).map(|answer| answer.says.code())

@@ -75,16 +75,20 @@ fn requests() {
 
 #[test]
 fn answers() {
-    let answer = Answer::showing(0x4241, number::FOUND, Key(ONE), RECORD).encode();
-    let expected = [
-        ("length", 20),
-        ("kind", 7),
-        ("transaction", 0x4241),
-        ("number", 1),
-        ("key", ONE),
-        ("record", u64::from(RECORD)),
-    ];
-    holds("answer", &answer, &expected);
+    let fields = |number, key, record| {
+        [
+            ("length", 20),
+            ("kind", 7),
+            ("transaction", 0x4241),
+            ("number", number),
+            ("key", key),
+            ("record", record),
+        ]
+    };
+    let found = Answer::showing(0x4241, number::FOUND, Key(ONE), RECORD).encode();
+    holds("answer", &found, &fields(1, ONE, u64::from(RECORD)));
+    let waits = Answer::waiting(0x4241, 0x5251).encode();
+    holds("answer", &waits, &fields(3, 0, 0x5251));
 }
 
 #[test]
@@ -189,6 +193,7 @@ fn examples() -> BTreeMap<&'static str, Vec<u8>> {
         ("1 deletes 100", asks(1, KeyRequest::Delete { key })),
         ("0 to 1", Answer::plain(1, number::DONE).encode()),
         ("1 to 2: 100, record 7", Answer::showing(2, number::FOUND, key, 7).encode()),
+        ("3 to 2: 1 is in the way", Answer::waiting(2, 1).encode()),
         ("a leaf with 3 entries", head(IndexPage::Leaf(three_entries))),
         ("above leaves, 2 children", head(IndexPage::Inner { level: 1, children: two_children })),
         ("page 0 of a fresh index", fresh().pages[..22].to_vec()),

@@ -1,5 +1,5 @@
-//! Targets, blockers and circles (document 01, Locks and Working the queue). Nothing is kept: "a
-//! target is worked out afresh from the index each time it is needed".
+//! Targets, blockers and circles (document 01, Locks and Working the queue; document 02, [4]).
+//! Nothing is kept: "a target is worked out afresh from the index each time it is needed".
 
 use crate::entry::Entry;
 use crate::key::Key;
@@ -61,7 +61,14 @@ impl Tables {
         locks.find(|lock| lock.holder == holder && lock.name == name).map(|lock| lock.mode)
     }
 
-    /// Everyone who blocks a waiting transaction; nobody for one that doesn't wait.
+    /// Whether a waiting transaction is blocked, and by whom: "the lowest-numbered transaction that
+    /// blocks it, or none" (document 02, [4]).
+    pub fn blocker(&self, waiter: u16) -> Option<u16> {
+        self.blockers(waiter).first().copied()
+    }
+
+    /// Everyone who blocks a waiting transaction; nobody for one that doesn't wait. Circles "still
+    /// go by everyone who blocks and not only by the one named".
     pub fn blockers(&self, waiter: u16) -> BTreeSet<u16> {
         let Some(request) = self.desk.waiting_request(waiter) else { return BTreeSet::new() };
         let target = self.target(waiter, request);

@@ -12,7 +12,7 @@ use crate::picture::Tables;
 impl Tables {
     /// Everything a good request leads to: its answers, in the order they are given. Begin, commit
     /// and rollback act first and answer first; a read, insert or delete joins the queue, and if it
-    /// is still there at rest, its 3 comes last.
+    /// is still there at rest, its 3 comes last and names who is in the way then.
     pub fn answer(&mut self, request: Request) -> Vec<Answer> {
         let asker = request.transaction;
         if let Some(refusal) = self.refusal(request) {
@@ -30,7 +30,8 @@ impl Tables {
         };
         self.work_queue(&mut answers);
         if self.desk.waiting_request(asker).is_some() {
-            answers.push(Answer::plain(asker, number::STILL_QUEUED));
+            let behind = self.blocker(asker).expect("whoever still waits at rest is blocked");
+            answers.push(Answer::waiting(asker, behind));
         }
         answers
     }
@@ -92,7 +93,7 @@ impl Tables {
 
     fn oldest_unblocked(&self) -> Option<u16> {
         let mut oldest_first = self.desk.queue.iter().copied();
-        oldest_first.find(|waiter| self.blockers(*waiter).is_empty())
+        oldest_first.find(|waiter| self.blocker(*waiter).is_none())
     }
 
     fn newest_on_circle(&self) -> Option<u16> {

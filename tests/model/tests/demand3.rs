@@ -140,7 +140,7 @@ fn a_rollback_to_the_same_record_is_no_change() {
 fn a_waiting_request_is_heard_when_it_is_answered() {
     let mut told = two_keys_and_two_transactions();
     assert_eq!(hear(&mut told, 1, insert(15, 7), 0), Ok(()));
-    assert_eq!(hear(&mut told, 2, read(12, 18), 3), Ok(()));
+    assert_eq!(hear_all(&mut told, 2, read(12, 18), &[Answer::waiting(2, 1)]), Ok(()));
     let found = Answer::showing(2, 1, Key(15), 7);
     assert_eq!(hear_all(&mut told, 1, COMMIT, &[Answer::plain(1, 0), found]), Ok(()));
     assert_eq!(hear(&mut told, 3, BEGIN, 0), Ok(()));
@@ -168,6 +168,23 @@ fn untrue_answers_are_caught() {
     }
 }
 
+/// A 3 without a key that names another running transaction (document 02, [4]): not 0, not the asker,
+/// not 4 and 17, which don't run, and not 2^16 + 2, whose low half is 2.
+#[test]
+fn a_3_that_names_nobody_who_runs_is_caught() {
+    for named in [0, 1, 4, 17, 65_538] {
+        let mut told = two_keys_and_two_transactions();
+        let untrue = Err(Breach::Untrue { transaction: 1, number: 3 });
+        let answer = Answer { record: named, ..Answer::waiting(1, 2) };
+        assert_eq!(hear_all(&mut told, 1, read(12, 18), &[answer]), untrue, "{named} is named");
+    }
+    let mut told = two_keys_and_two_transactions();
+    let untrue = Err(Breach::Untrue { transaction: 1, number: 3 });
+    let with_a_key = Answer { key: Key(20), ..Answer::waiting(1, 2) };
+    assert_eq!(hear_all(&mut told, 1, read(12, 18), &[with_a_key]), untrue);
+    assert_eq!(hear_all(&mut told, 1, read(12, 18), &[Answer::waiting(1, 2)]), Ok(()));
+}
+
 #[test]
 fn answers_without_a_request_are_caught() {
     let not_an_answer = |transaction, number| Err(Breach::NotAnAnswer { transaction, number });
@@ -184,7 +201,7 @@ fn answers_without_a_request_are_caught() {
     assert_eq!(hear(&mut told, 1, COMMIT, 15), not_an_answer(1, 15));
     assert_eq!(hear(&mut told, 1, read(12, 18), 16), not_an_answer(1, 16));
     assert_eq!(hear(&mut told, 1, delete(12), 18), not_an_answer(1, 18));
-    assert_eq!(hear(&mut told, 1, read(12, 18), 3), Ok(()));
+    assert_eq!(hear_all(&mut told, 1, read(12, 18), &[Answer::waiting(1, 2)]), Ok(()));
     assert_eq!(hear(&mut told, 1, COMMIT, 0), not_an_answer(1, 0));
     assert_eq!(hear(&mut told, 1, COMMIT, 15), Ok(()));
 }
@@ -245,6 +262,89 @@ fn waiting_behind_one_that_is_not_running_is_caught() {
     wait_for(&mut tables, 3, 4);
     tables.desk.set_transaction(4, Transaction::NotRunning);
     assert_eq!(waits::check(&tables), Err(Breach::ChainDoesNotEnd { waiter: 3 }));
+}
+
+/// 2 and 3 hold S on 50, and 1 waits there to delete it: in the way of 4's delete are the holders 2 and
+/// 3 and the earlier waiter 1.
+fn two_holders_and_two_waiters() -> Tables {
+    let mut tables = sixteen_holders();
+    for (slot, holder) in [(0, 3), (5, 2)] {
+        tables.desk.slots[slot] = Slot::Taken(Lock { name: Key(50), holder, mode: Mode::S });
+    }
+    for waiter in [1, 4] {
+        let delete = KeyRequest::Delete { key: Key(50) };
+        tables.desk.set_transaction(waiter, Transaction::Waiting(delete));
+        tables.desk.queue.push(waiter);
+    }
+    tables
+}
+
+/// Of everyone who blocks only the lowest-numbered may be named, holder or earlier waiter.
+#[test]
+fn a_3_that_names_another_than_the_lowest_is_caught() {
+    let tables = two_holders_and_two_waiters();
+    assert_eq!(Waits::of(&tables).behind(4), Some(&[1, 2, 3].into()));
+    for (waiter, lowest) in [(1, 2), (4, 1)] {
+        for named in 0..=16 {
+            let answers = [Answer::plain(5, 0), Answer::waiting(waiter, named)];
+            let breach = Breach::NamesAnother { waiter, named: named.into() };
+            let expected = if named == lowest { Ok(()) } else { Err(breach) };
+            assert_eq!(waits::check_named(&tables, &answers), expected);
+        }
+    }
+}
+
+/// A 3 to one that doesn't wait is wrong whomever it names.
+#[test]
+fn a_3_to_one_that_does_not_wait_is_caught() {
+    let tables = two_holders_and_two_waiters();
+    let breach = Breach::NamesAnother { waiter: 6, named: 5 };
+    assert_eq!(waits::check_named(&tables, &[Answer::waiting(6, 5)]), Err(breach));
+}
+
+/// The chain of the named ones, which the other checks would catch too: it goes round, comes to one
+/// that waits behind nobody, or to one that doesn't run.
+#[test]
+fn a_named_chain_that_does_not_end_is_caught() {
+    let named_chains = |tables: &Tables| Waits::of(tables).every_named_chain_ends(tables);
+    let caught = |waiter| Err(Breach::NamedChainDoesNotEnd { waiter });
+    let mut tables = sixteen_holders();
+    for waiter in 1..=15 {
+        wait_for(&mut tables, waiter, waiter + 1);
+    }
+    assert_eq!(named_chains(&tables), Ok(()), "fifteen links");
+    wait_for(&mut tables, 16, 1);
+    assert_eq!(named_chains(&tables), caught(1), "round");
+
+    let mut tables = sixteen_holders();
+    wait_for(&mut tables, 2, 3);
+    wait_for(&mut tables, 3, 3);
+    assert_eq!(named_chains(&tables), caught(2), "3 waits behind nobody");
+
+    let mut tables = sixteen_holders();
+    wait_for(&mut tables, 3, 4);
+    tables.desk.set_transaction(4, Transaction::NotRunning);
+    assert_eq!(named_chains(&tables), caught(3), "4 doesn't run");
+}
+
+/// "Circles, and demand 3's links, still go by everyone who blocks and not only by the one named"
+/// (document 02, [4]). 1 and 3 hold S on 50; 2 waits to delete it, and 3 waits for 2. From both the
+/// named ones lead to 1, which runs, past the circle of 2 and 3.
+#[test]
+fn a_circle_past_the_one_named_is_caught() {
+    let mut tables = sixteen_holders();
+    for (slot, holder) in [(0, 1), (5, 3)] {
+        tables.desk.slots[slot] = Slot::Taken(Lock { name: Key(50), holder, mode: Mode::S });
+    }
+    let delete = KeyRequest::Delete { key: Key(50) };
+    tables.desk.set_transaction(2, Transaction::Waiting(delete));
+    tables.desk.queue.push(2);
+    wait_for(&mut tables, 3, 2);
+    let waits = Waits::of(&tables);
+    assert_eq!((waits.named(3), waits.named(2)), (Some(2), Some(1)));
+    assert_eq!(waits.every_named_chain_ends(&tables), Ok(()));
+    assert_eq!(waits::check(&tables), Err(Breach::WaitsInACircle { waiter: 2 }));
+    assert!(tables.is_on_circle(2) && tables.is_on_circle(3));
 }
 
 #[test]

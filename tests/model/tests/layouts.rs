@@ -1,4 +1,5 @@
-//! Every record and page kind as bytes, written by hand from document 01, "Records and pages".
+//! Every record and page kind as bytes, written by hand from document 01, "Records and pages", and
+//! the answer 3 from document 02, [4].
 
 use model::desk::fresh;
 use model::entry::Entry;
@@ -52,6 +53,10 @@ fn answer_records() {
     let expected = bytes(&[&[20, 0, 7, 0, 16, 0, 19, 0]], 20);
     assert_eq!(circle.encode(), expected);
     assert_eq!(Answer::decode(&expected), Some(circle));
+    let behind_12 = Answer::waiting(5, 12);
+    let expected = [20, 0, 7, 0, 5, 0, 3, 0, 0, 0, 0, 0, 0, 0, 0, 0, 12, 0, 0, 0];
+    assert_eq!(behind_12.encode(), expected);
+    assert_eq!(Answer::decode(&expected), Some(behind_12));
     assert_eq!(Answer::decode(&bytes(&[&[20, 0, 8, 0, 16, 0, 19, 0]], 20)), None);
 }
 

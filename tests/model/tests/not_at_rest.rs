@@ -89,7 +89,7 @@ fn a_joining_request_runs_after_older_ones() {
     run(&mut tables, [2]);
     wait(&mut tables, 1, KeyRequest::Insert { key: Key(5), record: 8 });
     let mut session = session_at(&tables);
-    assert_eq!(session.read(2, 0, 9), [Answer::plain(1, 0), Answer::plain(2, 3)]);
+    assert_eq!(session.read(2, 0, 9), [Answer::plain(1, 0), Answer::waiting(2, 1)]);
     assert_eq!(session.commit(1), [Answer::plain(1, 0), Answer::showing(2, 1, Key(5), 8)]);
 }
 
@@ -108,6 +108,50 @@ fn a_circle_is_broken_at_its_newest() {
     let answers = session.commit(1);
     assert_eq!(answers, [Answer::plain(1, 0), Answer::showing(2, 1, Key(10), 10)]);
     assert_eq!(session.tables().index, tables.index);
+}
+
+/// When 4 joins to read 12..18, both waiters are in its way at 20: 3 with its insert of 15, and 2.
+/// Then 3 and 2 run, and 4 stands before the new key 15: 3 alone is in its way at rest. "As it stands
+/// at rest" (document 02, [4]): 2, the lower one at first, is not named.
+#[test]
+fn a_3_names_who_is_in_the_way_after_the_runs() {
+    let mut tables = one_leaf(&[settled(10), settled(20)]);
+    run(&mut tables, [4]);
+    wait(&mut tables, 3, KeyRequest::Insert { key: Key(15), record: 8 });
+    wait(&mut tables, 2, KeyRequest::Delete { key: Key(20) });
+    let mut session = session_at(&tables);
+    let answers = session.read(4, 12, 18);
+    assert_eq!(answers, [Answer::plain(3, 0), Answer::plain(2, 0), Answer::waiting(4, 3)]);
+}
+
+/// When 4 joins to read 20, the holder 2 and the earlier waiter 1 are in its way. 1 and 2 wait for
+/// each other, and 1 is the newer: it gets 19 and leaves, and at rest 2 alone is in the way of 4.
+#[test]
+fn a_3_names_who_is_in_the_way_after_a_19() {
+    let mut tables = one_leaf(&[settled(10), settled(20)]);
+    run(&mut tables, [4]);
+    lock(&mut tables, 0, 10, 1, Mode::X);
+    lock(&mut tables, 1, 20, 2, Mode::X);
+    wait(&mut tables, 2, read(10, 10));
+    wait(&mut tables, 1, KeyRequest::Delete { key: Key(20) });
+    let mut session = session_at(&tables);
+    let answers = session.read(4, 20, 20);
+    assert_eq!(answers, [Answer::plain(1, 19), Answer::waiting(4, 2)]);
+    assert_eq!(session.tables().desk.queue, [2, 4]);
+}
+
+/// 4 and 5 hold S on 20. When 4 joins to delete it, 5 alone is in its way: its own lock excuses it
+/// from waiting behind 1. Then 1's read runs, and at rest the holder 1 is in its way too.
+#[test]
+fn a_3_names_one_that_is_in_the_way_only_since_its_run() {
+    let mut tables = one_leaf(&[settled(20)]);
+    run(&mut tables, [4, 5]);
+    lock(&mut tables, 0, 20, 4, Mode::S);
+    lock(&mut tables, 1, 20, 5, Mode::S);
+    wait(&mut tables, 1, read(20, 20));
+    let mut session = session_at(&tables);
+    let answers = session.delete(4, 20);
+    assert_eq!(answers, [Answer::showing(1, 1, Key(20), 20), Answer::waiting(4, 1)]);
 }
 
 /// Each circle loses its newest, the newest of all first.
@@ -187,7 +231,7 @@ fn x_on_the_end_is_a_lock_like_any_other() {
     run(&mut tables, [1, 2]);
     lock(&mut tables, 0, u64::MAX, 1, Mode::X);
     let mut session = session_at(&tables);
-    assert_eq!(session.insert(2, 99, 6), [Answer::plain(2, 3)]);
+    assert_eq!(session.insert(2, 99, 6), [Answer::waiting(2, 1)]);
     assert_eq!(session.insert(1, 99, 7), [Answer::plain(1, 0)]);
     let x_on_99 = Lock { name: Key(99), holder: 1, mode: Mode::X };
     assert_eq!(session.tables().desk.slots[1], Slot::Taken(x_on_99));

@@ -1,5 +1,5 @@
-//! Every case of document 01, "Overs to bowl at it", in its order. What is expected was worked out
-//! from the document by hand.
+//! Every case of document 01, "Overs to bowl at it", in its order, its 3 with the name that document
+//! 02, [4], adds. What is expected was worked out from the documents by hand.
 
 use model::desk::{fresh, serve};
 use model::entry::Entry;
@@ -31,12 +31,12 @@ fn a_commit_answers_the_waiting_read_byte_for_byte() {
     let commit_1 = [8, 0, 2, 0, 1, 0, 0, 0];
     let done_1 = [20, 0, 7, 0, 1, 0, 0, 0, 0, 0, 0, 0, 0, 0, 0, 0, 0, 0, 0, 0];
     let done_2 = [20, 0, 7, 0, 2, 0, 0, 0, 0, 0, 0, 0, 0, 0, 0, 0, 0, 0, 0, 0];
-    let queued_2 = [20, 0, 7, 0, 2, 0, 3, 0, 0, 0, 0, 0, 0, 0, 0, 0, 0, 0, 0, 0];
+    let behind_1 = [20, 0, 7, 0, 2, 0, 3, 0, 0, 0, 0, 0, 0, 0, 0, 0, 1, 0, 0, 0];
 
     assert_eq!(ask_bytes(pages, desk, &begin_1), done_1);
     assert_eq!(ask_bytes(pages, desk, &insert_100), done_1);
     assert_eq!(ask_bytes(pages, desk, &begin_2), done_2);
-    assert_eq!(ask_bytes(pages, desk, &read_50_150), queued_2);
+    assert_eq!(ask_bytes(pages, desk, &read_50_150), behind_1);
     let expected = [
         0x14, 0x00, 0x07, 0x00, 0x01, 0x00, 0x00, 0x00, // 0 to 1
         0, 0, 0, 0, 0, 0, 0, 0, 0, 0, 0, 0, // twelve zeros
@@ -68,7 +68,7 @@ fn a_read_that_finds_nothing_holds_its_gap() {
     session.begin(1);
     session.begin(2);
     assert_eq!(session.read(1, 12, 18), [Answer::plain(1, 2)]);
-    assert_eq!(session.insert(2, 15, 1), [Answer::plain(2, 3)]);
+    assert_eq!(session.insert(2, 15, 1), [Answer::waiting(2, 1)]);
     assert_eq!(session.read(1, 12, 18), [Answer::plain(1, 2)]);
     assert_eq!(session.commit(1), [Answer::plain(1, 0), Answer::plain(2, 0)]);
 }
@@ -82,7 +82,7 @@ fn two_readers_of_a_gap_that_both_insert_make_a_circle() {
     session.begin(2);
     assert_eq!(session.read(1, 12, 18), [Answer::plain(1, 2)]);
     assert_eq!(session.read(2, 12, 18), [Answer::plain(2, 2)]);
-    assert_eq!(session.insert(1, 15, 1), [Answer::plain(1, 3)]);
+    assert_eq!(session.insert(1, 15, 1), [Answer::waiting(1, 2)]);
     assert_eq!(session.insert(2, 16, 1), [Answer::plain(2, 19)]);
     assert_eq!(session.rollback(2), [Answer::plain(2, 0), Answer::plain(1, 0)]);
 }
@@ -98,8 +98,8 @@ fn a_commit_can_close_a_circle() {
     assert_eq!(session.delete(1, 20), [Answer::plain(1, 0)]);
     assert_eq!(session.read(2, 50, 50), [Answer::showing(2, 1, Key(50), 50)]);
     assert_eq!(session.read(3, 30, 30), [Answer::showing(3, 1, Key(30), 30)]);
-    assert_eq!(session.insert(2, 15, 1), [Answer::plain(2, 3)]);
-    assert_eq!(session.delete(3, 50), [Answer::plain(3, 3)]);
+    assert_eq!(session.insert(2, 15, 1), [Answer::waiting(2, 1)]);
+    assert_eq!(session.delete(3, 50), [Answer::waiting(3, 2)]);
     assert_eq!(session.commit(1), [Answer::plain(1, 0), Answer::plain(3, 19)]);
 
     let tables = session.tables();
@@ -170,7 +170,7 @@ fn the_sole_s_holder_upgrades_past_a_waiting_delete() {
     session.begin(1);
     session.begin(2);
     session.read(1, 20, 20);
-    assert_eq!(session.delete(2, 20), [Answer::plain(2, 3)]);
+    assert_eq!(session.delete(2, 20), [Answer::waiting(2, 1)]);
     assert_eq!(session.delete(1, 20), [Answer::plain(1, 0)]);
     let tables = session.tables();
     let x_on_20 = Lock { name: Key(20), holder: 1, mode: Mode::X };

@@ -60,6 +60,7 @@ impl Run {
             assert_eq!(answers.len(), 1);
         } else {
             assert_eq!(waits::check(&after), Ok(()), "at rest after {request:?}");
+            assert_eq!(waits::check_named(&after, &answers), Ok(()), "after {request:?}");
         }
         if self.is_from_fresh {
             check_from_fresh(&answers, &after);
@@ -68,7 +69,8 @@ impl Run {
     }
 
     /// The answers to a good request: whole records, at most 16, at most one for each transaction,
-    /// one of them for the asker, a key only in 1 and 16; answer bytes beyond keep their values.
+    /// one of them for the asker, a key only in 1 and 16 and a record in 3 besides; answer bytes
+    /// beyond keep their values.
     fn ask(&mut self, request: &[u8]) -> Vec<Answer> {
         let mut answers: Vec<u8> = (0..360).map(|at| at as u8 ^ 0x5A).collect();
         let untouched = answers.clone();
@@ -83,11 +85,12 @@ impl Run {
         let answered: BTreeSet<u16> = given.iter().map(|answer| answer.transaction).collect();
         assert_eq!(answered.len(), given.len(), "at most one answer for each transaction");
         assert!(answered.contains(&u16::from(request[4])), "one for the asker");
-        let shows_nothing =
-            |answer: &Answer| *answer == Answer::plain(answer.transaction, answer.number);
-        assert!(
-            given.iter().all(|answer| matches!(answer.number, 1 | 16) || shows_nothing(answer))
-        );
+        let is_as_its_number = |answer: &Answer| match answer.number {
+            1 | 16 => true,
+            3 => answer.key == Key(0) && (1..=16).contains(&answer.record),
+            number => *answer == Answer::plain(answer.transaction, number),
+        };
+        assert!(given.iter().all(is_as_its_number), "{given:?}");
         given
     }
 
@@ -257,7 +260,7 @@ fn pictures_not_at_rest() {
     }
 }
 
-/// Blockers come out the same by the tree and by the flat list of entries.
+/// Blockers, and the one that is named, come out the same by the tree and by the flat list of entries.
 #[test]
 fn blockers_two_ways() {
     let mut random = Random::new(13);
@@ -268,6 +271,7 @@ fn blockers_two_ways() {
         for waiter in &tables.desk.queue {
             let blockers = tables.blockers(*waiter);
             assert_eq!(waits.behind(*waiter), Some(&blockers));
+            assert_eq!(tables.blocker(*waiter), waits.named(*waiter));
             let circle = waits.shortest_circle(*waiter);
             assert_eq!(tables.is_on_circle(*waiter), circle.is_some());
             blocked += usize::from(!blockers.is_empty());

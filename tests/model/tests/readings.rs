@@ -1,5 +1,5 @@
-//! Places where document 01 leaves a choice or is easily misread, each as a small case. What is
-//! expected was worked out by hand.
+//! Places where document 01 leaves a choice or is easily misread, each as a small case, and whom an
+//! answer 3 names (document 02, [4]). What is expected was worked out by hand.
 
 use model::entry::Entry;
 use model::key::Key;
@@ -28,7 +28,8 @@ fn a_circle_of_sixteen_is_found() {
     }
     for transaction in 1..=15u16 {
         let next = (u64::from(transaction) + 1) * 10;
-        assert_eq!(session.read(transaction, next, next), [Answer::plain(transaction, 3)]);
+        let behind_the_next = [Answer::waiting(transaction, transaction + 1)];
+        assert_eq!(session.read(transaction, next, next), behind_the_next);
     }
     assert_eq!(session.read(16, 10, 10), [Answer::plain(16, 19)]);
     assert_eq!(session.tables().desk.queue, (1..=15).collect::<Vec<u16>>());
@@ -40,8 +41,8 @@ fn a_circle_of_sixteen_is_found() {
 fn a_run_can_free_an_older_request() {
     let mut session = settled_with_begun(&[10, 20], 3);
     session.read(1, 20, 20);
-    assert_eq!(session.insert(2, 12, 1), [Answer::plain(2, 3)]);
-    assert_eq!(session.delete(3, 17), [Answer::plain(3, 3)]);
+    assert_eq!(session.insert(2, 12, 1), [Answer::waiting(2, 1)]);
+    assert_eq!(session.delete(3, 17), [Answer::waiting(3, 2)]);
     let answers = session.insert(1, 15, 1);
     assert_eq!(answers, [Answer::plain(1, 0), Answer::plain(3, 2)]);
     assert_eq!(session.tables().desk.queue, [2]);
@@ -53,7 +54,7 @@ fn a_run_can_free_an_older_request() {
 fn a_waiting_insert_finds_its_key_present() {
     let mut session = settled_with_begun(&[20], 2);
     session.read(1, 20, 20);
-    assert_eq!(session.insert(2, 15, 5), [Answer::plain(2, 3)]);
+    assert_eq!(session.insert(2, 15, 5), [Answer::waiting(2, 1)]);
     assert_eq!(session.insert(1, 15, 6), [Answer::plain(1, 0)]);
     let answers = session.commit(1);
     assert_eq!(answers, [Answer::plain(1, 0), Answer::showing(2, 16, Key(15), 6)]);
@@ -66,8 +67,8 @@ fn a_waiting_insert_finds_its_key_present() {
 fn a_waiting_delete_finds_its_key_gone() {
     let mut session = settled_with_begun(&[10, 20], 3);
     session.delete(1, 10);
-    assert_eq!(session.delete(2, 10), [Answer::plain(2, 3)]);
-    assert_eq!(session.read(3, 10, 10), [Answer::plain(3, 3)]);
+    assert_eq!(session.delete(2, 10), [Answer::waiting(2, 1)]);
+    assert_eq!(session.read(3, 10, 10), [Answer::waiting(3, 1)]);
     let answers = session.commit(1);
     assert_eq!(answers, [Answer::plain(1, 0), Answer::plain(2, 2), Answer::plain(3, 2)]);
     let s_on_20 = |holder| Slot::Taken(Lock { name: Key(20), holder, mode: Mode::S });
@@ -80,8 +81,8 @@ fn a_waiting_delete_finds_its_key_gone() {
 fn a_lock_on_the_target_excuses_from_the_queue() {
     let mut session = settled_with_begun(&[20], 3);
     session.read(1, 20, 20);
-    assert_eq!(session.delete(2, 20), [Answer::plain(2, 3)]);
-    assert_eq!(session.read(3, 20, 20), [Answer::plain(3, 3)]);
+    assert_eq!(session.delete(2, 20), [Answer::waiting(2, 1)]);
+    assert_eq!(session.read(3, 20, 20), [Answer::waiting(3, 2)]);
     assert_eq!(session.read(1, 20, 20), [Answer::showing(1, 1, Key(20), 20)]);
 }
 
@@ -119,7 +120,7 @@ fn delete_and_insert_meet_their_own_ghost() {
 fn another_ones_ghost_blocks() {
     let mut session = settled_with_begun(&[20, 30], 2);
     session.delete(1, 20);
-    assert_eq!(session.read(2, 15, 30), [Answer::plain(2, 3)]);
+    assert_eq!(session.read(2, 15, 30), [Answer::waiting(2, 1)]);
     let answers = session.rollback(1);
     assert_eq!(answers, [Answer::plain(1, 0), Answer::showing(2, 1, Key(20), 20)]);
 }
@@ -139,8 +140,8 @@ fn seventeen_is_said_only_in_a_run_that_needs_a_slot() {
     assert_eq!(session.insert(2, 900, 0), [Answer::plain(2, 17)]);
     assert_eq!(session.read(2, 5, 5), [Answer::plain(2, 2)], "1000 is held already");
     assert_eq!(session.delete(2, 1000), [Answer::plain(2, 0)]);
-    assert_eq!(session.read(3, 1000, 1000), [Answer::plain(3, 3)]);
-    assert_eq!(session.read(2, 2001, 2001), [Answer::plain(2, 3)]);
+    assert_eq!(session.read(3, 1000, 1000), [Answer::waiting(3, 2)]);
+    assert_eq!(session.read(2, 2001, 2001), [Answer::waiting(2, 1)]);
 }
 
 /// "In a run, 17 comes before every other number" (document 01, What the desk says): before 18, 16,
@@ -207,7 +208,7 @@ fn one_commit_gives_thirteen_nineteens() {
         assert_eq!(session.read(transaction, 30, 30), found);
     }
     for transaction in 2..=16 {
-        assert_eq!(session.insert(transaction, 15, 0), [Answer::plain(transaction, 3)]);
+        assert_eq!(session.insert(transaction, 15, 0), [Answer::waiting(transaction, 1)]);
     }
     let mut expected = vec![Answer::plain(1, 0)];
     expected.extend((3..=15).rev().map(|transaction| Answer::plain(transaction, 19)));
@@ -223,8 +224,8 @@ fn a_rollback_can_close_a_circle() {
     assert_eq!(session.insert(1, 20, 0), [Answer::plain(1, 0)]);
     session.read(2, 50, 50);
     session.read(3, 30, 30);
-    assert_eq!(session.insert(2, 15, 0), [Answer::plain(2, 3)]);
-    assert_eq!(session.delete(3, 50), [Answer::plain(3, 3)]);
+    assert_eq!(session.insert(2, 15, 0), [Answer::waiting(2, 1)]);
+    assert_eq!(session.delete(3, 50), [Answer::waiting(3, 2)]);
     assert_eq!(session.rollback(1), [Answer::plain(1, 0), Answer::plain(3, 19)]);
     assert_eq!(session.tables().desk.queue, [2]);
 }
@@ -235,8 +236,8 @@ fn a_rollback_can_close_a_circle() {
 fn a_joining_insert_can_free_others() {
     let mut session = settled_with_begun(&[10, 20], 3);
     assert_eq!(session.read(1, 12, 18), [Answer::plain(1, 2)]);
-    assert_eq!(session.insert(2, 12, 0), [Answer::plain(2, 3)]);
-    assert_eq!(session.read(3, 16, 18), [Answer::plain(3, 3)]);
+    assert_eq!(session.insert(2, 12, 0), [Answer::waiting(2, 1)]);
+    assert_eq!(session.read(3, 16, 18), [Answer::waiting(3, 2)]);
     let answers = session.insert(1, 15, 0);
     assert_eq!(answers, [Answer::plain(1, 0), Answer::plain(3, 2)]);
 }
@@ -249,7 +250,7 @@ fn a_waiter_whose_target_moves_is_overtaken_again_and_again() {
     session.begin(3);
     let found = |transaction| [Answer::showing(transaction, 1, Key(40), 40)];
     assert_eq!(session.read(1, 40, 40), found(1));
-    assert_eq!(session.insert(3, 15, 0), [Answer::plain(3, 3)]);
+    assert_eq!(session.insert(3, 15, 0), [Answer::waiting(3, 1)]);
     let (mut holder, mut other) = (1, 2);
     for _ in 0..20 {
         assert_eq!(session.insert(holder, 20, 0), [Answer::plain(holder, 0)]);
@@ -268,7 +269,7 @@ fn one_commit_gives_sixteen_answers() {
     let mut session = settled_with_begun(&[10], 16);
     session.delete(1, 10);
     for transaction in 2..=16 {
-        assert_eq!(session.read(transaction, 10, 10), [Answer::plain(transaction, 3)]);
+        assert_eq!(session.read(transaction, 10, 10), [Answer::waiting(transaction, 1)]);
     }
     let mut expected = vec![Answer::plain(1, 0)];
     expected.extend((2..=16).map(|transaction| Answer::plain(transaction, 2)));
@@ -285,8 +286,66 @@ fn one_commit_gives_sixteen_answers() {
 fn rollback_drops_a_queued_request_and_frees_those_behind_it() {
     let mut session = settled_with_begun(&[20], 3);
     session.read(1, 20, 20);
-    assert_eq!(session.delete(2, 20), [Answer::plain(2, 3)]);
-    assert_eq!(session.read(3, 20, 20), [Answer::plain(3, 3)]);
+    assert_eq!(session.delete(2, 20), [Answer::waiting(2, 1)]);
+    assert_eq!(session.read(3, 20, 20), [Answer::waiting(3, 2)]);
     let answers = session.rollback(2);
     assert_eq!(answers, [Answer::plain(2, 0), Answer::showing(3, 1, Key(20), 20)]);
+}
+
+/// Settled 10, 20. 3 and then 2 hold S on 20; 4 waits there to insert 15. In the way of 5, which
+/// inserts 16, are all three: the lowest is named, neither the first in the lock table nor the last
+/// in the queue.
+#[test]
+fn the_lowest_of_two_holders_and_an_earlier_waiter_is_named() {
+    let mut session = settled_with_begun(&[10, 20], 5);
+    assert_eq!(session.read(3, 12, 18), [Answer::plain(3, 2)]);
+    assert_eq!(session.read(2, 12, 18), [Answer::plain(2, 2)]);
+    assert_eq!(session.insert(4, 15, 0), [Answer::waiting(4, 2)]);
+    assert_eq!(session.insert(5, 16, 0), [Answer::waiting(5, 2)]);
+}
+
+/// Settled 10, 20. 3 holds S on 20, and 1 waits there to insert 15. In the way of 2, which inserts
+/// 16, are the holder 3 and the earlier waiter 1; in that of 4, which reads 20, the waiters 1 and 2
+/// alone.
+#[test]
+fn an_earlier_waiter_lower_than_the_holder_is_named() {
+    let mut session = settled_with_begun(&[10, 20], 4);
+    assert_eq!(session.read(3, 12, 18), [Answer::plain(3, 2)]);
+    assert_eq!(session.insert(1, 15, 0), [Answer::waiting(1, 3)]);
+    assert_eq!(session.insert(2, 16, 0), [Answer::waiting(2, 1)]);
+    assert_eq!(session.read(4, 20, 20), [Answer::waiting(4, 1)]);
+}
+
+/// Settled 20. 2 and 4 hold S on it, and 1 waits to delete it. When 2 wants to delete it, its own S
+/// is not in its way, and excuses it from waiting behind 1: 4 is named, although 1 and 2 are lower.
+#[test]
+fn an_own_lock_is_not_in_the_way() {
+    let mut session = settled_with_begun(&[20], 4);
+    session.read(2, 20, 20);
+    session.read(4, 20, 20);
+    assert_eq!(session.delete(1, 20), [Answer::waiting(1, 2)]);
+    assert_eq!(session.delete(2, 20), [Answer::waiting(2, 4)]);
+}
+
+/// Settled 20, 30. 5 has deleted both. 1 and 2 wait to read 20, which goes together; 3 waits to
+/// delete 30, and nobody else waits there. Only 5 is in the way of each.
+#[test]
+fn waiters_that_go_together_or_wait_elsewhere_are_not_named() {
+    let mut session = settled_with_begun(&[20, 30], 5);
+    session.delete(5, 20);
+    session.delete(5, 30);
+    assert_eq!(session.read(1, 20, 20), [Answer::waiting(1, 5)]);
+    assert_eq!(session.read(2, 20, 20), [Answer::waiting(2, 5)]);
+    assert_eq!(session.delete(3, 30), [Answer::waiting(3, 5)]);
+}
+
+/// Settled 20. 3 holds S on it, and 1 waits there to insert 15. Then 3 inserts 15 itself, and 1 waits
+/// there: it is no longer in the way of 2, which inserts 17 below 20.
+#[test]
+fn a_waiter_whose_target_has_moved_is_not_named() {
+    let mut session = settled_with_begun(&[20], 3);
+    session.read(3, 20, 20);
+    assert_eq!(session.insert(1, 15, 0), [Answer::waiting(1, 3)]);
+    assert_eq!(session.insert(3, 15, 0), [Answer::plain(3, 0)]);
+    assert_eq!(session.insert(2, 17, 0), [Answer::waiting(2, 3)]);
 }

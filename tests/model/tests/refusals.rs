@@ -190,7 +190,7 @@ fn thirteen_to_fifteen_only_answer() {
     session.begin(1);
     session.begin(2);
     session.delete(1, 10);
-    assert_eq!(session.read(2, 10, 10), [Answer::plain(2, 3)]);
+    assert_eq!(session.read(2, 10, 10), [Answer::waiting(2, 1)]);
     let before = session.picture.clone();
     assert_eq!(session.begin(1), [Answer::plain(1, 13)]);
     assert_eq!(session.begin(2), [Answer::plain(2, 13)], "also while waiting");

@@ -55,9 +55,13 @@ pub fn answer(
     if !matches!(request.kind, Kind::Keys(_)) {
         answers.plain(asker, number::DONE);
     }
-    while work_queue(pages, desk, &mut answers) {}
-    if is_waiting(desk, asker) {
-        answers.plain(asker, number::STILL_QUEUED);
+    let at_rest = loop {
+        if let Some(blockers) = work_queue(pages, desk, &mut answers) {
+            break blockers;
+        }
+    };
+    if let Some(behind) = lowest(at_rest[usize::from(asker)]) {
+        answers.showing(asker, number::STILL_QUEUED, 0, behind);
     }
     answers.written
 }
@@ -114,9 +118,21 @@ fn target(pages: &PagesBytes, asker: u16, keys: Keys) -> Target {
     Target { name, mode, entry }
 }
 
+/// Everyone who blocks each transaction, a bit each; none of one that doesn't wait.
+type Blockers = [u32; 17];
+
+/// The lowest-numbered of those who block a request; nobody where it isn't blocked.
+fn lowest(blocking: u32) -> Option<u32> {
+    (blocking != 0).then(|| blocking.trailing_zeros())
+}
+
 /// One step of the queue: the oldest request that isn't blocked runs, or else the newest on a circle
-/// is refused. Says whether there was one.
-fn work_queue(pages: &mut PagesBytes, desk: &mut DeskBytes, answers: &mut Answers) -> bool {
+/// is refused. Where there is neither it is at rest, and those who block are given.
+fn work_queue(
+    pages: &mut PagesBytes,
+    desk: &mut DeskBytes,
+    answers: &mut Answers,
+) -> Option<Blockers> {
     let length = queue_length(desk);
     let mut targets = [(0, 0); 16];
     let mut blockers = [0; 17];
@@ -132,25 +148,25 @@ fn work_queue(pages: &mut PagesBytes, desk: &mut DeskBytes, answers: &mut Answer
                 }
             }
         }
-        if blocking == 0 {
+        if lowest(blocking).is_none() {
             leave_queue(desk, place);
             run(pages, desk, answers, waiter, keys, target);
-            return true;
+            return None;
         }
         targets[place] = (target.name, target.mode);
         blockers[usize::from(waiter)] = blocking;
     }
     let newest_first = (0..length).rev();
     let mut on_circle = newest_first.filter(|place| is_on_circle(&blockers, queued(desk, *place)));
-    let Some(place) = on_circle.next() else { return false };
+    let Some(place) = on_circle.next() else { return Some(blockers) };
     let waiter = queued(desk, place);
     leave_queue(desk, place);
     answers.plain(waiter, number::CIRCLE);
-    true
+    None
 }
 
 /// Whether the waits lead from a transaction back to itself.
-fn is_on_circle(blockers: &[u32; 17], waiter: u16) -> bool {
+fn is_on_circle(blockers: &Blockers, waiter: u16) -> bool {
     let (mut reached, mut looked_at) = (blockers[usize::from(waiter)], 0u32);
     while reached & !looked_at != 0 {
         let next = (reached & !looked_at).trailing_zeros();

@@ -3,7 +3,7 @@
 
 use desk::judging::Judge;
 use desk::pictures::{all_locks_s, all_locks_x, at_rest, not_at_rest, settled};
-use desk::runs::{Run, biased, together};
+use desk::runs::{Run, biased, named_at_rest, together};
 use desk::under_test::UnderTest;
 use model::generators::requests::{Bias, Requests};
 
@@ -18,6 +18,7 @@ fn sessions_from_fresh() {
     }
     assert!(met.upgrades > 0 && met.inserts_over_own_ghosts > 0 && met.older_freed > 0, "{met:?}");
     assert!(met.height_3 > 0 && met.full_index > 0 && met.settlings > 0, "{met:?}");
+    assert!(met.holders_named > 0 && met.waiters_named_before_holders > 0, "{met:?}");
 }
 
 #[test]
@@ -29,6 +30,12 @@ fn runs_from_pictures_not_at_rest() {
     }));
     assert_eq!(met.requests, 2400);
     assert!(met.count(19) >= 20 && met.count(17) >= 1, "{met:?}");
+}
+
+#[test]
+fn a_3_names_who_is_in_the_way_at_rest() {
+    let met = named_at_rest(PLAIN, 100);
+    assert!(met.count(3) == 100 && met.named_otherwise_at_rest >= 25, "{met:?}");
 }
 
 #[test]

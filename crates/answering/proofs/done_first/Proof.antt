@@ -8,8 +8,11 @@ use Rattle.answering.proofs.done_first.Tie as tie
 put-answer-requires : tie.Need-put-answer-requires
 put-answer-requires c κs = search needs
 
+slice-aggregate-work : tie.Need-slice-aggregate-work
+slice-aggregate-work c = search needs
+
 work-requires : tie.Need-work-requires
-work-requires c κs = (search needs, search (needs, done-room))
+work-requires c κs = (search needs, (search (needs, done-room), search needs))
 
 same-length : tie.Need-same-length
 same-length c = search needs
@@ -26,4 +29,4 @@ returns c = search (needs, done-wrote)
 pub done-first-spec : {M : Type 1} → statement M
 done-first-spec =
     tie.close
-    (tie.spec put-answer-requires work-requires same-length same-length-2 same-length-3 returns)
+    (tie.spec put-answer-requires slice-aggregate-work work-requires same-length same-length-2 same-length-3 returns)

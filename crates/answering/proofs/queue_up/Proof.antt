@@ -1,7 +1,7 @@
 -- `answering::queue_up` meets its contract: the queue worked with the request in it.
 -- Assumes nothing.
 use borrow.Author.Needs.{needs}
-use Rattle.answering.proofs.RequestAnswered.{joined-room, joined-wrote}
+use Rattle.answering.proofs.RequestAnswered.{joined-wrote}
 use Rattle.answering.proofs.queue_up.Statement.{statement}
 use Rattle.answering.proofs.queue_up.Tie as tie
 
@@ -9,7 +9,7 @@ join-requires : tie.Need-join-requires
 join-requires c κs = search needs
 
 work-for-requires : tie.Need-work-for-requires
-work-for-requires c κs = (search needs, (search needs, (search needs, search (needs, joined-room))))
+work-for-requires c κs = (search needs, (search needs, (search needs, search needs)))
 
 same-length : tie.Need-same-length
 same-length c = search needs

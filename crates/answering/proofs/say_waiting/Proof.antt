@@ -1,12 +1,18 @@
--- `answering::say_waiting` meets its contract: the desk's bytes tell who waits.
+-- `answering::say_waiting` meets its contract: at rest who waits is who has somebody in the way.
 -- Assumes nothing.
 use borrow.Author.Needs.{needs}
 use Rattle.answering.proofs.RequestAnswered.{last-none, last-room, last-said}
 use Rattle.answering.proofs.say_waiting.Statement.{statement}
 use Rattle.answering.proofs.say_waiting.Tie as tie
 
-is-waiting-requires : tie.Need-is-waiting-requires
-is-waiting-requires c κs = search needs
+blocker-of-requires : tie.Need-blocker-of-requires
+blocker-of-requires c κs = search needs
+
+enum-known-blocker : tie.Need-enum-known-blocker
+enum-known-blocker c = search needs
+
+enum-told : tie.Need-enum-told
+enum-told c = search needs
 
 returns : tie.Need-returns
 returns c = search (needs, last-none)
@@ -26,4 +32,4 @@ returns-2 c = search (needs, last-said)
 pub say-waiting-spec : {M : Type 1} → statement M
 say-waiting-spec =
     tie.close
-    (tie.spec is-waiting-requires returns put-answer-requires add-result same-length returns-2)
+    (tie.spec blocker-of-requires enum-known-blocker enum-told returns put-answer-requires add-result same-length returns-2)

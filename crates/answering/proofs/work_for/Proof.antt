@@ -1,15 +1,14 @@
--- `answering::work_for` meets its contract: what is said last follows what the queue's turns said.
+-- `answering::work_for` meets its contract: the row has a place for each transaction.
 -- Assumes nothing.
 use borrow.Author.Needs.{needs}
-use Rattle.answering.proofs.RequestAnswered.{work-room, waits-room, waits-wrote}
 use Rattle.answering.proofs.work_for.Statement.{statement}
 use Rattle.answering.proofs.work_for.Tie as tie
 
-work-requires : tie.Need-work-requires
-work-requires c κs = (search needs, search (needs, work-room))
+slice-aggregate-work-with : tie.Need-slice-aggregate-work-with
+slice-aggregate-work-with c = search needs
 
-say-waiting-requires : tie.Need-say-waiting-requires
-say-waiting-requires c κs = (search needs, (search needs, (search needs, search (needs, waits-room))))
+work-with-requires : tie.Need-work-with-requires
+work-with-requires c κs = (search needs, (search needs, (search needs, (search needs, search needs))))
 
 same-length : tie.Need-same-length
 same-length c = search needs
@@ -21,9 +20,9 @@ same-length-3 : tie.Need-same-length-3
 same-length-3 c = search needs
 
 returns : tie.Need-returns
-returns c = search (needs, waits-wrote)
+returns c = search needs
 
 pub work-for-spec : {M : Type 1} → statement M
 work-for-spec =
     tie.close
-    (tie.spec work-requires say-waiting-requires same-length same-length-2 same-length-3 returns)
+    (tie.spec slice-aggregate-work-with work-with-requires same-length same-length-2 same-length-3 returns)

@@ -1,19 +1,23 @@
 -- `turns::work` meets its contract. The invariant: what the whole queue says is what has been written and what the rest will say.
 -- The measure is how many are queued. Assumes nothing.
 use borrow.Author.Needs.{needs}
+use Prim.Native.Nat.{_+_}
+use mathlib.Core.Path.{_≡_}
+use lib.ListN.{length}
+use Rattle.limits.specs.Limits.{transactionsMost}
 use Rattle.queue.specs.QueueLayout.{queued}
-use Rattle.turns.proofs.Works.{Left, left-start, left-room, left-less, left-turn, left-done, left-pages, left-desk}
+use Rattle.turns.proofs.Works.{Left, left-start, left-room, left-less, left-turn, left-done, left-rests, left-space, left-pages, left-desk}
 use Rattle.turns.proofs.work.Statement.{statement}
 use Rattle.turns.proofs.work.Tie as tie
 
 abbrev Inv-loop : tie.InvT-loop
-Inv-loop pages₀ desk₀ answers₀ at end₀ pages desk answers end = Left pages₀ desk₀ answers₀ at pages desk answers end
+Inv-loop pages₀ desk₀ answers₀ at row₀ end₀ pages desk answers row end = Left pages₀ desk₀ answers₀ at pages desk answers end × ((length row ≡ transactionsMost + 1) × (length row₀ ≡ transactionsMost + 1))
 
 abbrev μ-loop : tie.MeasureT-loop
-μ-loop pages₀ desk₀ answers₀ at end₀ pages desk answers end = queued desk
+μ-loop pages₀ desk₀ answers₀ at row₀ end₀ pages desk answers row end = queued desk
 
 loop-holds : tie.Need-loop-holds Inv-loop μ-loop
-loop-holds c = search (needs, left-start)
+loop-holds c = (search (needs, left-start), (search needs, search needs))
 
 turn-requires : tie.Need-turn-requires Inv-loop μ-loop
 turn-requires c κs = search needs
@@ -33,8 +37,11 @@ same-length-2 c = search (needs, left-desk)
 same-length-3 : tie.Need-same-length-3 Inv-loop μ-loop
 same-length-3 c = search needs
 
+same-length-4 : tie.Need-same-length-4 Inv-loop μ-loop
+same-length-4 c = search needs
+
 returns : tie.Need-returns Inv-loop μ-loop
-returns c = search (needs, left-done)
+returns c = (search (needs, left-done), (search (needs, left-rests), search (needs, left-space)))
 
 put-answer-requires : tie.Need-put-answer-requires Inv-loop μ-loop
 put-answer-requires c κs = search (needs, left-room)
@@ -46,7 +53,7 @@ loop-less : tie.Need-loop-less Inv-loop μ-loop
 loop-less c = search (needs, left-less)
 
 loop-again : tie.Need-loop-again Inv-loop μ-loop
-loop-again c = search (needs, left-turn)
+loop-again c = (search (needs, left-turn), (search needs, search needs))
 
 pub work-spec : {M : Type 1} → statement M
 work-spec =
@@ -61,6 +68,7 @@ work-spec =
     same-length
     same-length-2
     same-length-3
+    same-length-4
     returns
     put-answer-requires
     add-end

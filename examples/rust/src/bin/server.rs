@@ -1,8 +1,8 @@
 //! A small tablet server. It owns the picture, numbers the transactions, takes turns over the
 //! tablets, sends one request at a time, and hands every answer to the tablet whose transaction it
-//! names. At the end of the day it saves the picture in FILE and loads it again, and a last tablet
-//! reads what is there. A FILE that is there already is loaded instead, without the day.
-//! `examples/c/server.c` is the same in C. Run with
+//! names. Who has to wait is told whose tablet is in the way. At the end of the day it saves the
+//! picture in FILE and loads it again, and a last tablet reads what is there. A FILE that is there
+//! already is loaded instead, without the day. `examples/c/server.c` is the same in C. Run with
 //! `cargo run --offline --manifest-path examples/rust/Cargo.toml --bin server -- FILE`.
 
 use keydesk::{Asks, Desk, Key, Number, Request, TRANSACTIONS};
@@ -81,7 +81,10 @@ impl Tablet {
             Number::Done => return Ok(self.done()),
             Number::Found { key, .. } => self.walk_on(key),
             Number::Nothing | Number::KeyPresent { .. } => self.go_to(self.step + 1),
-            Number::StillQueued => self.turn = Turn::Waits,
+            Number::StillQueued { .. } => {
+                self.turn = Turn::Waits;
+                return Ok("waits".to_string());
+            }
             Number::LocksInUse | Number::Circle => self.try_again(),
             Number::PagesShort => self.turn = Turn::GivesUp,
             Number::AlreadyRunning | Number::NotRunning | Number::IsWaiting => {
@@ -159,16 +162,24 @@ fn call(desk: &mut Desk, tablets: &mut [Tablet], caller: usize, asks: Asks) -> R
     let request = Request { transaction: tablets[caller].transaction, asks };
     let answers = desk.ask(request);
     for answer in answers.map_err(|refusal| format!("the desk refused a call: {refusal}"))? {
-        let named = tablets.iter().position(|tablet| tablet.transaction == answer.transaction);
-        let named = named.ok_or("an answer names nobody")?;
+        let named = with_transaction(tablets, answer.transaction)?;
         let words = tablets[named].told(answer.says)?;
         print!("tablet {}: {words}", tablets[named].number);
+        if let Number::StillQueued { behind } = answer.says {
+            print!(" behind tablet {}", tablets[with_transaction(tablets, behind)?].number);
+        }
         if named != caller {
             print!(", in tablet {}'s call", tablets[caller].number);
         }
         println!();
     }
     Ok(())
+}
+
+/// The place of the tablet whose transaction an answer names.
+fn with_transaction(tablets: &[Tablet], transaction: u16) -> Result<usize, String> {
+    let named = tablets.iter().position(|tablet| tablet.transaction == transaction);
+    named.ok_or("an answer names nobody".to_string())
 }
 
 /// The lowest transaction number that no tablet has.

@@ -2,8 +2,8 @@
 //!
 //! What each running transaction was told about, and what was changed since, goes by the requests
 //! and their answers alone (`told`); on the way, answers that contradict each other are caught too.
-//! Locks and waits are looked up in the picture, but worked out another way than the desk does it
-//! (`waits`).
+//! Locks and waits, and whom a 3 has to name (document 02, [4]), are looked up in the picture, but
+//! worked out another way than the desk does it (`waits`).
 
 pub mod told;
 pub mod waits;
@@ -28,4 +28,8 @@ pub enum Breach {
     /// A waiting transaction from which some chain of fifteen links doesn't reach a running one
     /// that isn't waiting.
     ChainDoesNotEnd { waiter: u16 },
+    /// The same of the one chain that goes by the lowest-numbered blocker each time.
+    NamedChainDoesNotEnd { waiter: u16 },
+    /// An answer 3 that names another than the lowest-numbered of those who block.
+    NamesAnother { waiter: u16, named: u32 },
 }

@@ -86,6 +86,7 @@ impl Told {
                 self.running.remove(&asker);
             }
             (RequestKind::Keys(request), number::STILL_QUEUED) if runs && !waits => {
+                self.ask_for_name(answer)?;
                 self.since_begin(asker).waiting = Some(request);
             }
             (RequestKind::Keys(request), _) if runs && !waits => {
@@ -155,6 +156,15 @@ impl Told {
             _ => true,
         };
         let Answer { transaction, number, .. } = *answer;
+        if is_true { Ok(()) } else { Err(Breach::Untrue { transaction, number }) }
+    }
+
+    /// A 3 shows no key, and names another transaction that runs; which one is for `waits` to say.
+    fn ask_for_name(&self, answer: &Answer) -> Result<(), Breach> {
+        let Answer { transaction, number, key, record } = *answer;
+        let mut others = self.running.keys().filter(|other| **other != transaction);
+        let names_another = others.any(|other| u32::from(*other) == record);
+        let is_true = key == Key(0) && names_another;
         if is_true { Ok(()) } else { Err(Breach::Untrue { transaction, number }) }
     }
 

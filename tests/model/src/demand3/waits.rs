@@ -4,6 +4,7 @@
 use super::Breach;
 use crate::entry::Entry;
 use crate::key::Key;
+use crate::layout::answer::{Answer, number};
 use crate::layout::desk::{Lock, Mode, TRANSACTION_COUNT};
 use crate::layout::request::KeyRequest;
 use crate::picture::Tables;
@@ -31,7 +32,21 @@ pub fn check(tables: &Tables) -> Result<(), Breach> {
     let waits = Waits::of(tables);
     waits.nobody_waits_behind_nobody()?;
     waits.nobody_waits_in_a_circle()?;
-    waits.every_chain_ends(tables)
+    waits.every_chain_ends(tables)?;
+    waits.every_named_chain_ends(tables)
+}
+
+/// Whom the answers 3 of a call have to name, by the picture after it: "the lowest-numbered
+/// transaction that blocks it", "as it stands at rest" (document 02, [4]).
+pub fn check_named(tables: &Tables, answers: &[Answer]) -> Result<(), Breach> {
+    let waits = Waits::of(tables);
+    for answer in answers.iter().filter(|answer| answer.number == number::STILL_QUEUED) {
+        if waits.named(answer.transaction).map(u32::from) != Some(answer.record) {
+            let Answer { transaction: waiter, record: named, .. } = *answer;
+            return Err(Breach::NamesAnother { waiter, named });
+        }
+    }
+    Ok(())
 }
 
 fn no_conflicting_locks(tables: &Tables) -> Result<(), Breach> {
@@ -107,6 +122,11 @@ impl Waits {
         self.behind.get(&waiter)
     }
 
+    /// The lowest-numbered of those a waiting transaction waits behind.
+    pub fn named(&self, waiter: u16) -> Option<u16> {
+        self.behind(waiter)?.iter().min().copied()
+    }
+
     /// How many links the shortest circle through a waiting transaction has, if there is one.
     pub fn shortest_circle(&self, waiter: u16) -> Option<usize> {
         let mut reached = BTreeSet::from([waiter]);
@@ -149,5 +169,20 @@ impl Waits {
             Some(waiter) => Err(Breach::ChainDoesNotEnd { waiter: *waiter }),
             None => Ok(()),
         }
+    }
+
+    /// Following the one named, link by link, reaches within fifteen a running transaction that
+    /// isn't waiting: whoever asks on, from name to name, comes to somebody who can act.
+    pub fn every_named_chain_ends(&self, tables: &Tables) -> Result<(), Breach> {
+        for waiter in self.behind.keys() {
+            let mut last = *waiter;
+            for _ in 0..LINKS {
+                last = self.named(last).unwrap_or(last);
+            }
+            if self.behind.contains_key(&last) || !tables.desk.is_running(last) {
+                return Err(Breach::NamedChainDoesNotEnd { waiter: *waiter });
+            }
+        }
+        Ok(())
     }
 }

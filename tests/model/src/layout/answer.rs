@@ -32,7 +32,8 @@ pub struct Answer {
 }
 
 impl Answer {
-    /// An answer without a key: "key and record are zero except in 1 and 16".
+    /// An answer that shows nothing: "key and record are zero except in 1 and 16", and since document
+    /// 02, [4], the record in 3.
     pub fn plain(transaction: u16, number: u16) -> Answer {
         Answer { transaction, number, key: Key(0), record: 0 }
     }
@@ -40,6 +41,13 @@ impl Answer {
     /// An answer that shows a key and its record: 1 or 16.
     pub fn showing(transaction: u16, number: u16, key: Key, record: u32) -> Answer {
         Answer { transaction, number, key, record }
+    }
+
+    /// The answer 3: it "carries that number in its record field", the lowest of those who block
+    /// (document 02, [4]). The key stays zero.
+    pub fn waiting(transaction: u16, behind: u16) -> Answer {
+        let number = number::STILL_QUEUED;
+        Answer { transaction, number, key: Key(0), record: behind.into() }
     }
 
     /// Length 20, kind 7, transaction, number, key, record.

@@ -1,16 +1,9 @@
 -- `waits::blockers::blockers_of` meets its contract: the holders, and the earlier ones where the asker holds no lock on what it wants.
 -- Assumes nothing.
 use borrow.Author.Needs.{needs}
-use Rattle.waits.proofs.QueueKnown.{place-low, whole-holders}
 use Rattle.waits.proofs.BlockerSets.{blockers-held, blockers-both}
 use Rattle.waits.proofs.blockers.blockers_of.Statement.{statement}
 use Rattle.waits.proofs.blockers.blockers_of.Tie as tie
-
-noted-at-requires : tie.Need-noted-at-requires
-noted-at-requires c κs = (search needs, (search (needs, place-low), search needs))
-
-scan-requires : tie.Need-scan-requires
-scan-requires c κs = (search needs, search (needs, whole-holders))
 
 returns : tie.Need-returns
 returns c = search (needs, blockers-held)
@@ -22,5 +15,4 @@ returns-2 : tie.Need-returns-2
 returns-2 c = search (needs, blockers-both)
 
 pub blockers-of-spec : {M : Type 1} → statement M
-blockers-of-spec =
-    tie.close (tie.spec noted-at-requires scan-requires returns rivals-of-requires returns-2)
+blockers-of-spec = tie.close (tie.spec returns rivals-of-requires returns-2)

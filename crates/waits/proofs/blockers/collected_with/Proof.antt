@@ -1,4 +1,4 @@
--- `waits::blockers::collected_with` meets its contract: each of the two with slot i.
+-- `waits::blockers::collected_with` meets its contract: each of the three with slot i.
 -- Assumes nothing.
 use borrow.Author.Needs.{needs}
 use Rattle.waits.proofs.BlockerSets.{collected-next}
@@ -14,9 +14,15 @@ is-own-requires c κs = search needs
 first-to-requires : tie.Need-first-to-requires
 first-to-requires c κs = search needs
 
+is-free-requires : tie.Need-is-free-requires
+is-free-requires c κs = search needs
+
+first-to-requires-2 : tie.Need-first-to-requires-2
+first-to-requires-2 c κs = search needs
+
 returns : tie.Need-returns
 returns c = search (needs, collected-next)
 
 pub collected-with-spec : {M : Type 1} → statement M
 collected-with-spec =
-    tie.close (tie.spec with-holder-requires is-own-requires first-to-requires returns)
+    tie.close (tie.spec with-holder-requires is-own-requires first-to-requires is-free-requires first-to-requires-2 returns)

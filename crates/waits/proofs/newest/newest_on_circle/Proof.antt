@@ -10,13 +10,10 @@ use Rattle.waits.proofs.newest.newest_on_circle.Statement.{statement}
 use Rattle.waits.proofs.newest.newest_on_circle.Tie as tie
 
 abbrev Inv-loop : tie.InvT-loop
-Inv-loop pages desk names modes row n seen₀ seen = (seen ≤ n) × (newest book (stateOf pages desk) ≡ newestTo pages desk (n - seen))
+Inv-loop pages desk row n seen₀ seen = (seen ≤ n) × (newest book (stateOf pages desk) ≡ newestTo pages desk (n - seen))
 
 abbrev μ-loop : tie.MeasureT-loop
-μ-loop pages desk names modes row n seen₀ seen = n - seen
-
-rows-of-requires : tie.Need-rows-of-requires Inv-loop μ-loop
-rows-of-requires c κs = search needs
+μ-loop pages desk row n seen₀ seen = n - seen
 
 queued-requires : tie.Need-queued-requires Inv-loop μ-loop
 queued-requires c κs = search needs
@@ -35,9 +32,6 @@ in-place-requires c κs = (search needs, search (needs, next-under))
 
 cast-t : tie.Need-cast-t Inv-loop μ-loop
 cast-t c = search needs
-
-slice-aggregate-on-circle : tie.Need-slice-aggregate-on-circle Inv-loop μ-loop
-slice-aggregate-on-circle c = search needs
 
 on-circle-requires : tie.Need-on-circle-requires Inv-loop μ-loop
 on-circle-requires c κs = (search (needs, next-low), (search (needs, next-high), search (needs, rows-fit)))
@@ -63,14 +57,12 @@ newest-on-circle-spec =
     (tie.spec
     Inv-loop
     μ-loop
-    rows-of-requires
     queued-requires
     loop-holds
     sub-q
     sub-q-2
     in-place-requires
     cast-t
-    slice-aggregate-on-circle
     on-circle-requires
     returns
     add-seen
