@@ -4,7 +4,7 @@ use Prim.Native.Nat.{ℕ, _+_, _*_, _≤_}
 use mathlib.Core.Path.{_≡_, refl, sym, ap, subst, _∙_}
 use mathlib.Core.Bool.{Bool, true, false, cond, not, true≢false}
 use mathlib.Core.List.{List, [], _∷_, _++_}
-use mathlib.Core.Option.{Option, none, some, Option·none-ne-some}
+use mathlib.Core.Option.{none, some, Option·none-ne-some}
 use native.Mathlib.Omega.{arith}
 use borrow.Author.Tests.{eqb-true, not-true, leb-true}
 use lib.Dec.{eqb, leb, lit<}
@@ -15,7 +15,7 @@ use Rattle.lists.proofs.Tests.{and-left, and-right, fails}
 use Rattle.lists.proofs.Elements.{any-in, keep-in}
 use Rattle.rules.specs.Entries.{isThere}
 use Rattle.rules.specs.Queue.{St, Q, blockerOf, leave}
-use Rattle.rules.specs.Runs.{Sy, En, done, waiting, runsAlready, runsNot, waitsAlready, Worked, worked}
+use Rattle.rules.specs.Runs.{En, done, waiting, runsAlready, runsNot, waitsAlready, Worked, worked}
 use Rattle.rules.specs.Desk.{runs, waitsNow, says, ifSo, unlessRuns, refusal, begun, ended, joined, afterDone, waitingAt, waitingLast, acts, unless, step, isTransaction, legalAsk, legalRequest, legalCall}
 use Rattle.rules.proofs.Waits.{queued-runs}
 use Rattle.rules.proofs.Chains.{rest-told}

@@ -1,7 +1,7 @@
 -- The lowest of a set: the search for it, turn by turn; one link further, from one of the set to the next; and it is the lowest of the
 -- list whose set it is. Assumes nothing.
 use Prim.Native.Nat.{ℕ, zero, suc, _+_, _-_, _≤_, _<_}
-use mathlib.Core.Path.{_≡_, refl, sym, ap, subst, _∙_}
+use mathlib.Core.Path.{_≡_, refl, sym, subst, _∙_}
 use mathlib.Core.Bool.{Bool, true, false, true≢false}
 use mathlib.Core.List.{List}
 use mathlib.Core.Option.{Option, none, some}
@@ -9,7 +9,7 @@ use native.Mathlib.Omega.{arith}
 use native.Mathlib.Decide.{decLt}
 use lib.Bits.{bitOr}
 use lib.ListN.{length, getD}
-use Rattle.lists.specs.Lists.{In, lowest, member}
+use Rattle.lists.specs.Lists.{In, lowest}
 use Rattle.lists.proofs.Elements.{in-member, member-in}
 use Rattle.lists.proofs.Lowest.{lowest-is, lowest-of}
 use Rattle.circles.specs.declared.Blocker.{Blocker}

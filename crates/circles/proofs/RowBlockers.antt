@@ -1,8 +1,8 @@
 -- Who is in the way of a transaction's queued request is the lowest of its set in the row. An asker has one wait, so the set has just those who
 -- block it. Assumes the invariants of rules/specs/Good.
-use Prim.Native.Nat.{ℕ, _≤_, _<_}
-use mathlib.Core.Path.{_≡_, refl, sym, ap, subst, _∙_}
-use mathlib.Core.Bool.{Bool, true, false, _&&_, true≢false}
+use Prim.Native.Nat.{ℕ, _<_}
+use mathlib.Core.Path.{_≡_, refl, sym, subst, _∙_}
+use mathlib.Core.Bool.{Bool, true, false, true≢false}
 use mathlib.Core.List.{List, []}
 use mathlib.Core.Option.{Option, none, some}
 use native.Mathlib.Omega.{arith}
@@ -17,7 +17,7 @@ use Rattle.rules.specs.Queue.{St, Wait, waits, blockerIn, blockerOf}
 use Rattle.rules.specs.Good.{Good}
 use Rattle.rules.proofs.Waits.{same-wait, runs-known, blocker-runs}
 use Rattle.circles.specs.declared.Blocker.{Blocker}
-use Rattle.circles.specs.CircleSets.{SetOf, isLink, RowOf}
+use Rattle.circles.specs.CircleSets.{isLink, RowOf}
 use Rattle.circles.specs.InTheWay.{bookBlocker, NextIn}
 use Rattle.circles.proofs.Nexts.{lowest-next}
 

@@ -15,7 +15,7 @@ use Rattle.rules.specs.Kinds.{Book, Mode, S, X, Name, on, Ask, read, insert, de
 use Rattle.rules.specs.Entries.{atMost, inserted, put}
 use Rattle.rules.specs.Locks.{Slots, taken, named, itself}
 use Rattle.rules.specs.Queue.{St, Q, Wait, oldest, newest, leave}
-use Rattle.rules.specs.Runs.{done, found, nothing, waiting, runsAlready, runsNot, waitsAlready, pagesShort, Sy, En, Ran, unmoved, given, taking, readSays, insertMissing, insertThere, insertAs, deleteThere, deleteAs, runOn, run, Turn, refused, served, turn, worked}
+use Rattle.rules.specs.Runs.{done, found, nothing, runsAlready, runsNot, waitsAlready, pagesShort, Sy, En, Ran, unmoved, given, taking, readSays, insertMissing, insertThere, insertAs, deleteThere, deleteAs, runOn, run, Turn, refused, served, turn, worked}
 use Rattle.rules.specs.Desk.{An, runs, waitsNow, says, ifSo, unlessRuns, refusal, begun, ended, joined, waitingAt, acts}
 use Rattle.rules.specs.Good.{Good}
 use Rattle.rules.proofs.Rest.{turn-leaves, worked-by-turns}

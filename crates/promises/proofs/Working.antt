@@ -1,7 +1,7 @@
 -- The queue is worked as specs/Demand2 says (`works`): each turn the oldest request that isn't blocked runs, or, where all are blocked, the newest
 -- on a circle gives way, until neither is there. By recursion along the turns, each of which keeps the invariants. Assumes nothing.
 use mathlib.Core.Path.{_≡_, refl, sym, ap, subst, _∙_}
-use mathlib.Core.Logic.{_≢_, _⊎_, inl, inr}
+use mathlib.Core.Logic.{_≢_, inl, inr}
 use mathlib.Core.Bool.{Bool, true, false, cond, true≢false}
 use mathlib.Core.List.{List, [], _∷_, _++_}
 use mathlib.Core.Option.{Option, none, some, Option·none-ne-some, Option·some-injective}

@@ -1,8 +1,8 @@
 -- The table of cases holds: the rule book, played on each case, gives what the case states. By computation.
 -- Assumes nothing.
-use mathlib.Core.Path.{_≡_, refl, subst}
+use mathlib.Core.Path.{refl, subst}
 use mathlib.Core.Logic.{inl, inr}
-use mathlib.Core.List.{[], _∷_}
+use mathlib.Core.List.{[]}
 use Rattle.lists.specs.Lists as L
 use Rattle.rules.specs.Runs.{En}
 use Rattle.rules.specs.Good as G

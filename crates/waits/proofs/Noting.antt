@@ -61,14 +61,6 @@ module _ (p d ns ms : List ℕ) where
   noted-want q t m k a e =
       record { asker = a; want = ap (λ c. record { name = nameIn (getD ns q 0); mode = c }) e ∙ k .wants q (omega arith) }
 
-  -- ---- there is room for as many as before
-  module _ (xs ys : List ℕ) (h : Noted p d xs ys 0) (q : ℕ) (g : Looked) (k : LookedAt p d ns ms q g) where
-    pub names-same : length ns ≡ length xs
-    names-same = k .noted .names ∙ sym (h .names)
-
-    pub modes-same : length ms ≡ length ys
-    modes-same = k .noted .modes ∙ sym (h .modes)
-
   -- ---- what is known of a request that has been looked at
   module _ (q : ℕ) (g : Looked) (k : LookedAt p d ns ms q g) where
     pub looked-noted : Noted p d ns ms (q + 1)

@@ -1,5 +1,4 @@
 // The oldest request that nobody blocks. (Document 01, "Locks" and "Working the queue".)
-ghost use mathlib.Core.Path.{_≡_};
 ghost use Prim.Native.Nat.{_+_, _<_};
 ghost use Rattle.limits.specs.Limits.{locksMost};
 ghost use Rattle.queue.specs.QueueLayout.{queued};

@@ -1,7 +1,7 @@
 -- `circles::clear` meets its contract. The invariant: the sets before place t are empty. The measure is what is left of the row.
 -- Assumes nothing.
 use borrow.Author.Needs.{needs}
-use Prim.Native.Nat.{_-_, _≤_}
+use Prim.Native.Nat.{_-_}
 use Rattle.circles.proofs.Clearing.{Cleared, clear-start, clear-turn, clear-end}
 use Rattle.circles.proofs.clear.Statement.{statement}
 use Rattle.circles.proofs.clear.Tie as tie
