@@ -7,7 +7,7 @@ use mathlib.Core.List.{[], _∷_}
 use mathlib.Core.Logic.{inl, inr}
 use Rattle.lists.specs.Lists.{In}
 use Rattle.rules.specs.Queue.{Wait, waits}
-use Rattle.rules.specs.Chains.{Behind, Free}
+use Rattle.rules.specs.Chains.{Behind, Free, followed}
 use Rattle.rules.specs.Document.{document, endless}
 use Rattle.rules.specs.ScenePins.{standing, Pinned}
 use Rattle.rules.proofs.Computing.{the-book, the-cases}
@@ -25,7 +25,7 @@ only-three w u (inl e) i = go (subst (λ (x : Wait (document endless)). In u (x 
     go (inl h) = h
 
 pub pinned : Pinned
-unfolding the-book the-cases
+unfolding the-book the-cases followed
 pinned =
     let behind : Behind (document endless) standing 2 3 = record { wait = _; queued = inl refl; asker = refl; blocker = inl refl } in
     record {
@@ -35,4 +35,8 @@ pinned =
       waits = λ f. true≢false (f .itWaitsNot);
       idle = λ f. true≢false (sym (f .itRuns));
       oneLink = inr ((3, behind), λ u b. subst (Free (document endless) standing) (only-three (b .wait) u (b .queued) (b .blocker)) three-is-free);
+      told = refl;
+      toldNobody = refl;
+      leads = refl;
+      stays = refl;
     }
