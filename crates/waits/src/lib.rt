@@ -12,13 +12,13 @@ use locks::Mode;
 
 mod blocked;
 mod blockers;
-mod newest;
+mod lightest;
 mod notes;
 mod slots;
 pub mod targets;
 
 pub use blocked::oldest;
-pub use newest::newest_on_circle;
+pub use lightest::newest_on_circle;
 
 // What a request wants: who asks, its target's name, and the mode.
 pub struct Want {

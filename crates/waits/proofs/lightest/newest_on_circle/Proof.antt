@@ -1,4 +1,4 @@
--- `waits::newest::newest_on_circle` meets its contract. The invariant: the newest of all is the newest of those not seen.
+-- `waits::lightest::newest_on_circle` meets its contract. The invariant: the newest of all is the newest of those not seen.
 -- The measure is how many are left. Assumes nothing.
 use borrow.Author.Needs.{needs}
 use Prim.Native.Nat.{_≤_, _-_}
@@ -6,8 +6,8 @@ use mathlib.Core.Path.{_≡_}
 use Rattle.rules.specs.Queue.{newest}
 use Rattle.states.specs.States.{book, stateOf}
 use Rattle.waits.proofs.WaitRows.{newestTo, newest-start, newest-end, newest-here, newest-on, next-under, next-low, next-high, rows-fit}
-use Rattle.waits.proofs.newest.newest_on_circle.Statement.{statement}
-use Rattle.waits.proofs.newest.newest_on_circle.Tie as tie
+use Rattle.waits.proofs.lightest.newest_on_circle.Statement.{statement}
+use Rattle.waits.proofs.lightest.newest_on_circle.Tie as tie
 
 abbrev Inv-loop : tie.InvT-loop
 Inv-loop pages desk row n seen₀ seen = (seen ≤ n) × (newest book (stateOf pages desk) ≡ newestTo pages desk (n - seen))
