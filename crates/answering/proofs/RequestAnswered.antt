@@ -6,8 +6,8 @@ use mathlib.Core.Bool.{Bool, true, false, cond, not, true≢false}
 use mathlib.Core.List.{List, [], _∷_, _++_}
 use mathlib.Core.Option.{none, some, Option·none-ne-some}
 use native.Mathlib.Omega.{arith}
-use borrow.Author.Tests.{eqb-true, not-true, leb-true}
-use lib.Dec.{eqb, leb, lit<}
+use borrow.Author.Tests.{eqb-true, not-true}
+use lib.Dec.{eqb, lit<}
 use lib.ListN.{length, getD, length-append}
 use Rattle.limits.specs.Limits.{transactionsMost, answerSize, spaceLeast}
 use Rattle.lists.specs.Lists.{any}
@@ -17,7 +17,7 @@ use Rattle.rules.specs.Entries.{isThere}
 use Rattle.rules.specs.Queue.{St, Q, blockerOf, leave}
 use Rattle.rules.specs.Runs.{En, done, waiting, runsAlready, runsNot, waitsAlready, Worked, worked}
 use Rattle.rules.specs.Desk.{runs, waitsNow, says, ifSo, unlessRuns, refusal, begun, ended, joined, afterDone, waitingAt, waitingLast, acts, unless, step, isTransaction, legalAsk, legalRequest, legalCall}
-use Rattle.rules.proofs.Waits.{queued-runs}
+use Rattle.rules.proofs.Waits.{transaction-low, transaction-high, queued-runs}
 use Rattle.rules.proofs.Chains.{rest-told}
 use Rattle.circles.specs.declared.Blocker.{Blocker}
 use Rattle.circles.specs.declared.Blocker.the-variants as CV
@@ -195,10 +195,10 @@ module _ (call : Call) (h : legalCall book (bookCall call) ≡ true) where
   known = and-left (isTransaction book (call .asker)) (legalRequest book (bookRequest (call .request))) h
 
   pub asker-low : 1 ≤ call .asker
-  asker-low = leb-true 1 (call .asker) (and-left (leb 1 (call .asker)) (leb (call .asker) transactionsMost) known)
+  asker-low = transaction-low book (call .asker) known
 
   pub asker-high : call .asker ≤ transactionsMost
-  asker-high = leb-true (call .asker) transactionsMost (and-right (leb 1 (call .asker)) (leb (call .asker) transactionsMost) known)
+  asker-high = transaction-high book (call .asker) known
 
   pub ask-legal : (a : Ask) → call .request ≡ Asks a → legalAsk book (bookAsk a) ≡ true
   unfolding legalRequest

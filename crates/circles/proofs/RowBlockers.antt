@@ -6,16 +6,16 @@ use mathlib.Core.Bool.{Bool, true, false, true≢false}
 use mathlib.Core.List.{List, []}
 use mathlib.Core.Option.{Option, none, some}
 use native.Mathlib.Omega.{arith}
-use borrow.Author.Tests.{eqb-true, leb-true}
-use lib.Dec.{eqb, leb}
+use borrow.Author.Tests.{eqb-true}
+use lib.Dec.{eqb}
 use lib.ListN.{getD}
-use Rattle.lists.specs.Lists.{In, any, first, lowest, member}
+use Rattle.lists.specs.Lists.{In, any, first, lightest, member}
 use Rattle.lists.proofs.Tests.{and-left, and-right, and-both, fails}
 use Rattle.lists.proofs.Elements.{any-in, in-any, first-in, none-first}
 use Rattle.rules.specs.Kinds.{Book}
 use Rattle.rules.specs.Queue.{St, Wait, waits, blockerIn, blockerOf}
 use Rattle.rules.specs.Good.{Good}
-use Rattle.rules.proofs.Waits.{same-wait, runs-known, blocker-runs}
+use Rattle.rules.proofs.Waits.{same-wait, transaction-low, transaction-high, runs-known, blocker-runs}
 use Rattle.circles.specs.declared.Blocker.{Blocker}
 use Rattle.circles.specs.CircleSets.{isLink, RowOf}
 use Rattle.circles.specs.InTheWay.{bookBlocker, NextIn}
@@ -28,7 +28,7 @@ module _ (B : Book) (s : St B) (good : Good B s) (row : List ℕ) (r : RowOf B r
 
   -- its wait, and those who block it; or none, and nobody
   links-of : (o : Option (Wait B)) → first asks (waits B s) ≡ o → bookBlocker b ≡ blockerIn B o
-  unfolding any lowest
+  unfolding any lightest
   links-of none e =
       lowest-next (getD row t 0) to [] b
       (record { just = λ u. r .just t u ∙ fails (any (isLink B t u) (waits B s)) (λ h. nobody u (any-in (isLink B t u) (waits B s) h)) })
@@ -40,7 +40,7 @@ module _ (B : Book) (s : St B) (good : Good B s) (row : List ℕ) (r : RowOf B r
   links-of (some w) e =
       lowest-next (getD row t 0) to (w .behind) b (record { just = λ u. r .just t u ∙ same u (member u (w .behind)) refl })
       (λ u i. let k = runs-known B s good u (blocker-runs B s good w (f .0) u i .0) in
-      (leb-true 1 u (and-left (leb 1 u) (leb u (B .transactions)) k), omega (arith, leb-true u (B .transactions) (and-right (leb 1 u) (leb u (B .transactions)) k)))) x
+      (transaction-low B u k, omega (arith, transaction-high B u k))) x
     where
       f : In w (waits B s) × (asks w ≡ true)
       f = first-in asks (waits B s) w e

@@ -5,7 +5,7 @@ use mathlib.Core.Path.{_≡_, refl, sym, ap, subst, _∙_}
 use mathlib.Core.Logic.{_⊎_, inl, inr, ⊎-elim}
 use mathlib.Core.Bool.{Bool, true, false, cond, not, true≢false, false≢true}
 use mathlib.Core.List.{List, [], _∷_, _++_, map}
-use mathlib.Core.Option.{Option, none, some, Option·none-ne-some, Option·some-injective}
+use mathlib.Core.Option.{none, some, Option·none-ne-some, Option·some-injective}
 use Prim.Native.Nat.{ℕ, zero, suc, _+_, _≤_, _<_}
 use native.Mathlib.Decide.{decLt}
 use native.Mathlib.Omega.{arith}
@@ -13,7 +13,7 @@ use borrow.Author.Tests.{eqb-true, eq-eqb, not-true}
 use lib.Dec.{eqb}
 use lib.ListN.{drop, getD, length, take}
 use native.Mathlib.Nat.{le-of-suc-le-suc, not-suc-le-zero}
-use Rattle.lists.specs.Lists.{orElse, all, any, keep, first, last, isNil, In, member, tab, place, insertAt, insertBefore}
+use Rattle.lists.specs.Lists.{all, any, keep, first, isNil, In, member, tab, place, insertAt, insertBefore}
 use Rattle.lists.proofs.Tests.{and-left, and-right, and-both, either, or-left, or-right, fails, not-all, alike}
 use Rattle.lists.proofs.Places.{insertBefore-is}
 
@@ -77,28 +77,6 @@ module _ {A : Type 0} where
       go true e h i r = absurd (Option·none-ne-some y (sym h))
       go false e h (inl q) r = ap p (sym q) ∙ e
       go false e h (inr i) r = r h i
-
-  pub last-in : (p : A → Bool) (xs : List A) (x : A) → last p xs ≡ some x → In x xs × (p x ≡ true)
-  unfolding last
-  last-in p [] x h = absurd (Option·none-ne-some x h)
-  last-in p (y ∷ ys) x h = go (last p ys) (p y) refl h (last-in p ys x)
-    where
-      go : (o : Option A) (b : Bool) → p y ≡ b → orElse o (cond b (some y) none) ≡ some x
-          → (o ≡ some x → In x ys × (p x ≡ true)) → In x (y ∷ ys) × (p x ≡ true)
-      go (some z) b e h r = let w = r h in (inr (w .0), w .1)
-      go none true e h r = let q : y ≡ x = Option·some-injective y x h in (inl q, ap p (sym q) ∙ e)
-      go none false e h r = absurd (Option·none-ne-some x h)
-
-  pub none-last : (p : A → Bool) (xs : List A) (x : A) → last p xs ≡ none → In x xs → p x ≡ false
-  unfolding last
-  none-last p (y ∷ ys) x h i = go (last p ys) (p y) refl h i (none-last p ys x)
-    where
-      go : (o : Option A) (b : Bool) → p y ≡ b → orElse o (cond b (some y) none) ≡ none → In x (y ∷ ys)
-          → (o ≡ none → In x ys → p x ≡ false) → p x ≡ false
-      go (some z) b e h i r = absurd (Option·none-ne-some z (sym h))
-      go none true e h i r = absurd (Option·none-ne-some y (sym h))
-      go none false e h (inl q) r = ap p (sym q) ∙ e
-      go none false e h (inr i) r = r refl i
 
   -- ---- one list behind another
   pub append-in : (xs ys : List A) (x : A) → In x (xs ++ ys) → In x xs ⊎ In x ys

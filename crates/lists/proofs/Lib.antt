@@ -6,5 +6,6 @@ pub mod Joins
 pub mod Tables
 pub mod Scans
 pub mod Finite
+pub mod Lightest
 pub mod Lowest
 pub mod Firsts

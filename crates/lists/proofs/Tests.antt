@@ -1,4 +1,4 @@
--- Laws of tests: joined by && and ||, and over lists all, any, keep, first and last, over ++, over map, at a place, and against one another.
+-- Laws of tests: joined by && and ||, and over lists all, any, keep and first, over ++, over map, at a place, and against one another.
 -- Each by induction on the list; where a test decides, its value is an argument of the step. Assumes nothing.
 use mathlib.Core.Path.{_≡_, refl, sym, ap, _∙_, ap₂}
 use mathlib.Core.Logic.{_⊎_, inl, inr}
@@ -11,7 +11,7 @@ use native.Mathlib.Omega.{arith}
 use borrow.Author.Tests.{eqb-true, eqb-false, eq-eqb, ne-eqb}
 use lib.Dec.{eqb}
 use lib.ListN.{length, getD}
-use Rattle.lists.specs.Lists.{all, any, keep, first, isNil, firstSome, last, orElse}
+use Rattle.lists.specs.Lists.{all, any, keep, first, isNil, firstSome, orElse}
 
 -- the two halves of a test, and a test of its halves
 pub and-left : (a b : Bool) → (a && b) ≡ true → a ≡ true
@@ -266,17 +266,6 @@ module _ {A : Type 0} where
       go true false d e g h = absurd (false≢true (sym e ∙ g x refl))
       go false true d e g h = rw d (h g)
       go false false d e g h = h g
-
-  -- ---- last
-  pub last-last : (p : A → Bool) (xs : List A) (x : A) → last p (xs ++ (x ∷ [])) ≡ cond (p x) (some x) (last p xs)
-  unfolding last
-  last-last p [] x = refl
-  last-last p (y ∷ xs) x = ap (λ o. orElse o (cond (p y) (some y) none)) (last-last p xs x) ∙ go (p x)
-    where
-      go : (b : Bool) → orElse (cond b (some x) (last p xs)) (cond (p y) (some y) none)
-          ≡ cond b (some x) (orElse (last p xs) (cond (p y) (some y) none))
-      go true = refl
-      go false = refl
 
 -- ---- over map
 module _ {A B : Type 0} where

@@ -43,11 +43,6 @@ unfoldable pub place : {A : Type 0} → (A → Bool) → List A → ℕ
 place p [] = 0
 place p (x ∷ xs) = cond (p x) 0 (suc (place p xs))
 
--- the last element that passes the test
-unfoldable pub last : {A : Type 0} → (A → Bool) → List A → Option A
-last p [] = none
-last p (x ∷ xs) = orElse (last p xs) (cond (p x) (some x) none)
-
 -- whether the test passes at every two elements, the earlier one first
 unfoldable pub pairs : {A : Type 0} → (A → A → Bool) → List A → Bool
 pairs r [] = true
@@ -72,14 +67,18 @@ times q (x ∷ xs) = cond (eqb x q) 1 0 + times q xs
 abbrev pub member : ℕ → List ℕ → Bool
 member q xs = any (λ x. eqb x q) xs
 
--- the lowest of some numbers, or none where there are none
-abbrev pub lower : ℕ → Option ℕ → ℕ
-lower x none = x
-lower x (some y) = cond (leb x y) x y
+-- of the elements that pass the test the one that weighs least; of equals the last
+abbrev pub lighter : {A : Type 0} → (A → ℕ) → A → Option A → Option A
+lighter f x none = some x
+lighter f x (some y) = cond (leb (f y) (f x)) (some y) (some x)
 
-unfoldable pub lowest : List ℕ → Option ℕ
-lowest [] = none
-lowest (x ∷ xs) = some (lower x (lowest xs))
+unfoldable pub lightest : {A : Type 0} → (A → Bool) → (A → ℕ) → List A → Option A
+lightest p f [] = none
+lightest p f (x ∷ xs) = cond (p x) (lighter f x (lightest p f xs)) (lightest p f xs)
+
+-- the lowest of some numbers, or none where there are none
+abbrev pub lowest : List ℕ → Option ℕ
+lowest us = lightest (λ u. true) (λ u. u) us
 
 -- the lists that f gives of the elements, one after the other
 unfoldable pub join : {A B : Type 0} → (A → List B) → List A → List B

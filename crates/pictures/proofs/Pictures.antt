@@ -7,9 +7,8 @@ use mathlib.Core.Bool.{true, not, false≢true}
 use mathlib.Core.List.{List, map, map-map, map-id}
 use mathlib.Core.Option.{Option, none, some}
 use native.Mathlib.Omega.{arith}
-use borrow.Author.Tests.{eqb-true, eq-eqb, leb-true, ltb-true}
+use borrow.Author.Tests.{eqb-true, eq-eqb, ltb-true}
 use lib.Dec.{eqb, leb, ltb}
-use Rattle.limits.specs.Limits.{transactionsMost}
 use Rattle.lists.specs.Lists.{In, all, pairs, first}
 use Rattle.lists.proofs.Tests.{and-left, and-right}
 use Rattle.lists.proofs.Elements.{all-in, first-in}
@@ -23,7 +22,7 @@ use Rattle.rules.specs.Good.{below, ascending, Good}
 use Rattle.rules.specs.Document.{endMark}
 use Rattle.rules.proofs.Orders.{numbers-ordered}
 use Rattle.rules.proofs.KeyTests.{atMost-itself}
-use Rattle.rules.proofs.Waits.{runs-known}
+use Rattle.rules.proofs.Waits.{transaction-high, runs-known}
 use Rattle.rules.proofs.Sound.{OwnerHolds}
 use Rattle.rules.proofs.Unblocked.{good-sound}
 use Rattle.trees.specs.Trees.{Tree, Index, WholeIndex, documentSizes, flat}
@@ -114,7 +113,7 @@ module _ (s : St book) (d : Drawable s) where
   owner-small e (inl z) = omega arith
   owner-small e (inr w) =
       let k = runs-known book s (d .good) (e .owner) (w .0) in
-      let m = leb-true (e .owner) transactionsMost (and-right (leb 1 (e .owner)) (leb (e .owner) transactionsMost) k) in omega arith
+      let m = transaction-high book (e .owner) k in omega arith
 
   entry-small : (e : Item) → In e (s .entries) → EntryFits e
   unfolding ascending

@@ -14,7 +14,7 @@ use Rattle.lists.proofs.Elements.{none-any, keep-in, append-in}
 use Rattle.rules.specs.Kinds.{Book, Mode, S, X, Name, on, Ask, read, insert, delete, Request, begin, commit, rollback, ask}
 use Rattle.rules.specs.Entries.{atMost, inserted, put}
 use Rattle.rules.specs.Locks.{Slots, taken, named, itself}
-use Rattle.rules.specs.Queue.{St, Q, Wait, oldest, newest, leave}
+use Rattle.rules.specs.Queue.{St, Q, Wait, oldest, yields, leave}
 use Rattle.rules.specs.Runs.{done, found, nothing, runsAlready, runsNot, waitsAlready, pagesShort, Sy, En, Ran, unmoved, given, taking, readSays, insertMissing, insertThere, insertAs, deleteThere, deleteAs, runOn, run, Turn, refused, served, turn, worked}
 use Rattle.rules.specs.Desk.{An, runs, waitsNow, says, ifSo, unlessRuns, refusal, begun, ended, joined, waitingAt, acts}
 use Rattle.rules.specs.Good.{Good}
@@ -141,12 +141,12 @@ module _ (B : Book) where
   unfolding turn run
   turn-stands s o e = by-oldest (oldest B s) e
     where
-      by-newest : (w : Option (Wait B)) → refused B s w ≡ some o → isTurnedAway B (o .answer .says) ≡ false
-      by-newest none e = never (cc)
-      by-newest (some w) e = rw (← Option·some-injective _ o e)
+      by-yields : (w : Option (Wait B)) → refused B s w ≡ some o → isTurnedAway B (o .answer .says) ≡ false
+      by-yields none e = never (cc)
+      by-yields (some w) e = rw (← Option·some-injective _ o e)
 
       by-oldest : (w : Option (Wait B)) → served B s w ≡ some o → isTurnedAway B (o .answer .says) ≡ false
-      by-oldest none e = by-newest (newest B s) e
+      by-oldest none e = by-yields (yields B s) e
       by-oldest (some w) e = rw (← Option·some-injective _ o e) (ran-stands s (w .request .asker) (w .request .asks) _)
 
   worked-stands : (s : St B) (as′ : List (An B)) → turnedAway B (some as′) ≡ false → turnedAway B (some (worked B s .answers ++ as′)) ≡ false

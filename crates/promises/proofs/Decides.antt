@@ -6,17 +6,17 @@ use mathlib.Core.Logic.{_≢_, _⊎_, inl, inr}
 use mathlib.Core.Bool.{Bool, true, false, not, true≢false, false≢true}
 use mathlib.Core.List.{List, [], _∷_, _++_}
 use mathlib.Core.Option.{Option, none, some, Option·some-injective}
-use Rattle.lists.specs.Lists.{all, In, first, last, isNil}
+use Rattle.lists.specs.Lists.{all, In, first, isNil}
 use Rattle.lists.proofs.Tests.{fails, never, nil-is, first-past, first-hit}
-use Rattle.lists.proofs.Elements.{all-in, in-all, in-right, first-in, last-in}
+use Rattle.lists.proofs.Elements.{all-in, in-all, in-right, first-in}
 use Rattle.rules.specs.Kinds.{Book, Ordered, insert, delete, Request, begin, commit, rollback, ask}
 use Rattle.rules.specs.Entries.{Entries, same, inserted, deleted, revived, put, changed}
-use Rattle.rules.specs.Queue.{St, Q, Wait, waits, isFree, oldest, newest, onCircle}
+use Rattle.rules.specs.Queue.{St, Q, Wait, waits, isFree, oldest, onCircle, yields}
 use Rattle.rules.specs.Runs.{done, found, nothing, waiting, runsAlready, runsNot, waitsAlready, isPresent, locksShort, pagesShort, circle, Sy, En, Ran, unmoved, run, Turn, left, refused, served, turn, Worked, worked, AtRest}
 use Rattle.rules.specs.Desk.{An, refusal, joined, afterDone, waitingLast, acts, step, isTransaction, legalRequest}
 use Rattle.rules.specs.Good.{Good}
 use Rattle.rules.proofs.KeyTests.{same-itself}
-use Rattle.rules.proofs.Waits.{free-nil, oldest-waits, newest-waits, same-wait}
+use Rattle.rules.proofs.Waits.{free-nil, oldest-waits, yields-is, none-yields, yields-waits, same-wait}
 use Rattle.rules.proofs.Rest.{worked-turn, worked-done, worked-rests}
 use Rattle.rules.proofs.Chains.{found-is-circle, circle-is-found}
 use Rattle.rules.proofs.GoodKept.{good-kept}
@@ -127,24 +127,14 @@ module _ (B : Book) (L : Ordered (B .Key) (B .compare)) where
         go locksShort e = refused-same (inl e)
         go pagesShort e = refused-same (inr e)
 
--- ---- the last that passes a test
+-- ---- where none passes a test
 module _ {A : Type 0} where
-  none-passes : (p : A → Bool) (xs : List A) → ((x : A) → In x xs → p x ≡ false) → (first p xs ≡ none) × (last p xs ≡ none)
-  none-passes p xs f = (by-first (first p xs) refl, by-last (last p xs) refl)
+  none-passes : (p : A → Bool) (xs : List A) → ((x : A) → In x xs → p x ≡ false) → first p xs ≡ none
+  none-passes p xs f = go (first p xs) refl
     where
-      by-first : (o : Option A) → first p xs ≡ o → o ≡ none
-      by-first none e = refl
-      by-first (some x) e = let w = first-in p xs x e in absurd (true≢false (sym (w .1) ∙ f x (w .0)))
-
-      by-last : (o : Option A) → last p xs ≡ o → o ≡ none
-      by-last none e = refl
-      by-last (some x) e = let w = last-in p xs x e in absurd (true≢false (sym (w .1) ∙ f x (w .0)))
-
-  last-here : (p : A → Bool) (ahead : List A) (x : A) (after : List A) → p x ≡ true → ((y : A) → In y after → p y ≡ false)
-      → last p (ahead ++ (x ∷ after)) ≡ some x
-  unfolding last
-  last-here p [] x after h f = rw (none-passes p after f .1, h)
-  last-here p (y ∷ ahead) x after h f = rw (last-here p ahead x after h f)
+      go : (o : Option A) → first p xs ≡ o → o ≡ none
+      go none e = refl
+      go (some x) e = let w = first-in p xs x e in absurd (true≢false (sym (w .1) ∙ f x (w .0)))
 
 module _ (B : Book) where
   -- ---- a turn
@@ -160,14 +150,19 @@ module _ (B : Book) where
 
   oldest-none-is : (s : St B) → ((v : Wait B) → In v (waits B s) → v .behind ≢ []) → oldest B s ≡ none
   unfolding oldest
-  oldest-none-is s f = none-passes (isFree B) (waits B s) (λ v i. not-free v (f v i)) .0
+  oldest-none-is s f = none-passes (isFree B) (waits B s) (λ v i. not-free v (f v i))
 
-  newest-is : (s : St B) → Good B s → (w : Wait B) → MustGiveWay B s w → newest B s ≡ some w
-  unfolding newest
-  newest-is s g w h =
-      ap (last (onCircle B (waits B s))) (h .place)
-      ∙ last-here (onCircle B (waits B s)) (h .ahead) w (h .after) found-here
-      (λ v i. fails (onCircle B (waits B s) v) (λ e. h .newest v i (found-is-circle B s v (stands v (inr i)) e)))
+  yields-then : (s : St B) → Good B s → (w : Wait B) → MustGiveWay B s w → yields B s ≡ some w
+  yields-then s g w h =
+      yields-is B s w
+      (record {
+        ahead = h .ahead;
+        after = h .after;
+        place = h .place;
+        passes = found-here;
+        fewest = λ v i e. h .fewest v i (found-is-circle B s v i e);
+        last = λ v i e. h .newest v i (found-is-circle B s v (stands v (inr i)) e);
+      })
     where
       stands : (v : Wait B) → In v (w ∷ h .after) → In v (waits B s)
       stands v i = rw (h .place) (in-right (h .ahead) (w ∷ h .after) v i)
@@ -178,15 +173,13 @@ module _ (B : Book) where
           let z = same-wait B s g (b .wait) w (b .queued) (stands w (inl refl)) (b .asker) in
           rw z at (circle-is-found B s g (w .request .asker) (h .onCircle))
 
-  newest-none-is : (s : St B) → Rests B s → newest B s ≡ none
-  unfolding newest
-  newest-none-is s h =
-      none-passes (onCircle B (waits B s)) (waits B s)
-      (λ v i. fails (onCircle B (waits B s) v) (λ e. h .noCircle (v .request .asker) (found-is-circle B s v i e))) .1
+  nobody-yields : (s : St B) → Rests B s → yields B s ≡ none
+  nobody-yields s h =
+      none-yields B s (λ v i. fails (onCircle B (waits B s) v) (λ e. h .noCircle (v .request .asker) (found-is-circle B s v i e)))
 
   rest-is : (s : St B) → Rests B s → AtRest B s
   unfolding turn
-  rest-is s h = ap (served B s) (oldest-none-is s (h .nobody)) ∙ ap (refused B s) (newest-none-is s h)
+  rest-is s h = ap (served B s) (oldest-none-is s (h .nobody)) ∙ ap (refused B s) (nobody-yields s h)
 
   module _ (L : Ordered (B .Key) (B .compare)) where
     -- ---- the queue as it is worked
@@ -206,9 +199,9 @@ module _ (B : Book) where
         let k′ : Good B (left B s (w .request) m .state) = rw e (good-kept B L .goes s w i (h .free) g) in
         onward-same s (left B s (w .request) m) as′ z (ap (served B s) (oldest-is s w h) ∙ (rw e)) (works-once k k′)
     works-once {s} (gaveWay {as′ = as′} {z = z} w h k) g =
-        let i : In w (waits B s) = newest-waits B s w (newest-is s g w h) in
+        let i : In w (waits B s) = yields-waits B s w (yields-then s g w h) in
         onward-same s (left B s (w .request) (unmoved B s circle)) as′ z
-        (ap (served B s) (oldest-none-is s (h .nobody)) ∙ ap (refused B s) (newest-is s g w h)) (works-once k (good-kept B L .givesWay s w i g))
+        (ap (served B s) (oldest-none-is s (h .nobody)) ∙ ap (refused B s) (yields-then s g w h)) (works-once k (good-kept B L .givesWay s w i g))
 
     -- ---- a call
     acted-once : (s : St B) (t : ℕ) (r : Request (B .Key) (B .Rec)) (w : Worked B) → Good B (setOut B s t r) → Acts B s t r w → w ≡ acts B s t r

@@ -15,13 +15,13 @@ use Rattle.lists.proofs.Tests.{and-left, and-right, never}
 use Rattle.lists.proofs.Elements.{any-in, none-any, append-in}
 use Rattle.rules.specs.Kinds.{Book, Ordered, Ask, Request, begin, commit, rollback, ask}
 use Rattle.rules.specs.Entries.{committed, rolledBack}
-use Rattle.rules.specs.Queue.{St, Q, Wait, waits, blockerOf, oldest, newest}
+use Rattle.rules.specs.Queue.{St, Q, Wait, waits, blockerOf, oldest, yields}
 use Rattle.rules.specs.Runs.{done, waiting, runsAlready, waitsAlready, circle, Sy, unmoved, run, left, Turn, refused, served, turn, onward, turns, Worked, worked, AtRest}
 use Rattle.rules.specs.Desk.{Cl, runs, waitsNow, says, ifSo, unlessRuns, refusal, begun, ended, joined, acts, unless, step, isTransaction, legalAsk, legalRequest, legalCall, call, stateAfter, answersOf, fresh, after}
 use Rattle.rules.specs.Good.{Good}
 use Rattle.rules.proofs.Keeps.{Kept, Anyone, anyone-may, call-keeps}
 use Rattle.rules.proofs.Rest.{worked-rests}
-use Rattle.rules.proofs.Waits.{oldest-waits, oldest-free, newest-waits}
+use Rattle.rules.proofs.Waits.{oldest-waits, oldest-free, yields-waits}
 use Rattle.rules.proofs.Did.{waits-in}
 use Rattle.rules.proofs.GoodKept.{good-kept, fresh-good, after-good}
 use Rattle.promises.specs.Story.{Deed, Asked, nothingAsked, askedThen, turnDeed, andOn, turnDeeds, queueDeeds, idleDeed, lastDeed, actDeeds, deedsUnless, callDeeds, storyFrom, story, Seamless, ends}
@@ -148,7 +148,7 @@ module _ (B : Book) where
   -- the story is told: a turn
   module _ (L : Ordered (B .Key) (B .compare)) where
     turn-acts : (f : Asked B) (s : St B) (o : Turn B) → Known B f s → turn B s ≡ some o → Acts s (turnDeed B f s o) (o .state)
-    unfolding turn oldest newest
+    unfolding turn oldest yields
     turn-acts f s o k e = by-oldest (oldest B s) refl e
       where
         -- the deed as the story has it
@@ -156,15 +156,15 @@ module _ (B : Book) where
             → Acts s (deedOf s (w .request .asker) (f (w .request .asker)) m z) z
         as-told w m z i = subst (λ (r : Request (B .Key) (B .Rec)). Acts s (deedOf s (w .request .asker) r m z) z) (sym (k (w .request) (waits-in B s w i)))
 
-        by-newest : (w : Option (Wait B)) → newest B s ≡ w → oldest B s ≡ none → refused B s w ≡ some o → Acts s (turnDeed B f s o) (o .state)
-        by-newest none q n e = never (cc)
-        by-newest (some w) q n e =
+        by-yields : (w : Option (Wait B)) → yields B s ≡ w → oldest B s ≡ none → refused B s w ≡ some o → Acts s (turnDeed B f s o) (o .state)
+        by-yields none q n e = never (cc)
+        by-yields (some w) q n e =
             let z : left B s (w .request) (unmoved B s circle) ≡ o = cc in
-            let i = newest-waits B s w q in
+            let i = yields-waits B s w q in
             subst (λ (u : Turn B). Acts s (turnDeed B f s u) (u .state)) z (as-told w circle _ i (givesWay w i n))
 
         by-oldest : (w : Option (Wait B)) → oldest B s ≡ w → served B s w ≡ some o → Acts s (turnDeed B f s o) (o .state)
-        by-oldest none q e = by-newest (newest B s) refl q e
+        by-oldest none q e = by-yields (yields B s) refl q e
         by-oldest (some w) q e =
             let z : left B s (w .request) (run B s (w .request)) ≡ o = cc in
             let i = oldest-waits B s w q in

@@ -54,7 +54,7 @@ everyNumber =
     ∷ []
 
 pub every-number : session smallDesk (fresh smallDesk) (map (λ o. o .bowled) everyNumber) ≡ map (λ o. o .answered) everyNumber
-unfolding everyNumber L.insertBefore L.any L.keep L.first L.last L.lowest L.join L.tab E.left E.settled E.takenOut E.put E.changed K.inUse K.added K.taken K.released K.target K.mode K.wanted K.holders K.earlier K.blockers Q.waitsFrom Q.waits Q.blockerOf Q.oldest Q.further Q.reached Q.onCircle Q.newest Q.leave R.readSays R.insertMissing R.insertThere R.insertAs R.deleteThere R.deleteAs R.runOn R.run R.turn R.turns R.worked D.refusal D.begun D.ended D.joined D.acts D.step D.legalAsk D.legalRequest D.call D.fresh D.after D.session
+unfolding everyNumber L.insertBefore L.any L.keep L.first L.lightest L.times L.join L.tab E.left E.settled E.takenOut E.put E.changed K.inUse K.added K.taken K.released K.target K.mode K.wanted K.holders K.earlier K.blockers Q.waitsFrom Q.waits Q.blockerOf Q.oldest Q.further Q.reached Q.onCircle Q.locksHeld Q.yields Q.leave R.readSays R.insertMissing R.insertThere R.insertAs R.deleteThere R.deleteAs R.runOn R.run R.turn R.turns R.worked D.refusal D.begun D.ended D.joined D.acts D.step D.legalAsk D.legalRequest D.call D.fresh D.after D.session
 every-number = refl
 
 -- of any call after any others, so of each of these

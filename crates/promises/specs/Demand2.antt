@@ -1,7 +1,7 @@
 -- Demand 2 in its own words: "A refusal is given when its stated cause holds and at no other time." For each number of document 01, "What the
 -- desk says", from 0 on, the cause, and what is changed with it; and the order in which the queue is worked ("Working the queue"), without the
 -- search that finds it. Proofs/Decides: no second outcome of a call satisfies it, so no idle desk does. Assumes nothing.
-use Prim.Native.Nat.{ℕ, _≤_}
+use Prim.Native.Nat.{ℕ, _≤_, _<_}
 use mathlib.Core.Path.{_≡_}
 use mathlib.Core.Logic.{_≢_, _⊎_}
 use mathlib.Core.Bool.{true, false, not}
@@ -11,7 +11,7 @@ use Rattle.lists.specs.Lists.{all, In}
 use Rattle.rules.specs.Kinds.{Book, Name, on, Ask, read, insert, delete, Request, begin, commit, rollback, ask}
 use Rattle.rules.specs.Entries.{Entries, isThere, atMost, same, inserted, deleted, revived, put, changed, committed, rolledBack}
 use Rattle.rules.specs.Locks.{holds, taken, target, named, wanted}
-use Rattle.rules.specs.Queue.{St, Q, Wait, waits}
+use Rattle.rules.specs.Queue.{St, Q, Wait, waits, weight}
 use Rattle.rules.specs.Runs.{done, found, nothing, waiting, runsAlready, runsNot, waitsAlready, isPresent, locksShort, pagesShort, circle, Sy, En, Ran, unmoved, left, Worked}
 use Rattle.rules.specs.Desk.{An, runs, waitsNow, says, begun, ended, joined}
 use Rattle.rules.specs.Chains.{Behind, Circle}
@@ -105,14 +105,16 @@ module _ (B : Book) where
     pub free : w .behind ≡ []
     pub oldest : (v : Wait B) → In v ahead → v .behind ≢ []
 
-  -- everyone is blocked, w's request lies on a circle, and none behind it in the queue does: the newest on a circle
+  -- everyone is blocked, w's request lies on a circle, no transaction with a request on a circle holds fewer locks, and none with one behind it
+  -- in the queue as few (document 02, [14])
   pub record MustGiveWay (s : St B) (w : Wait B) : Type 0 where
     pub ahead : List (Wait B)
     pub after : List (Wait B)
     pub place : waits B s ≡ ahead ++ (w ∷ after)
     pub nobody : (v : Wait B) → In v (waits B s) → v .behind ≢ []
     pub onCircle : Circle B s (w .request .asker)
-    pub newest : (v : Wait B) → In v after → Circle B s (v .request .asker) → ⊥
+    pub fewest : (v : Wait B) → In v (waits B s) → Circle B s (v .request .asker) → weight B s w ≤ weight B s v
+    pub newest : (v : Wait B) → In v after → Circle B s (v .request .asker) → weight B s w < weight B s v
 
   -- "at rest"
   pub record Rests (s : St B) : Type 0 where

@@ -5,12 +5,9 @@ use mathlib.Core.Path.{_≡_, sym, subst}
 use mathlib.Core.Bool.{true}
 use mathlib.Core.List.{List}
 use native.Mathlib.Omega.{arith}
-use borrow.Author.Tests.{leb-true}
-use lib.Dec.{leb}
 use lib.ListN.{length}
 use Rattle.limits.specs.Limits.{transactionsMost}
 use Rattle.lists.specs.Lists.{In, pairs}
-use Rattle.lists.proofs.Tests.{and-left, and-right}
 use Rattle.lists.proofs.Elements.{in-tab}
 use Rattle.lists.proofs.Finite.{no-more}
 use Rattle.lists.proofs.Tables.{length-tab}
@@ -19,7 +16,7 @@ use Rattle.rules.specs.Queue.{St, everyone}
 use Rattle.rules.specs.Desk.{isTransaction}
 use Rattle.rules.specs.Good.{Good, otherAsker}
 use Rattle.rules.specs.Document.{document}
-use Rattle.rules.proofs.Waits.{in-everyone, runs-known, queued-runs}
+use Rattle.rules.proofs.Waits.{transaction-low, transaction-high, in-everyone, runs-known, queued-runs}
 use Rattle.queue.specs.QueueLayout.{queued, inPlace, queuedAt, queueOf}
 
 pub record InOrder (d : List ℕ) : Type 0 where
@@ -47,6 +44,6 @@ module _ (P : Paging ℕ) (s : St (document P)) (good : Good (document P) s) (d 
   in-order =
       record {
         few = count;
-        from = λ i h. leb-true 1 (inPlace d i) (and-left (leb 1 (inPlace d i)) (leb (inPlace d i) transactionsMost) (known-at i h));
-        to = λ i h. leb-true (inPlace d i) transactionsMost (and-right (leb 1 (inPlace d i)) (leb (inPlace d i) transactionsMost) (known-at i h));
+        from = λ i h. transaction-low (document P) (inPlace d i) (known-at i h);
+        to = λ i h. transaction-high (document P) (inPlace d i) (known-at i h);
       }

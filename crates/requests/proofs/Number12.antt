@@ -15,6 +15,7 @@ use Rattle.numbers.proofs.Numbers.{number-below}
 use Rattle.rules.specs.Kinds.{Paging, Ask, read, insert, delete, Request, begin, commit, rollback, ask, Call}
 use Rattle.rules.specs.Desk.{isTransaction, legalAsk, legalRequest, legalCall}
 use Rattle.rules.specs.Document.{document, endless, endMark}
+use Rattle.rules.proofs.Waits.{transaction-low, transaction-high}
 use Rattle.requests.specs.RequestRecord.{forms, requests, kindIn, callIn, short, unlikeSlice, unlikeKind, unknownKind, misshapen, filled, illegal, isBad, heard, firstPlace, secondPlace}
 use Rattle.requests.proofs.Legal.{legal-any}
 use Rattle.requests.proofs.RequestRead.{shaped, each-kind, requestBy, asked}
@@ -166,8 +167,8 @@ good-fits s f e =
     let h = shaped s (misshapen s) refl (neither (misshapen s) (filled s) (neither (misshapen s || filled s) (illegal s) e .0) .0) in
     let q = asked (kindIn s) s (kindIn s) refl refl in
     record {
-      low = leb-true 1 t (and-left (leb 1 t) (leb t transactionsMost) known);
-      high = leb-true t transactionsMost (and-right (leb 1 t) (leb t transactionsMost) known);
+      low = transaction-low (document endless) t known;
+      high = transaction-high (document endless) t known;
       request = subst RequestFits q (request-fits s f (kindIn s) (h .known) (ap (legalRequest (document endless)) q ∙ legal));
     }
 

@@ -7,8 +7,8 @@ use mathlib.Core.Bool.{Bool, true, false, not, _&&_, _||_, true≢false}
 use mathlib.Core.List.{List, [], _∷_}
 use mathlib.Core.Option.{Option, none, some, Option·none-ne-some}
 use native.Mathlib.Omega.{arith}
-use borrow.Author.Tests.{eq-eqb, eqb-true, eqb-false, leb-true, ne-eqb, not-false}
-use lib.Dec.{eqb, leb}
+use borrow.Author.Tests.{eq-eqb, eqb-true, eqb-false, ne-eqb, not-false}
+use lib.Dec.{eqb}
 use lib.ListN.{length}
 use Rattle.lists.specs.Lists.{In, all, first, lowest, pairs, member}
 use Rattle.lists.proofs.Tests.{and-left, and-right, and-both, or-left, or-right}
@@ -20,12 +20,12 @@ use Rattle.lists.proofs.Firsts.{first-only}
 use Rattle.lists.proofs.Lowest.{lowest-of, some-lowest}
 use Rattle.rules.specs.Kinds.{Book}
 use Rattle.rules.specs.Entries.{isThere}
-use Rattle.rules.specs.Queue.{St, Q, Wait, waits, blockerIn, blockerOf, oldest, newest, everyone, linked, further, reached, onCircle}
+use Rattle.rules.specs.Queue.{St, Q, Wait, waits, blockerIn, blockerOf, oldest, yields, everyone, linked, further, reached, onCircle}
 use Rattle.rules.specs.Runs.{refused, served, turn, AtRest}
 use Rattle.rules.specs.Desk.{runs, waitsNow}
 use Rattle.rules.specs.Good.{Good}
 use Rattle.rules.specs.Chains.{Behind, Chain, endOf, Circle, Free, ReachesFree, Named, orSelf, followed, ChainsEnd}
-use Rattle.rules.proofs.Waits.{placed, wait-of, same-wait, oldest-none, newest-none, in-everyone, runs-known, queued-runs, blocker-runs}
+use Rattle.rules.proofs.Waits.{placed, wait-of, same-wait, oldest-none, yields-none, transaction-low, in-everyone, runs-known, queued-runs, blocker-runs}
 
 -- two transactions
 abbrev different : ℕ → ℕ → Bool
@@ -200,16 +200,16 @@ module _ (B : Book) (s : St B) where
         known u i = chain-known t (o .next ∷ r .steps) u (b, r .chain) i
 
   -- ---- at rest
-  pub rest-choices : AtRest B s → (oldest B s ≡ none) × (newest B s ≡ none)
+  pub rest-choices : AtRest B s → (oldest B s ≡ none) × (yields B s ≡ none)
   unfolding turn
   rest-choices h = by-oldest (oldest B s) refl h
     where
-      by-newest : (o : Option (Wait B)) → refused B s o ≡ none → o ≡ none
-      by-newest none h = refl
-      by-newest (some w) h = absurd (Option·none-ne-some _ (sym h))
+      by-yields : (o : Option (Wait B)) → refused B s o ≡ none → o ≡ none
+      by-yields none h = refl
+      by-yields (some w) h = absurd (Option·none-ne-some _ (sym h))
 
-      by-oldest : (o : Option (Wait B)) → oldest B s ≡ o → served B s o ≡ none → (oldest B s ≡ none) × (newest B s ≡ none)
-      by-oldest none e h = (e, by-newest (newest B s) h)
+      by-oldest : (o : Option (Wait B)) → oldest B s ≡ o → served B s o ≡ none → (oldest B s ≡ none) × (yields B s ≡ none)
+      by-oldest none e h = (e, by-yields (yields B s) h)
       by-oldest (some w) e h = absurd (Option·none-ne-some _ (sym h))
 
   module _ (good : Good B s) (rest : AtRest B s) where
@@ -224,7 +224,7 @@ module _ (B : Book) (s : St B) where
     no-circle : (t : ℕ) → Circle B s t → ⊥
     no-circle t o =
         let b = o .chain .0 in
-        true≢false (sym (circle-is-found good t o) ∙ newest-none B s (b .wait) (rest-choices rest .1) (b .queued))
+        true≢false (sym (circle-is-found good t o) ∙ yields-none B s (b .wait) (rest-choices rest .1) (b .queued))
 
     nobody-twice : (t : ℕ) (us : List ℕ) → Chain B s t us → pairs different (t ∷ us) ≡ true
     unfolding all pairs
@@ -290,7 +290,7 @@ module _ (B : Book) (s : St B) where
             )
           where
             somebody-runs : runs B s u ≡ true → 1 ≤ u
-            somebody-runs r = leb-true 1 u (and-left (leb 1 u) (leb u (B .transactions)) (runs-known B s good u r))
+            somebody-runs r = transaction-low B u (runs-known B s good u r)
 
     named : (t : ℕ) → waitsNow B s t ≡ true → (u : ℕ) × Named B s t u
     named t h = let u = someone t h in named-of t (u .0) (u .1)

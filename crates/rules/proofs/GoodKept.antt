@@ -7,10 +7,10 @@ use mathlib.Core.Bool.{Bool, true, false, not}
 use mathlib.Core.List.{List, [], _∷_}
 use mathlib.Core.Option.{none}
 use native.Mathlib.Omega.{arith}
-use lib.Dec.{eqb, leb}
+use lib.Dec.{eqb}
 use lib.ListN.{length, getD, set, replicate, length-set, length-replicate}
 use lib.Seq.{getD-set-same, getD-set-other}
-use borrow.Author.Tests.{eqb-true, eqb-false, eq-eqb, leb-true, not-true}
+use borrow.Author.Tests.{eqb-true, eqb-false, eq-eqb, not-true}
 use Rattle.lists.specs.Lists.{all, pairs, In}
 use Rattle.lists.proofs.Tests.{and-left, and-right, and-both, or-left, or-right, not-any}
 use Rattle.lists.proofs.Elements.{in-all, append-in, keep-in}
@@ -22,6 +22,7 @@ use Rattle.rules.specs.Queue.{St, Q, leave}
 use Rattle.rules.specs.Runs.{circle, En, Ran, unmoved, left, run}
 use Rattle.rules.specs.Desk.{isRunning, runs, waitsNow, begun, ended, joined, step, isTransaction, legalAsk, Cl, legalCall, fresh, after}
 use Rattle.rules.specs.Good.{ascending, lockStands, ownerHolds, queueStands, otherAsker, Good}
+use Rattle.rules.proofs.Waits.{transaction-low, transaction-high}
 use Rattle.rules.proofs.LockTable.{held-holdsX}
 use Rattle.rules.proofs.Sound.{Settles, committed-settles, rolledBack-settles, Sound, sound-more, sound-ended}
 use Rattle.rules.proofs.Did.{run-did}
@@ -57,8 +58,8 @@ module _ (B : Book) (L : Ordered (B .Key) (B .compare)) where
   module _ (s : St B) (t : ℕ) (g : Good B s) (h : isTransaction B t ≡ true) where
     known : (t < length (s .marks)) × (t ≡ 0 → ⊥)
     known =
-        let p : 1 ≤ t = leb-true 1 t (and-left _ _ h) in
-        let q : t ≤ B .transactions = leb-true t (B .transactions) (and-right (leb 1 t) _ h) in
+        let p : 1 ≤ t = transaction-low B t h in
+        let q : t ≤ B .transactions = transaction-high B t h in
         let m : length (s .marks) ≡ suc (B .transactions) = g .marks in
         (omega arith, λ z. omega arith)
 

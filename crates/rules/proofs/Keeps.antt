@@ -12,10 +12,10 @@ use Rattle.lists.specs.Lists.{In}
 use Rattle.lists.proofs.Tests.{and-left, and-right, never}
 use Rattle.rules.specs.Kinds.{Book, Ask, Request, begin, commit, rollback, ask}
 use Rattle.rules.specs.Entries.{committed, rolledBack}
-use Rattle.rules.specs.Queue.{St, Wait, waits, oldest, newest}
+use Rattle.rules.specs.Queue.{St, Wait, waits, oldest, yields}
 use Rattle.rules.specs.Runs.{runsAlready, waitsAlready, circle, run, unmoved, left, Turn, refused, served, turn, onward, turns, worked}
 use Rattle.rules.specs.Desk.{runs, waitsNow, refusal, unlessRuns, ifSo, begun, ended, joined, acts, unless, step, isTransaction, legalAsk, legalRequest, Cl, legalCall, call, stateAfter, after}
-use Rattle.rules.proofs.Waits.{oldest-waits, oldest-free, newest-waits}
+use Rattle.rules.proofs.Waits.{oldest-waits, oldest-free, yields-waits}
 
 module _ (B : Book) where
   -- P is kept by the two moves of a turn
@@ -55,17 +55,17 @@ module _ (B : Book) where
 
   module _ (P : St B → Type 0) (K : TurnsKept P) where
     pub turn-keeps : (s : St B) (o : Turn B) → turn B s ≡ some o → P s → P (o .state)
-    unfolding turn oldest newest
+    unfolding turn oldest yields
     turn-keeps s o e p = by-oldest (oldest B s) refl e
       where
-        by-newest : (w : Option (Wait B)) → newest B s ≡ w → refused B s w ≡ some o → P (o .state)
-        by-newest none q e = never (cc)
-        by-newest (some w) q e =
+        by-yields : (w : Option (Wait B)) → yields B s ≡ w → refused B s w ≡ some o → P (o .state)
+        by-yields none q e = never (cc)
+        by-yields (some w) q e =
             let z : left B s (w .request) (unmoved B s circle) ≡ o = cc in
-            subst (λ (u : Turn B). P (u .state)) z (K .givesWay s w (newest-waits B s w q) p)
+            subst (λ (u : Turn B). P (u .state)) z (K .givesWay s w (yields-waits B s w q) p)
 
         by-oldest : (w : Option (Wait B)) → oldest B s ≡ w → served B s w ≡ some o → P (o .state)
-        by-oldest none q e = by-newest (newest B s) refl e
+        by-oldest none q e = by-yields (yields B s) refl e
         by-oldest (some w) q e =
             let z : left B s (w .request) (run B s (w .request)) ≡ o = cc in
             subst (λ (u : Turn B). P (u .state)) z (K .goes s w (oldest-waits B s w q) (oldest-free B s w q) p)

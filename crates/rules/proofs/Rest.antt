@@ -14,11 +14,11 @@ use Rattle.lists.proofs.Tests.{eqb-turn}
 use Rattle.lists.proofs.Finite.{keep-shorter, keep-but-one}
 use Rattle.rules.specs.Kinds.{Book, Request, begin, commit, rollback, ask}
 use Rattle.rules.specs.Entries.{committed, rolledBack}
-use Rattle.rules.specs.Queue.{St, Q, Wait, waits, oldest, newest, leave}
+use Rattle.rules.specs.Queue.{St, Q, Wait, waits, oldest, yields, leave}
 use Rattle.rules.specs.Runs.{Sy, Ran, Turn, left, refused, served, turn, Worked, onward, turns, worked, AtRest}
 use Rattle.rules.specs.Desk.{begun, ended, joined, refusal, acts, unless, step, Cl, legalCall, call, stateAfter, fresh, after}
 use Rattle.rules.specs.Good.{otherAsker}
-use Rattle.rules.proofs.Waits.{placed, oldest-waits, newest-waits}
+use Rattle.rules.proofs.Waits.{placed, oldest-waits, yields-waits}
 
 module _ (B : Book) where
   -- what a turn does to the queue: a request that is queued is answered and leaves
@@ -37,12 +37,12 @@ module _ (B : Book) where
           subst (Leaves s) (Option·some-injective (left B s (w .request) r) t e)
           (record { request = w .request; queued = placed B s w i .queued; answered = refl; queue = refl })
 
-      by-newest : (o : Option (Wait B)) → newest B s ≡ o → refused B s o ≡ some t → Leaves s t
-      by-newest none e h = absurd (Option·none-ne-some t h)
-      by-newest (some w) e h = goes w _ (newest-waits B s w e) h
+      by-yields : (o : Option (Wait B)) → yields B s ≡ o → refused B s o ≡ some t → Leaves s t
+      by-yields none e h = absurd (Option·none-ne-some t h)
+      by-yields (some w) e h = goes w _ (yields-waits B s w e) h
 
       by-oldest : (o : Option (Wait B)) → oldest B s ≡ o → served B s o ≡ some t → Leaves s t
-      by-oldest none e h = by-newest (newest B s) refl h
+      by-oldest none e h = by-yields (yields B s) refl h
       by-oldest (some w) e h = goes w _ (oldest-waits B s w e) h
 
   -- each turn takes a request off the queue, and exactly one where each of the queue has its own asker

@@ -7,26 +7,32 @@ use mathlib.Core.Bool.{Bool, true, false, cond, not, _&&_, true≢false, false�
 use mathlib.Core.List.{List, [], _∷_, _++_, map}
 use native.Mathlib.Omega.{arith}
 use native.Mathlib.Decide.{decLt}
-use mathlib.Core.Option.{none, some}
+use mathlib.Core.Option.{Option, none, some}
 use borrow.Author.Tests.{not-true, eq-eqb, leb-true, le-leb}
 use lib.Dec.{eqb, leb}
 use lib.ListN.{length, List·getD-eq-default}
-use Rattle.lists.specs.Lists.{keep, In, isNil, lowest, pairs}
+use Rattle.lists.specs.Lists.{keep, In, isNil, lightest, lowest, pairs}
 use Rattle.lists.proofs.Tests.{and-left, and-right, and-both, nil-is}
-use Rattle.lists.proofs.Elements.{all-in, first-in, none-first, last-in, none-last, append-in, keep-in, in-tab, map-in}
+use Rattle.lists.proofs.Elements.{all-in, first-in, none-first, append-in, keep-in, in-tab, map-in}
+use Rattle.lists.proofs.Lowest.{some-lowest}
+use Rattle.lists.proofs.Lightest.{Lightest, stands, none-lightest, lightest-none, lightest-of, lightest-is}
 use Rattle.lists.proofs.Pairs.{pairs-in, pairs-map}
 use Rattle.rules.specs.Kinds.{Book, idle}
 use Rattle.rules.specs.Entries.{Entries, isThere}
 use Rattle.rules.specs.Locks.{Slots, Want, wanted, inUse, sameName, conflict, clash, holds, holders, earlier, blockers}
-use Rattle.rules.specs.Queue.{St, Q, Wait, waits, waitsFrom, isFree, oldest, everyone, onCircle, newest}
+use Rattle.rules.specs.Queue.{St, Q, Wait, waits, waitsFrom, isFree, oldest, everyone, onCircle, weight, yields}
 use Rattle.rules.specs.Desk.{runs, isRunning, isTransaction, legalAsk}
 use Rattle.rules.specs.Good.{Good, Lk, isName, lockStands, otherAsker, queueStands}
 
 -- nobody is the lowest of those who block a request where nobody blocks it
 pub free-nil : (us : List ℕ) → not (isThere (lowest us)) ≡ isNil us
-unfolding lowest
+unfolding lightest
 free-nil [] = refl
-free-nil (u ∷ us) = refl
+free-nil (u ∷ us) = go (lowest (u ∷ us)) refl
+  where
+    go : (o : Option ℕ) → lowest (u ∷ us) ≡ o → not (isThere o) ≡ false
+    go none e = absurd (some-lowest (u ∷ us) u (inl refl) e)
+    go (some v) e = refl
 
 module _ (B : Book) where
   -- a wait is a queued request, blocked with an eye to some of the queue
@@ -85,13 +91,28 @@ module _ (B : Book) where
   unfolding oldest
   oldest-none s w e i = sym (free-nil (w .behind)) ∙ none-first (isFree B) (waits B s) w e i
 
-  pub newest-waits : (s : St B) (w : Wait B) → newest B s ≡ some w → In w (waits B s)
-  unfolding newest
-  newest-waits s w e = last-in (onCircle B (waits B s)) (waits B s) w e .0
+  -- who gives way, by its facts: it is queued and lies on a circle, nobody on a circle holds fewer locks, and none that is newer as few
+  abbrev pub Yields : St B → Wait B → Type 0
+  Yields s w = Lightest (onCircle B (waits B s)) (weight B s) (waits B s) w
 
-  pub newest-none : (s : St B) (w : Wait B) → newest B s ≡ none → In w (waits B s) → onCircle B (waits B s) w ≡ false
-  unfolding newest
-  newest-none s w e i = none-last (onCircle B (waits B s)) (waits B s) w e i
+  pub yields-by : (s : St B) (w : Wait B) → yields B s ≡ some w → Yields s w
+  unfolding yields
+  yields-by s w e = lightest-of (onCircle B (waits B s)) (weight B s) (waits B s) w e
+
+  pub yields-is : (s : St B) (w : Wait B) → Yields s w → yields B s ≡ some w
+  unfolding yields
+  yields-is s w l = lightest-is (onCircle B (waits B s)) (weight B s) (waits B s) w l
+
+  pub none-yields : (s : St B) → ((w : Wait B) → In w (waits B s) → onCircle B (waits B s) w ≡ false) → yields B s ≡ none
+  unfolding yields
+  none-yields s h = lightest-none (onCircle B (waits B s)) (weight B s) (waits B s) h
+
+  pub yields-waits : (s : St B) (w : Wait B) → yields B s ≡ some w → In w (waits B s)
+  yields-waits s w e = let l = yields-by s w e in subst (In w) (sym (l .place)) (stands (l .ahead) w (l .after))
+
+  pub yields-none : (s : St B) (w : Wait B) → yields B s ≡ none → In w (waits B s) → onCircle B (waits B s) w ≡ false
+  unfolding yields
+  yields-none s w e i = none-lightest (onCircle B (waits B s)) (weight B s) (waits B s) w e i
 
   -- whoever is kept as another one than t is another one, and one of all
   kept-other : {A : Type 0} (P : ℕ → Type 0) (f : A → ℕ) (t u : ℕ) (r : A → Bool) (xs : List A) → ((x : A) → In x xs → P (f x))
@@ -120,10 +141,16 @@ module _ (B : Book) where
       go true (inr x) = absurd x
       go false (inr j) = kept-other P (λ p. p .asker) (q .asker) u (λ p. clash B (wanted B es p) w) ahead queued j
 
+  pub transaction-low : (t : ℕ) → isTransaction B t ≡ true → 1 ≤ t
+  transaction-low t h = leb-true 1 t (and-left (leb 1 t) (leb t (B .transactions)) h)
+
+  pub transaction-high : (t : ℕ) → isTransaction B t ≡ true → t ≤ B .transactions
+  transaction-high t h = leb-true t (B .transactions) (and-right (leb 1 t) (leb t (B .transactions)) h)
+
   pub in-everyone : (t : ℕ) → isTransaction B t ≡ true → In t (everyone B)
   in-everyone t h =
-      let low : 1 ≤ t = leb-true 1 t (and-left (leb 1 t) (leb t (B .transactions)) h) in
-      let high : t ≤ B .transactions = leb-true t (B .transactions) (and-right (leb 1 t) (leb t (B .transactions)) h) in
+      let low = transaction-low t h in
+      let high = transaction-high t h in
       in-tab (B .transactions) 1 (λ u. u) t (omega arith) (omega arith)
 
   module _ (s : St B) (good : Good B s) where

@@ -2,21 +2,18 @@
 -- table; and a short one with few locks and pages.
 -- Each case is played from a fresh index, call by call. It says for each call exactly what is answered, in order, and then who is left
 -- waiting at what, which locks are held, and every entry with its owner, now and before. Transaction 16 settles the keys that a case
--- starts with. The claim `AllHold` is proved in proofs/Table.antt. And one call on a desk that is not at rest: `NamedAtRest`, proved there
--- too. Assumes nothing.
+-- starts with. The claim `AllHold` is proved in proofs/Table.antt. Assumes nothing.
 use Prim.Native.Nat.{ℕ}
 use mathlib.Core.Path.{_≡_}
 use mathlib.Core.List.{List, [], _∷_, _++_, map}
 use mathlib.Core.Option.{Option, none, some}
-use lib.ListN.{length, replicate}
+use lib.ListN.{length}
 use Rattle.limits.specs.Limits.{locksMost}
-use Rattle.rules.specs.Kinds.{Paging, Entry, Mode, S, X, Name, on, end, Lock, read, insert, delete, Request, begin, commit, rollback, ask, Call, Queued, idle, running, State}
+use Rattle.rules.specs.Kinds.{Paging, Entry, Mode, S, X, Name, on, end, Lock, read, insert, delete, Request, begin, commit, rollback, ask, Call, Queued, State}
 use Rattle.rules.specs.Locks.{inUse, wanted}
 use Rattle.rules.specs.Runs.{Says, done, found, nothing, waiting, runsAlready, runsNot, waitsAlready, isPresent, locksShort, pagesShort, circle, Answer}
-use Rattle.rules.specs.Queue.{blockerOf}
-use Rattle.rules.specs.Desk.{joined, step, fresh, after, session}
-use Rattle.rules.specs.Document.{limited, document, endless, roomFor}
-use Rattle.rules.specs.Good.{Good}
+use Rattle.rules.specs.Desk.{fresh, after, session}
+use Rattle.rules.specs.Document.{limited, document, roomFor}
 
 -- one call and what it is answered; none is number 12
 pub record Over : Type 0 where
@@ -400,6 +397,54 @@ lowestNamed =
           (settledAs 20 2 ∷ []);
     }
 
+-- Document 02, [14]: "of the queued requests on a circle, the one whose transaction holds the fewest locks is answered 19": the older loses.
+unfoldable pub lighterGivesWay : Case
+lighterGivesWay =
+    record {
+      overs =
+          settling (row 10 1 ∷ row 20 2 ∷ row 30 3 ∷ row 40 4 ∷ [])
+          ++ (begins 1
+          ∷ begins 2
+          ∷ reads 1 10 10 (only 1 (found 10 (some 1)))
+          ∷ reads 2 20 20 (only 2 (found 20 (some 2)))
+          ∷ reads 2 30 30 (only 2 (found 30 (some 3)))
+          ∷ reads 2 40 40 (only 2 (found 40 (some 4)))
+          ∷ deletes 1 20 (only 1 (behind 2))
+          ∷ deletes 2 10 (to 1 circle ∷ to 2 (behind 1) ∷ [])
+          ∷ []);
+      scene =
+          left
+          (waits 2 (on 10) ∷ [])
+          (lock S (on 10) 1 ∷ lock S (on 20) 2 ∷ lock S (on 30) 2 ∷ lock S (on 40) 2 ∷ [])
+          (settledAs 10 1 ∷ settledAs 20 2 ∷ settledAs 30 3 ∷ settledAs 40 4 ∷ []);
+    }
+
+-- Document 02, [4]: "as it stands at rest", and not when the request joins. 2 joins with 1 and 3 in its way, and all three are on circles. 1 holds
+-- nothing and gives way, then 3, which holds less than 2; 2 is told of 3. 4 holds nothing either, but waits on no circle, and waits on.
+unfoldable pub namedAtRest : Case
+namedAtRest =
+    record {
+      overs =
+          settling (row 10 1 ∷ row 20 2 ∷ row 30 3 ∷ [])
+          ++ (begins 1
+          ∷ begins 2
+          ∷ begins 3
+          ∷ begins 4
+          ∷ reads 2 20 20 (only 2 (found 20 (some 2)))
+          ∷ reads 2 30 30 (only 2 (found 30 (some 3)))
+          ∷ reads 3 10 10 (only 3 (found 10 (some 1)))
+          ∷ deletes 3 30 (only 3 (behind 2))
+          ∷ deletes 1 10 (only 1 (behind 3))
+          ∷ deletes 4 20 (only 4 (behind 2))
+          ∷ deletes 2 10 (to 1 circle ∷ to 3 circle ∷ to 2 (behind 3) ∷ [])
+          ∷ []);
+      scene =
+          left
+          (waits 4 (on 20) ∷ waits 2 (on 10) ∷ [])
+          (lock S (on 20) 2 ∷ lock S (on 30) 2 ∷ lock S (on 10) 3 ∷ [])
+          (settledAs 10 1 ∷ settledAs 20 2 ∷ settledAs 30 3 ∷ []);
+    }
+
 unfoldable pub cases : List Case
 cases =
     readerWaits
@@ -419,6 +464,8 @@ cases =
     ∷ freedTogether
     ∷ olderFirst
     ∷ lowestNamed
+    ∷ lighterGivesWay
+    ∷ namedAtRest
     ∷ []
 
 -- ---- with two locks, and pages that take two keys: what is said when they run short
@@ -488,24 +535,6 @@ roomAgain =
 unfoldable pub tight : List Case
 tight = locksInUse ∷ pagesFull ∷ roomAgain ∷ []
 
--- Document 02, [4]: "as it stands at rest", and not when the request joins. From a desk at rest the two are the same, for whoever gives way is the
--- request that joined. A whole picture need not be at rest: here 1 and 2 wait in a circle, and 3 deletes what 1 waits for and 2 holds.
--- Both are in its way; then 1 gives way, and 3 is told of 2.
-abbrev pub inCircle : State ℕ ℕ (Unit {0})
-inCircle =
-    record {
-      entries = settledAs 10 1 ∷ settledAs 20 2 ∷ [];
-      pages = tt;
-      slots = some (lock S (on 10) 1) ∷ some (lock S (on 20) 2) ∷ [];
-      queue = record { asker = 2; asks = delete 10 } ∷ record { asker = 1; asks = delete 20 } ∷ [];
-      marks = idle ∷ running ∷ running ∷ running ∷ replicate 13 idle;
-    }
-
-pub record NamedAtRest : Type 0 where
-  pub good : Good (limited 2 endless) inCircle
-  pub joining : blockerOf (limited 2 endless) (joined (limited 2 endless) inCircle 3 (delete 20)) 3 ≡ some 1
-  pub atRest : step (limited 2 endless) inCircle 3 (ask (delete 20)) .answers ≡ to 1 circle ∷ to 3 (behind 2) ∷ []
-
 -- what the rule book says of a case: its answers, and where things stand afterwards
 pub record Outcome : Type 0 where
   pub answers : List (Option (List (Answer ℕ ℕ)))
@@ -536,7 +565,7 @@ stated c = record { answers = map (λ (o : Over). o .answered) (c .overs); scene
 
 -- the one claim
 pub record AllHold (P : Paging ℕ) : Type 0 where
-  pub howMany : length cases ≡ 17
+  pub howMany : length cases ≡ 19
   pub hold : map (played P) cases ≡ map stated cases
   -- with two locks, and pages that take two keys
   pub howManyTight : length tight ≡ 3

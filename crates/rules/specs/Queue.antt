@@ -1,13 +1,13 @@
 -- Document 01, "Working the queue": who waits behind whom, the oldest request that isn't blocked, circles. Assumes nothing.
 use Prim.Native.Nat.{ℕ, zero, suc, _-_}
 use mathlib.Core.Bool.{Bool, not, _&&_, _||_}
-use mathlib.Core.List.{List, [], _∷_, _++_}
+use mathlib.Core.List.{List, [], _∷_, _++_, map}
 use mathlib.Core.Option.{Option, none, some}
 use lib.Dec.{eqb}
-use Rattle.lists.specs.Lists.{any, keep, first, last, lowest, member, tab}
+use Rattle.lists.specs.Lists.{any, keep, first, lightest, lowest, times, member, tab}
 use Rattle.rules.specs.Kinds.{Book, State, Queued}
 use Rattle.rules.specs.Entries.{Entries, isThere}
-use Rattle.rules.specs.Locks.{Slots, blockers}
+use Rattle.rules.specs.Locks.{Slots, inUse, blockers}
 
 module _ (B : Book) where
   abbrev pub St : Type 0
@@ -71,9 +71,16 @@ module _ (B : Book) where
   unfoldable pub onCircle : List Wait → Wait → Bool
   onCircle ws w = member (w .request .asker) (reached linksMost ws (w .behind))
 
-  -- "the newest queued request that lies on a circle"
-  unfoldable pub newest : St → Option Wait
-  newest s = let ws = waits s in last (onCircle ws) ws
+  -- Document 02, [14]: how many locks a transaction holds, whatever their mode, the end's among them
+  unfoldable pub locksHeld : Slots B → ℕ → ℕ
+  locksHeld ls t = times t (map (λ l. l .holder) (inUse ls))
+
+  abbrev pub weight : St → Wait → ℕ
+  weight s w = locksHeld (s .slots) (w .request .asker)
+
+  -- "of the queued requests on a circle, the one whose transaction holds the fewest locks is answered 19; of equals, the newest"
+  unfoldable pub yields : St → Option Wait
+  yields s = let ws = waits s in lightest (onCircle ws) (weight s) ws
 
   -- the queue when t's request has left it
   unfoldable pub leave : ℕ → List Q → List Q

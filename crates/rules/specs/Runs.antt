@@ -9,7 +9,7 @@ use lib.ListN.{length}
 use Rattle.rules.specs.Kinds.{Book, Entry, Mode, S, X, Name, on, Ask, read, insert, delete}
 use Rattle.rules.specs.Entries.{Entries, atMost, inserted, deleted, revived, put, changed}
 use Rattle.rules.specs.Locks.{Slots, taken, target, named, itself}
-use Rattle.rules.specs.Queue.{St, Q, Wait, oldest, newest, leave}
+use Rattle.rules.specs.Queue.{St, Q, Wait, oldest, yields, leave}
 
 -- Document 01, "What the desk says", line by line. A record that is absent cannot be found: where the entry stands in a whole index,
 -- the record of `found` and `isPresent` is there. `waiting` says who is in the way (document 02, [4]): at rest there is one.
@@ -129,7 +129,7 @@ module _ (B : Book) where
   run s q = runOn s (q .asker) (q .asks) (target B (s .entries) (q .asker) (q .asks))
 
   -- one turn of the queue: "if some queued request isn't blocked, the oldest such runs and leaves the queue; otherwise, if the waits
-  -- contain a circle, the newest queued request that lies on a circle is answered 19 and leaves; otherwise stop."
+  -- contain a circle", one that lies on a circle "is answered 19 and leaves; otherwise stop."
   pub record Turn : Type 0 where
     pub state : St B
     pub answer : Answer (B .Key) (B .Rec)
@@ -146,7 +146,7 @@ module _ (B : Book) where
   refused s (some w) = some (left s (w .request) (unmoved s circle))
 
   abbrev pub served : St B → Option (Wait B) → Option Turn
-  served s none = refused s (newest B s)
+  served s none = refused s (yields B s)
   served s (some w) = some (left s (w .request) (run s (w .request)))
 
   unfoldable pub turn : St B → Option Turn

@@ -5,8 +5,8 @@ use mathlib.Core.Path.{_≡_, refl, subst}
 use mathlib.Core.Bool.{Bool, true, false, cond, _&&_, true≢false}
 use mathlib.Core.List.{List}
 use native.Mathlib.Omega.{arith}
-use borrow.Author.Tests.{ltb-true, leb-true}
-use lib.Dec.{eqb, ltb, leb}
+use borrow.Author.Tests.{ltb-true}
+use lib.Dec.{eqb, ltb}
 use lib.ListN.{length, getD}
 use Rattle.limits.specs.Limits.{keySize, transactionsMost}
 use Rattle.lists.specs.Lists.{In, all, pairs}
@@ -25,7 +25,7 @@ use Rattle.rules.specs.Good.{below, ascending, isName, lockStands, queueStands,
 use Rattle.rules.specs.Document.{document, endMark}
 use Rattle.rules.proofs.Orders.{numbers-ordered}
 use Rattle.rules.proofs.KeyTests.{same-equal}
-use Rattle.rules.proofs.Waits.{in-everyone, runs-known, queued-runs}
+use Rattle.rules.proofs.Waits.{transaction-low, transaction-high, in-everyone, runs-known, queued-runs}
 use Rattle.queue.specs.QueueLayout.{recordPlace, recordAt, askIn, askAt, inPlace, queued, queuedAt, queueOf, marksOf}
 use Rattle.locks.specs.SlotLayout.{slotsOf}
 use Rattle.states.specs.States.{book, stateOf}
@@ -45,7 +45,7 @@ module _ (P : Paging ℕ) (s : St (document P)) (good : Good (document P) s) whe
   known : (t : ℕ) → runs (document P) s t ≡ true → (1 ≤ t) × (t ≤ transactionsMost)
   known t h =
       let k = runs-known (document P) s good t h in
-      (leb-true 1 t (and-left (leb 1 t) (leb t transactionsMost) k), leb-true t transactionsMost (and-right (leb 1 t) (leb t transactionsMost) k))
+      (transaction-low (document P) t k, transaction-high (document P) t k)
 
   -- a key with an entry is below the end
   name-good : (n : Name ℕ) → isName (document P) (s .entries) n ≡ true → NameFits n

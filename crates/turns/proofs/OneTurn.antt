@@ -8,7 +8,7 @@ use Rattle.limits.specs.Limits.{transactionsMost}
 use Rattle.lists.specs.Lists.{In, tab}
 use Rattle.rules.specs.Kinds.{Queued}
 use Rattle.rules.specs.Locks.{blockers}
-use Rattle.rules.specs.Queue.{Wait, waits, oldest, newest}
+use Rattle.rules.specs.Queue.{Wait, waits, oldest, yields}
 use Rattle.rules.specs.Runs.{circle, unmoved, run, left, refused, served, turn}
 use Rattle.rules.proofs.Waits.{oldest-waits, oldest-free, same-wait}
 use Rattle.answers.specs.declared.Answer.{Answer}
@@ -25,7 +25,7 @@ use Rattle.waits.proofs.QueueKnown.{asker-high}
 use Rattle.waits.specs.declared.Next.{Next}
 use Rattle.waits.specs.declared.Turn.{Turn}
 use Rattle.waits.specs.declared.Turn.the-variants.{Runs, Nobody}
-use Rattle.waits.specs.Choices.{requestAt, requestOf, Inside, Chosen, NewestAt, Known, placeIn, KnownIn, OldestIs}
+use Rattle.waits.specs.Choices.{requestAt, requestOf, Inside, Chosen, LightestAt, Known, placeIn, KnownIn, OldestIs}
 use Rattle.waits.specs.Blocks.{Rows, RowsIn}
 use Rattle.runs.specs.RunsAt as A
 use Rattle.states.proofs.PlacesWait.{place-waits}
@@ -52,8 +52,8 @@ module _ (d : List ℕ) (c : Option (Wait book)) (r : Place) (h : Chosen d c r) 
       go none m k = m
       go (some v) m k = absurd (Option·none-ne-some (v .request) k)
 
-pub newest-inside : (p d : List ℕ) (r : Place) → NewestAt p d r → (q : ℕ) → r ≡ At q → q < queued d
-newest-inside p d r h = chosen-inside d (newest book (stateOf p d)) r h
+pub lightest-inside : (p d : List ℕ) (r : Place) → LightestAt p d r → (q : ℕ) → r ≡ At q → q < queued d
+lightest-inside p d r h = chosen-inside d (yields book (stateOf p d)) r h
 
 -- ---- where nobody can run
 module _ (p d : List ℕ) (r : Turn) (e : r ≡ Nobody) where
@@ -106,9 +106,9 @@ module _ (p d : List ℕ) (w : Whole p d) where
             rows = tt;
           }
 
-  -- ---- none of them; the newest on a circle
-  module _ (nobody : oldest book (stateOf p d) ≡ none) (l : Place) (k : NewestAt p d l) where
-    blocked : turn book (stateOf p d) ≡ refused book (stateOf p d) (newest book (stateOf p d))
+  -- ---- none of them; the one on a circle that gives way
+  module _ (nobody : oldest book (stateOf p d) ≡ none) (l : Place) (k : LightestAt p d l) where
+    blocked : turn book (stateOf p d) ≡ refused book (stateOf p d) (yields book (stateOf p d))
     unfolding turn
     blocked = ap (served book (stateOf p d)) nobody
 
@@ -116,7 +116,7 @@ module _ (p d : List ℕ) (w : Whole p d) where
     unfolding wayAt
     turned-way q e d′ a gave row =
         let s = stateOf p d in
-        let v = chosen-is d (newest book s) l k q e in
+        let v = chosen-is d (yields book s) l k q e in
         record {
           whole = gave .says .whole;
           turned =
@@ -132,7 +132,7 @@ module _ (p d : List ℕ) (w : Whole p d) where
     turned-rest e row r =
         record {
           whole = w;
-          turned = blocked ∙ ap (refused book (stateOf p d)) (chosen-none d (newest book (stateOf p d)) l k e);
+          turned = blocked ∙ ap (refused book (stateOf p d)) (chosen-none d (yields book (stateOf p d)) l k e);
           still = refl;
           rows = r;
         }

@@ -37,15 +37,15 @@ fn give_way(pages: &[u8], desk: &mut [u8], q: usize) -> Answer
     }
 }
 
-// A turn where nobody can run, and the row has all who block each request: the newest that lies on a circle gives way, or the desk is at rest.
+// A turn where nobody can run, and the row has all who block each request: the lightest that lies on a circle gives way, or the desk is at rest.
 fn circle_turn(pages: &[u8], desk: &mut [u8], row: &[u64]) -> Turned
     requires { ⌜ Whole (now pages) (now desk) ⌝ }
     requires { ⌜ oldest book (stateOf (now pages) (now desk)) ≡ none ⌝ }
     requires { ⌜ Rows (now pages) (now desk) (now row) ⌝ }
     ensures { λ r. ⌜ Turns (now (pages .entry)) (now (desk .entry)) (now (pages .entry)) (now (desk .exit)) (now (row .entry)) r ⌝ }
 {
-    let newest = waits::newest_on_circle(pages, desk, row);
-    let Place::At(q) = newest else {
+    let lightest = waits::lightest_on_circle(pages, desk, row);
+    let Place::At(q) = lightest else {
         return Turned::Rest;
     };
     Turned::Said(give_way(pages, desk, q))

@@ -6,4 +6,6 @@ pub mod Blocks
 pub mod Queue
 pub mod BlockerSets
 pub mod WaitRows
+pub mod Counting
+pub mod Yielders
 pub mod OldestTurns

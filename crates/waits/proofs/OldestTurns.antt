@@ -1,21 +1,18 @@
 -- The oldest request that nobody blocks, as the code looks for it: a place is passed where somebody blocks its request, who is the lowest of
--- those collected, and chosen where nobody does. Whoever blocks runs, and is a transaction.
+-- those collected, and chosen where nobody does. Whoever blocks runs, and is a transaction. Assumes nothing.
 use Prim.Native.Nat.{ℕ, _+_, _≤_, _<_}
 use mathlib.Core.Path.{_≡_, refl, sym, ap, ap₂, subst, _∙_}
 use mathlib.Core.Bool.{cond, not}
 use mathlib.Core.List.{List}
 use mathlib.Core.Option.{some}
 use native.Mathlib.Omega.{arith}
-use borrow.Author.Tests.{leb-true}
-use lib.Dec.{leb}
 use lib.ListN.{length}
 use Rattle.limits.specs.Limits.{transactionsMost, locksMost}
 use Rattle.lists.specs.Lists.{In, lowest}
-use Rattle.lists.proofs.Tests.{and-left, and-right}
 use Rattle.rules.specs.Entries.{isThere}
 use Rattle.rules.specs.Locks as K
 use Rattle.rules.specs.Queue.{oldest}
-use Rattle.rules.proofs.Waits.{runs-known, blocker-runs}
+use Rattle.rules.proofs.Waits.{transaction-low, transaction-high, runs-known, blocker-runs}
 use Rattle.queue.specs.QueueLayout.{queued, queuedAt}
 use Rattle.locks.specs.SlotMoves.{heldIn}
 use Rattle.states.specs.States.{book, stateOf}
@@ -43,7 +40,7 @@ module _ (p d : List ℕ) (w : Whole p d) where
   blockers-known : (q : ℕ) → q < queued d → (u : ℕ) → In u (blockersAt p d q) → (1 ≤ u) × (u < transactionsMost + 1)
   blockers-known q h u i =
       let k = runs-known book (stateOf p d) (w .values) u (blocker-runs book (stateOf p d) (w .values) (waitAt p d q) (wait-in p d q h) u i .0) in
-      (leb-true 1 u (and-left (leb 1 u) (leb u transactionsMost) k), omega (arith, leb-true u transactionsMost (and-right (leb 1 u) (leb u transactionsMost) k)))
+      (transaction-low book u k, omega (arith, transaction-high book u k))
 
   -- the question whether the request at a place is blocked, as the code answers it
   pub blocker-at : (q m : ℕ) (b : Blocker) → q < queued d → SetOf m (blockersAt p d q) → NextIn m 1 (transactionsMost + 1) b

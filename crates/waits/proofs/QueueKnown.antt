@@ -7,17 +7,15 @@ use mathlib.Core.Bool.{true}
 use mathlib.Core.List.{List, _∷_}
 use mathlib.Core.Option.{Option, none, some}
 use native.Mathlib.Omega.{arith}
-use borrow.Author.Tests.{leb-true}
-use lib.Dec.{leb}
 use Rattle.limits.specs.Limits.{transactionsMost, locksMost}
 use Rattle.lists.specs.Lists.{In}
-use Rattle.lists.proofs.Tests.{and-left, and-right}
+use Rattle.lists.proofs.Tests.{and-left}
 use Rattle.lists.proofs.Elements.{all-in, in-tab}
 use Rattle.rules.specs.Kinds.{Lock}
 use Rattle.rules.specs.Locks.{inUse}
 use Rattle.rules.specs.Desk.{runs, isTransaction}
 use Rattle.rules.specs.Good.{ascending, isName, lockStands}
-use Rattle.rules.proofs.Waits.{runs-known}
+use Rattle.rules.proofs.Waits.{transaction-low, transaction-high, runs-known}
 use Rattle.trees.specs.Trees.{documentSizes}
 use Rattle.trees.specs.Shapes.{treePaging}
 use Rattle.queue.specs.QueueLayout.{queued, inPlace}
@@ -64,8 +62,8 @@ module _ (p d : List ℕ) (w : Whole p d) where
       record {
         each = λ i h.
             record {
-              low = λ l e. leb-true 1 (l .holder) (and-left (leb 1 (l .holder)) (leb (l .holder) transactionsMost) (holder-known i l h e));
-              high = λ l e. leb-true (l .holder) transactionsMost (and-right (leb 1 (l .holder)) (leb (l .holder) transactionsMost) (holder-known i l h e));
+              low = λ l e. transaction-low book (l .holder) (holder-known i l h e);
+              high = λ l e. transaction-high book (l .holder) (holder-known i l h e);
             };
       }
 

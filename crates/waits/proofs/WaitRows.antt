@@ -1,22 +1,20 @@
--- The newest request on a circle: the rows are filled in the queue's order, and its places are looked at from the last one down.
--- Who is queued at a place has all those of the places before it ahead, so what is left to look at is the queue up to there.
+-- The waits of the queue's places, and the rows, which are filled in the queue's order: who is queued at a place has all those of the places before
+-- it ahead. Assumes nothing.
 use Prim.Native.Nat.{ℕ, _+_, _-_, _≤_, _<_}
 use mathlib.Core.Path.{_≡_, refl, sym, ap, subst, _∙_}
 use mathlib.Core.Logic.{inl}
-use mathlib.Core.Bool.{Bool, true, false, cond}
+use mathlib.Core.Bool.{true}
 use mathlib.Core.List.{List, [], _∷_, _++_, append-assoc, append-nil}
-use mathlib.Core.Option.{Option, none, some}
-use native.Mathlib.Nat.{sub-zero, zero-add}
+use native.Mathlib.Nat.{zero-add}
 use native.Mathlib.Omega.{arith}
 use lib.ListN.{length, set, replicate, length-set, length-replicate}
 use Rattle.limits.specs.Limits.{transactionsMost}
-use Rattle.lists.specs.Lists.{In, last, pairs, tab}
+use Rattle.lists.specs.Lists.{In, pairs, tab}
 use Rattle.lists.proofs.Tables.{tab-append, tab-next}
 use Rattle.lists.proofs.Elements.{in-right}
-use Rattle.lists.proofs.Tests.{last-last}
 use Rattle.rules.specs.Kinds.{Entry, Queued}
 use Rattle.rules.specs.Locks as K
-use Rattle.rules.specs.Queue.{Wait, waitsFrom, waits, onCircle, newest}
+use Rattle.rules.specs.Queue.{waitsFrom, waits}
 use Rattle.rules.specs.Good.{otherAsker}
 use Rattle.queue.specs.QueueLayout.{queued, inPlace, queuedAt, queueOf}
 use Rattle.locks.specs.SlotLayout.{slotsOf}
@@ -24,12 +22,7 @@ use Rattle.index.specs.Pictures.{entriesIn}
 use Rattle.states.specs.States.{book, stateOf}
 use Rattle.states.specs.Whole.{Whole}
 use Rattle.circles.specs.CircleSets.{SetOf, RowOf}
-use Rattle.circles.specs.Search.{circleOn}
-use Rattle.circles.proofs.WaitsKnown.{waits-known}
-use Rattle.circles.proofs.Links.{circle-is}
 use Rattle.circles.proofs.Collected.{row-none, row-queued}
-use Rattle.waits.specs.declared.Place.the-variants.{At, Nowhere}
-use Rattle.waits.specs.Choices.{Chosen}
 use Rattle.waits.specs.declared.Want.{Want}
 use Rattle.waits.specs.declared.Next.{Next}
 use Rattle.waits.specs.declared.Turn.{Turn}
@@ -57,12 +50,12 @@ queue-split d q h =
     ∙ ap (λ xs. tab q 0 (queuedAt d) ++ xs) (tab-next (queued d) q (queuedAt d) h)
 
 module _ (p d : List ℕ) where
-  waits-next : (q : ℕ) → waitsTo p d (q + 1) ≡ waitsTo p d q ++ (waitAt p d q ∷ [])
+  pub waits-next : (q : ℕ) → waitsTo p d (q + 1) ≡ waitsTo p d q ++ (waitAt p d q ∷ [])
   unfolding waitsTo waitsFrom blockersAt
   waits-next q =
       ap (waitsFrom book (entriesIn p) (slotsOf d) []) (sym (ahead-next d q)) ∙ waits-append (entriesIn p) (slotsOf d) [] (ahead d q) (queuedAt d q ∷ [])
 
-  waits-all : waitsTo p d (queued d) ≡ waits book (stateOf p d)
+  pub waits-all : waitsTo p d (queued d) ≡ waits book (stateOf p d)
   unfolding waitsTo waits stateOf queueOf ahead
   waits-all = refl
 
@@ -107,69 +100,6 @@ module _ (p d : List ℕ) where
 
   pub rows-left : (row : List ℕ) (turn : Turn) (x : Next) → turn ≡ Runs x → RowsIn p d row turn
   rows-left row turn x e = rw e tt
-
-  -- ---- from the last place down
-  abbrev onOne : Wait book → Bool
-  onOne = onCircle book (waits book (stateOf p d))
-
-  unfoldable pub newestTo : ℕ → Option (Wait book)
-  newestTo q = last (onCircle book (waits book (stateOf p d))) (waitsTo p d q)
-
-  pub newest-start : (n : ℕ) → n ≡ queued d → newest book (stateOf p d) ≡ newestTo (n - 0)
-  unfolding newest newestTo
-  newest-start n e = rw (sub-zero, e) (ap (last onOne) (sym waits-all))
-
-  newest-next : (q : ℕ) → newestTo (q + 1) ≡ cond (onOne (waitAt p d q)) (some (waitAt p d q)) (newestTo q)
-  unfolding newestTo
-  newest-next q = ap (last onOne) (waits-next q) ∙ last-last onOne (waitsTo p d q) (waitAt p d q)
-
-  newest-none : newestTo 0 ≡ none
-  unfolding newestTo waitsTo waitsFrom ahead tab last
-  newest-none = refl
-
-  pub newest-end : (n seen : ℕ) → n ≤ seen → newest book (stateOf p d) ≡ newestTo (n - seen) → Chosen d (newest book (stateOf p d)) Nowhere
-  newest-end n seen h e =
-      let z : n - seen ≡ 0 = omega arith in
-      let o : newest book (stateOf p d) ≡ none = e ∙ ap newestTo z ∙ newest-none in
-      rw o (record { inside = tt; request = refl })
-
-  module _ (n seen : ℕ) (k : Whole p d) (e : n ≡ queued d) (h : seen < n) where
-    abbrev next : ℕ
-    next = n - 1 - seen
-
-    pub next-under : n - 1 - seen < transactionsMost
-    next-under = omega (arith, whole-order p d k .few)
-
-    module _ (row : List ℕ) (r : Rows p d row) (t : ℕ) (a : t ≡ inPlace d (n - 1 - seen)) where
-      pub next-low : 1 ≤ t
-      next-low = omega (arith, whole-order p d k .from next (omega arith))
-
-      pub next-high : t < length row
-      next-high = omega (arith, whole-order p d k .to next (omega arith), r .long)
-
-      module _ (b : Bool) (c : b ≡ circleOn row t) (o : newest book (stateOf p d) ≡ newestTo (n - seen)) where
-        circle : onOne (waitAt p d next) ≡ b
-        unfolding queuedAt
-        circle =
-            sym (circle-is book row (waits book (stateOf p d)) (waits-known book (stateOf p d) (k .values)) (r .long) (r .links) (waitAt p d next)
-            (wait-in next (omega arith)))
-            ∙ ap (circleOn row) (sym a)
-            ∙ sym c
-
-        chosen : newest book (stateOf p d) ≡ cond b (some (waitAt p d next)) (newestTo next)
-        chosen =
-            let m : n - seen ≡ next + 1 = omega arith in
-            o ∙ ap newestTo m ∙ newest-next next ∙ ap (λ x. cond x (some (waitAt p d next)) (newestTo next)) circle
-
-        pub newest-here : b ≡ true → Chosen d (newest book (stateOf p d)) (At (n - 1 - seen))
-        newest-here y =
-            let z : newest book (stateOf p d) ≡ some (waitAt p d next) = chosen ∙ ap (λ x. cond x (some (waitAt p d next)) (newestTo next)) y in
-            rw z (record { inside = omega arith; request = refl })
-
-        pub newest-on : b ≡ false → newest book (stateOf p d) ≡ newestTo (n - (seen + 1))
-        newest-on y =
-            let m : next ≡ n - (seen + 1) = omega arith in
-            chosen ∙ ap (λ x. cond x (some (waitAt p d next)) (newestTo next)) y ∙ ap newestTo m
 
 pub rows-fit : (p d row : List ℕ) → Rows p d row → length row ≤ 65
 rows-fit p d row r = omega (arith, r .long)

@@ -5,7 +5,7 @@ use mathlib.Core.List.{List}
 use mathlib.Core.Option.{Option, none, some}
 use Rattle.rules.specs.Kinds.{Queued}
 use Rattle.rules.specs.Locks as K
-use Rattle.rules.specs.Queue.{Wait, oldest, newest}
+use Rattle.rules.specs.Queue.{Wait, oldest, yields}
 use Rattle.queue.specs.QueueLayout.{queued, queuedAt}
 use Rattle.locks.specs.SlotLayout.{nameIn, bookMode}
 use Rattle.locks.specs.SlotMoves.{heldIn, freeIn}
@@ -41,12 +41,12 @@ pub record Chosen (d : List ℕ) (c : Option (Wait book)) (r : Place) : Type 0 w
   pub inside : Inside d r
   pub request : requestAt d r ≡ requestOf c
 
--- "the oldest such"; "the newest queued request that lies on a circle"
+-- "the oldest such"; of those on a circle the one that gives way
 abbrev pub OldestAt : List ℕ → List ℕ → Place → Type 0
 OldestAt p d r = Chosen d (oldest book (stateOf p d)) r
 
-abbrev pub NewestAt : List ℕ → List ℕ → Place → Type 0
-NewestAt p d r = Chosen d (newest book (stateOf p d)) r
+abbrev pub LightestAt : List ℕ → List ℕ → Place → Type 0
+LightestAt p d r = Chosen d (yields book (stateOf p d)) r
 
 -- what is known of the request that runs next: its target, and the slots that its lock may take
 pub record Known (p d : List ℕ) (x : Next) : Type 0 where

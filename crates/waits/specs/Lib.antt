@@ -2,3 +2,4 @@ pub mod Choices
 pub mod Blocks
 pub mod Notes
 pub mod Slots
+pub mod Weights

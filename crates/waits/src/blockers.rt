@@ -22,7 +22,7 @@ use limits::LOCKS;
 use locks::Slot;
 
 // Who holds a slot; 0, nobody, where it is free.
-fn holder_of(slot: Slot) -> usize
+pub fn holder_of(slot: Slot) -> usize
     ensures { λ r. ⌜ r ≡ holderOf (bookSlot slot) ⌝ }
 {
     match slot {

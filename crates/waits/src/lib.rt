@@ -1,4 +1,4 @@
-// Who waits, and behind whom: a request's target, all who block it, the oldest request that isn't blocked, the newest on a circle.
+// Who waits, and behind whom: a request's target, all who block it, the oldest request that isn't blocked, the lightest on a circle.
 // (Document 01, "Locks" and "Working the queue".) Everything is worked out from the bytes of a whole picture, afresh each turn.
 ghost use mathlib.Core.Path.{_≡_};
 ghost use mathlib.Core.Bool.{not, _&&_};
@@ -18,7 +18,7 @@ mod slots;
 pub mod targets;
 
 pub use blocked::oldest;
-pub use lightest::newest_on_circle;
+pub use lightest::lightest_on_circle;
 
 // What a request wants: who asks, its target's name, and the mode.
 pub struct Want {
@@ -67,6 +67,13 @@ struct Collected {
     against: u64,
     own: usize,
     free: usize,
+}
+
+// The lightest request on a circle of those looked at: its place, and how many locks its transaction holds; where there is none, one more than
+// there are.
+struct Yielding {
+    place: Place,
+    held: u64,
 }
 
 // Whose turn it is: the oldest request that nobody blocks.

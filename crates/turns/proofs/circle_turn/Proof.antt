@@ -1,15 +1,15 @@
--- `turns::circle_turn` meets its contract: the place found has the newest on a circle.
+-- `turns::circle_turn` meets its contract: the place found has the one on a circle that gives way.
 -- Assumes nothing.
 use borrow.Author.Needs.{needs}
-use Rattle.turns.proofs.OneTurn.{newest-inside, turned-way, turned-rest}
+use Rattle.turns.proofs.OneTurn.{lightest-inside, turned-way, turned-rest}
 use Rattle.turns.proofs.circle_turn.Statement.{statement}
 use Rattle.turns.proofs.circle_turn.Tie as tie
 
-newest-on-circle-requires : tie.Need-newest-on-circle-requires
-newest-on-circle-requires c κs = search needs
+lightest-on-circle-requires : tie.Need-lightest-on-circle-requires
+lightest-on-circle-requires c κs = search needs
 
-enum-known-newest : tie.Need-enum-known-newest
-enum-known-newest c = search needs
+enum-known-lightest : tie.Need-enum-known-lightest
+enum-known-lightest c = search needs
 
 enum-told : tie.Need-enum-told
 enum-told c = search needs
@@ -21,7 +21,7 @@ returns : tie.Need-returns
 returns c = search (needs, turned-rest)
 
 give-way-requires : tie.Need-give-way-requires
-give-way-requires c κs = (search needs, search (needs, newest-inside))
+give-way-requires c κs = (search needs, search (needs, lightest-inside))
 
 same-length-2 : tie.Need-same-length-2
 same-length-2 c = search needs
@@ -33,8 +33,8 @@ pub circle-turn-spec : {M : Type 1} → statement M
 circle-turn-spec =
     tie.close
     (tie.spec
-    newest-on-circle-requires
-    enum-known-newest
+    lightest-on-circle-requires
+    enum-known-lightest
     enum-told
     same-length
     returns

@@ -1,0 +1,43 @@
+-- `waits::lightest::look_at` meets its contract: the lightest of those before a place, and the one at it.
+-- Assumes nothing.
+use borrow.Author.Needs.{needs}
+use Rattle.waits.proofs.Yielders.{looked-under, looked-counted, best-past, best-next}
+use Rattle.waits.proofs.lightest.look_at.Statement.{statement}
+use Rattle.waits.proofs.lightest.look_at.Tie as tie
+
+lies-on-circle-requires : tie.Need-lies-on-circle-requires
+lies-on-circle-requires c κs = search needs
+
+in-place-requires : tie.Need-in-place-requires
+in-place-requires c κs = (search needs, search (needs, looked-under))
+
+cast-t : tie.Need-cast-t
+cast-t c = search needs
+
+mul-lighter-of : tie.Need-mul-lighter-of
+mul-lighter-of c = search (needs, looked-counted)
+
+shared-slice-read-lighter-of : tie.Need-shared-slice-read-lighter-of
+shared-slice-read-lighter-of c = search (needs, looked-counted)
+
+lighter-of-requires : tie.Need-lighter-of-requires
+lighter-of-requires c κs = search needs
+
+returns : tie.Need-returns
+returns c = search (needs, best-next)
+
+returns-2 : tie.Need-returns-2
+returns-2 c = search (needs, best-past)
+
+pub look-at-spec : {M : Type 1} → statement M
+look-at-spec =
+    tie.close
+    (tie.spec
+    lies-on-circle-requires
+    in-place-requires
+    cast-t
+    mul-lighter-of
+    shared-slice-read-lighter-of
+    lighter-of-requires
+    returns
+    returns-2)
