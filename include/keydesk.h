@@ -7,9 +7,10 @@
  *
  * A call serves one request record and writes answer records. Each answer names the transaction
  * that it is for, and ANSWERS TO OTHER TRANSACTIONS COME IN ONE'S OWN CALL: a commit lets those run
- * that waited behind it. So whoever calls goes through all answers of the call and hands each to
- * the transaction that it names. One that was told KEYDESK_STILL_QUEUED gets its answer so, in
- * somebody else's call, and asks nothing until then; only a rollback is heard meanwhile.
+ * that waited behind it, and a request that closes a circle of waits can turn another's away. So
+ * whoever calls goes through all answers of the call and hands each to the transaction that it
+ * names. One that was told KEYDESK_STILL_QUEUED gets its answer so, in somebody else's call, and
+ * asks nothing until then; only a rollback is heard meanwhile.
  *
  *   uint8_t request[KEYDESK_REQUEST];
  *   size_t length = keydesk_read(request, 2, 50, 150);
@@ -56,7 +57,9 @@ extern "C" {
 #define KEYDESK_KEY_PRESENT 16    /* insert: the key is present, with its key and record */
 #define KEYDESK_LOCKS_IN_USE 17   /* a new lock is needed and all 256 are in use */
 #define KEYDESK_PAGES_SHORT 18    /* insert of a missing key, and the pages are short */
-#define KEYDESK_CIRCLE 19         /* the request lay on a circle of waits and left the queue */
+#define KEYDESK_CIRCLE 19         /* the request lay on a circle of waits and left the queue: of
+                                     those on one its transaction held the fewest locks, and of
+                                     equals it was the newest */
 
 /* Makes the picture fresh: an empty index, nobody running.
  *

@@ -175,7 +175,7 @@ static void told(struct tablet *tablet, struct keydesk_answer answer) {
         tablet->turn = GIVES_UP;
         break;
     case KEYDESK_CIRCLE:
-        printf("turned away, the newest in a circle");
+        printf("turned away, the lightest in a circle");
         try_again(tablet);
         break;
     case KEYDESK_ALREADY_RUNNING: stop("lost track of a tablet", "it has begun already"); break;

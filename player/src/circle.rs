@@ -4,8 +4,9 @@
 //!
 //! A 19 is said only when everyone in the queue is blocked. The oldest who waits at a name is then
 //! blocked by a holder of it, and holders keep what they hold for the rest of the call: whoever
-//! wants X there stays blocked. So only requests for S can run after a 19, and those change no
-//! entry. The index stood as it stands after the call; only queue and locks are to be taken back.
+//! wants X there stays blocked, that holder by another one. So only requests for S can run after a
+//! 19, the asker's among them, and those change no entry. The index stood as it stands after the
+//! call; only queue and locks are to be taken back.
 
 use crate::behind::{behind, target};
 use crate::keys::Key;
@@ -26,8 +27,9 @@ pub struct Call {
 
 impl Call {
     /// How things stood when the 19 at this place was said, with its request still in the queue.
-    /// Whoever was queued had done nothing in this call yet, and held what it held before it;
-    /// everyone else had done its part: begin, commit and rollback act and answer first.
+    /// Whoever was queued had done nothing in this call yet, and held what it held before it: the
+    /// asker too, where its answer comes later. Everyone else had done its part: begin, commit and
+    /// rollback act and answer first.
     pub fn stood_at(&self, place: usize) -> Standing {
         let answered = |transaction| {
             self.answers[..place].iter().any(|answer| answer.transaction == transaction)

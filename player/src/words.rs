@@ -4,14 +4,14 @@ use crate::behind::{Blocker, Why, blockers, named, target};
 use crate::circle::{Call, Link, circle};
 use crate::keys::{Form, Key, Written};
 use crate::picture::{Standing, Waiting};
-use crate::rows::numbers;
+use crate::rows::{counted, numbers};
 use crate::text::{Asks, Request};
 use keydesk::{Answer, Number, Refusal};
 use std::fmt;
 
 /// What is said at this place among a call's answers, by the request that it answers: who waits is
 /// told behind whom, by the name that its answer carries, and who else is in the way; who is turned
-/// away at 19 the whole circle.
+/// away at 19 the whole circle, with the locks of each.
 pub fn said(call: &Call, place: usize, asks: &Asks) -> String {
     let said = &call.answers[place];
     let told = match said.says {
@@ -127,15 +127,26 @@ fn who(those: &[Blocker], target: &str) -> String {
     }
 }
 
-/// The circle of one that was turned away, link by link: "turned away, the newest in a circle: 2
-/// waits behind 1 at 7/30, 1 behind 2 at 7/40".
+/// The circle of one that was turned away, link by link, with how many locks each held, by which it
+/// was chosen: "turned away, the lightest in a circle: 1 (1 lock) waits behind 2 at 7/40, 2 (3
+/// locks) behind 1 at 7/30".
 pub fn turned_away(standing: &Standing, circle: &[Link]) -> String {
     let link = |link: &Link| {
         let Link { waits, behind, at } = *link;
         let verb = if *link == circle[0] { " waits" } else { "" };
-        format!("{waits}{verb} behind {behind} at {}", standing.name(at))
+        let (locks, at) = (locks_held(standing, waits), standing.name(at));
+        format!("{waits} ({locks}){verb} behind {behind} at {at}")
     };
     format!("{}: {}", Number::Circle, circle.iter().map(link).collect::<Vec<String>>().join(", "))
+}
+
+/// How many locks a transaction holds, S, X and the end alike. Who lies on a circle may hold none:
+/// then others wait behind its earlier request.
+fn locks_held(standing: &Standing, transaction: u16) -> String {
+    match standing.locks.iter().filter(|lock| lock.holder == transaction).count() {
+        0 => "no locks".to_string(),
+        held => counted(held, "lock", "locks"),
+    }
 }
 
 /// A call that the desk refused, in words.

@@ -194,25 +194,29 @@ struct Met {
     named_asked_before: usize,
     /// An earlier request is named, and whoever holds the target has a higher number.
     holders_are_higher: usize,
+    /// Others were turned away in the same call, and the name is that of the rest after them.
+    after_a_19: usize,
 }
 
-/// Plays a session and checks each 3 in it: "Answer 3 then carries that number in its record field"
-/// (document 02, request 4), and the key field stays zero.
+/// Plays a session and checks each 3 in it: it comes last, "Answer 3 then carries that number in
+/// its record field" (document 02, request 4), and the key field stays zero.
 fn look_at_names(lines: &[String], met: &mut Met) {
     let mut session = Session::fresh();
     for (number, line) in (1..).zip(lines) {
         let Outcome::Called { said, .. } = session.play(number, line) else { continue };
         let standing = session.standing();
-        for said in said.iter().filter(|said| said.number == 3) {
-            let waiting = standing.waiting(said.transaction).expect("who is told 3 waits");
+        for (place, told) in said.iter().enumerate().filter(|(_, told)| told.number == 3) {
+            assert_eq!(place + 1, said.len(), "{}, line {number}: a 3 comes last", lines[0]);
+            let waiting = standing.waiting(told.transaction).expect("who is told 3 waits");
             let blockers = blockers(&standing, waiting);
             let lowest = blockers.iter().min_by_key(|blocker| blocker.transaction);
             let lowest = *lowest.expect("who waits at rest is blocked");
             let key_and_record = [0, 0, 0, 0, 0, 0, 0, 0, lowest.transaction as u8, 0, 0, 0];
-            assert_eq!(said.record[8..20], key_and_record, "{}, line {number}", lines[0]);
+            assert_eq!(told.record[8..20], key_and_record, "{}, line {number}", lines[0]);
             let words = format!("waits behind {}, who ", lowest.transaction);
-            assert!(said.words.starts_with(&words), "{}", said.words);
+            assert!(told.words.starts_with(&words), "{}", told.words);
             met.count(lowest, &blockers);
+            met.after_a_19 += usize::from(said.iter().any(|said| said.number == 19));
         }
     }
 }
@@ -235,6 +239,7 @@ fn every_3_of_the_examples_names_the_lowest_in_the_way() {
     assert!(met.waits > 10, "{} wait", met.waits);
     assert!(met.behind_several >= 3, "{} behind several", met.behind_several);
     assert!(met.holders_are_higher >= 1, "{} before higher holders", met.holders_are_higher);
+    assert!(met.after_a_19 >= 1, "{} after a 19", met.after_a_19);
 }
 
 #[test]
@@ -245,4 +250,5 @@ fn every_3_of_random_sessions_names_the_lowest_in_the_way() {
     assert!(met.behind_several > 300, "{} behind several", met.behind_several);
     assert!(met.named_asked_before > 300, "{} behind earlier requests", met.named_asked_before);
     assert!(met.holders_are_higher > 50, "{} before higher holders", met.holders_are_higher);
+    assert!(met.after_a_19 > 50, "{} after a 19", met.after_a_19);
 }

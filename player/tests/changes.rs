@@ -119,6 +119,13 @@ fn who_still_waits_but_elsewhere() {
     assert_eq!(last_on_settled(asked), expected);
 }
 
+/// 1 waits, and is turned away when 2 joins, since 2 holds more: now 2 waits, and 1 no more.
+#[test]
+fn who_waits_now_in_the_place_of_one_that_is_turned_away() {
+    let asked = "1 read 10..10\n2 read 20..20\n2 read 30..30\n1 delete 20\n2 delete 10";
+    assert_eq!(last_on_settled(asked), ["2 waits now: delete 10", "1 waits no more"]);
+}
+
 /// "One transaction inserts 1..24: one leaf. 25: separator 14, used 4."
 #[test]
 fn a_split_uses_pages_and_makes_the_tree_higher() {

@@ -116,7 +116,7 @@ fn refused_by_an_answer() {
     assert_eq!(said(16, insert()), "100 is there already, with record 9");
     assert_eq!(said(17, read()), "turned away: all 256 locks are in use");
     assert_eq!(said(18, insert()), "turned away: no page is left for another key");
-    assert_eq!(said(19, delete()), "turned away, the newest in a circle");
+    assert_eq!(said(19, delete()), "turned away, the lightest in a circle");
 }
 
 #[test]

@@ -4,7 +4,8 @@ use crate::{ANSWER, ANSWERS, Key, TRANSACTIONS, number};
 use std::fmt;
 
 /// What the desk says to one transaction: often to another one than the asker, since an end lets
-/// those run that waited. Hand it to the transaction that it names.
+/// those run that waited, and who closes a circle of waits can have another turned away. Hand it to
+/// the transaction that it names.
 ///
 /// ```
 /// use keydesk::{Answer, Key, Number};
@@ -68,7 +69,8 @@ pub enum Number {
     LocksInUse,
     /// 18: insert of a missing key, and the pages are short.
     PagesShort,
-    /// 19: the request lay on a circle of waits and left the queue.
+    /// 19: the request lay on a circle of waits and left the queue: of those on one its transaction
+    /// held the fewest locks, and of equals it was the newest. The transaction keeps what it has.
     Circle,
 }
 
@@ -146,7 +148,7 @@ impl fmt::Display for Number {
             }
             Number::LocksInUse => write!(to, "turned away: all 256 locks are in use"),
             Number::PagesShort => write!(to, "turned away: no page is left for another key"),
-            Number::Circle => write!(to, "turned away, the newest in a circle"),
+            Number::Circle => write!(to, "turned away, the lightest in a circle"),
         }
     }
 }

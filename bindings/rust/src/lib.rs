@@ -4,7 +4,8 @@
 //!
 //! A [`Desk`] is asked one [`Request`] at a time and gives [`Answers`]. **Answers to other
 //! transactions come in one's own call**: a commit is followed by answers to those who waited
-//! behind it. So whoever asks hands every answer to the transaction that it names.
+//! behind it, and a request that closes a circle of waits can turn another's away. So whoever asks
+//! hands every answer to the transaction that it names.
 //!
 //! ```
 //! use keydesk::{Desk, Key, Number, Refusal, Request};

@@ -28,5 +28,6 @@ pub const KEY_PRESENT: u32 = 16;
 pub const LOCKS_IN_USE: u32 = 17;
 /// Insert of a missing key, and the pages are short; the transaction keeps what it has.
 pub const PAGES_SHORT: u32 = 18;
-/// The request lay on a circle of waits and left the queue; the transaction keeps what it has.
+/// The request lay on a circle of waits and left the queue: of those on one its transaction held
+/// the fewest locks, and of equals it was the newest; the transaction keeps what it has.
 pub const CIRCLE: u32 = 19;

@@ -44,6 +44,7 @@ fn every_number_has_words_of_its_own() {
     assert_eq!(words[1], "found 7/30 with record 503");
     assert_eq!(words[3], "waits behind 9");
     assert_eq!(words[7], "7/30 is there already, with record 503");
+    assert_eq!(words[10], "turned away, the lightest in a circle");
     words.sort();
     words.dedup();
     assert_eq!(words.len(), NUMBERS.len());
@@ -151,6 +152,33 @@ fn the_desk_can_be_asked_before_the_last_answer_is_taken() {
         taken.push(answer.transaction);
     }
     assert_eq!(taken, [1, 2]);
+}
+
+/// Who joins the queue can have another turned away: 19 to that one comes before the asker's own
+/// answer. 1 holds one lock and 2 holds two, and each waits for what the other has read.
+#[test]
+fn a_19_to_another_comes_before_ones_own_3() {
+    let mut desk = Desk::fresh();
+    let requests = [
+        Request::begin(1),
+        Request::insert(1, 10, 7),
+        Request::insert(1, 20, 7),
+        Request::insert(1, 30, 7),
+        Request::commit(1),
+        Request::begin(1),
+        Request::begin(2),
+        Request::read(1, 10, 10),
+        Request::read(2, 20, 20),
+        Request::read(2, 30, 30),
+        Request::delete(1, 20),
+    ];
+    for request in requests {
+        desk.ask(request).expect("a request record");
+    }
+    let told: Vec<Answer> = desk.ask(Request::delete(2, 10)).expect("a request record").collect();
+    let to_1 = Answer { transaction: 1, says: Number::Circle };
+    let to_2 = Answer { transaction: 2, says: Number::StillQueued { behind: 1 } };
+    assert_eq!(told, [to_1, to_2]);
 }
 
 /// "A call writes at most 16 answers": one that ends and fifteen that waited for it. Reads don't

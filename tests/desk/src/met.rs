@@ -1,6 +1,7 @@
 //! What runs have met, counted from the answers and from the model's picture before and after each
 //! call.
 
+use model::demand3::turned_away::{TurnedAway, turned_away};
 use model::demand3::waits::Waits;
 use model::layout::answer::{Answer, number};
 use model::layout::desk::{Lock, Mode, Slot, Transaction};
@@ -15,8 +16,18 @@ pub struct Met {
     pub requests: usize,
     /// Answers by their number.
     pub numbers: BTreeMap<u16, usize>,
-    /// Refused circles by the length of the shortest that the joining request closed.
+    /// Circles that a joining request closed, by the length of the shortest of them.
     pub circles: BTreeMap<usize, usize>,
+    /// The same where the first to be turned away was not the newest on a circle.
+    pub older_turned_away: BTreeMap<usize, usize>,
+    /// The same where several on circles held the fewest locks.
+    pub equally_light: BTreeMap<usize, usize>,
+    /// Joining requests that turned others away and then had to wait.
+    pub waits_after_a_19: usize,
+    /// The same that then ran.
+    pub runs_after_a_19: usize,
+    /// Answers 19 at which one with a queued request on no circle held fewer locks.
+    pub lighter_ones_spared: usize,
     /// Slots that went from S to X.
     pub upgrades: usize,
     /// Deletes that made a ghost.
@@ -64,6 +75,7 @@ impl Met {
         for answer in answers {
             *self.numbers.entry(answer.number).or_default() += 1;
         }
+        self.take_in_turned_away(request, answers, before);
         self.upgrades += upgraded_slots(before, after);
         self.older_freed += older_freed(request, answers, before);
         self.splits += usize::from(after.index.used() > before.index.used());
@@ -83,6 +95,30 @@ impl Met {
         }
     }
 
+    /// The same for who is told 19, and for what becomes of a request that has closed a circle.
+    fn take_in_turned_away(&mut self, request: Request, answers: &[Answer], before: &Tables) {
+        let told_19 = turned_away(&request, answers, before);
+        self.lighter_ones_spared += told_19.iter().filter(|one| lighter_one_spared(one)).count();
+        let (RequestKind::Keys(keys), Some(first)) = (request.kind, told_19.first()) else {
+            return;
+        };
+        let asker = request.transaction;
+        let Some(length) = circle_closed_by(asker, keys, before) else { return };
+        let newest = first.on_circles.last().map(|(waiter, _)| *waiter);
+        let held = first.on_circles.iter().map(|(_, held)| Some(*held));
+        let lightest = held.filter(|held| *held == first.fewest()).count();
+        let to_asker = answers.iter().find(|answer| answer.transaction == asker);
+        *self.circles.entry(length).or_default() += 1;
+        *self.older_turned_away.entry(length).or_default() +=
+            usize::from(newest != Some(first.waiter));
+        *self.equally_light.entry(length).or_default() += usize::from(lightest > 1);
+        match to_asker.map(|answer| answer.number) {
+            Some(number::STILL_QUEUED) => self.waits_after_a_19 += 1,
+            Some(number::CIRCLE) | None => {}
+            Some(_) => self.runs_after_a_19 += 1,
+        }
+    }
+
     /// The same for what a read, insert or delete meets when it runs or is refused at once.
     fn take_in_keys(
         &mut self,
@@ -95,11 +131,6 @@ impl Met {
         let is_own_ghost =
             |key| before.index.entry(key).is_some_and(|e| e.owner == asker && e.is_ghost());
         match (request, first.number) {
-            (_, number::CIRCLE) => {
-                if let Some(length) = circle_closed_by(asker, request, before) {
-                    *self.circles.entry(length).or_default() += 1;
-                }
-            }
             (KeyRequest::Insert { key, .. }, number::DONE) => {
                 self.inserts_over_own_ghosts += usize::from(is_own_ghost(key));
             }
@@ -141,12 +172,13 @@ impl Met {
 
     /// Both counts together.
     pub fn and(mut self, other: Met) -> Met {
-        for (number, times) in other.numbers {
-            *self.numbers.entry(number).or_default() += times;
-        }
-        for (length, times) in other.circles {
-            *self.circles.entry(length).or_default() += times;
-        }
+        add(&mut self.numbers, other.numbers);
+        add(&mut self.circles, other.circles);
+        add(&mut self.older_turned_away, other.older_turned_away);
+        add(&mut self.equally_light, other.equally_light);
+        self.waits_after_a_19 += other.waits_after_a_19;
+        self.runs_after_a_19 += other.runs_after_a_19;
+        self.lighter_ones_spared += other.lighter_ones_spared;
         self.requests += other.requests;
         self.upgrades += other.upgrades;
         self.ghosts += other.ghosts;
@@ -165,6 +197,18 @@ impl Met {
         self.named_otherwise_at_rest += other.named_otherwise_at_rest;
         self
     }
+}
+
+/// Adds how often each thing was met to how often it was met before.
+fn add<T: Ord>(met: &mut BTreeMap<T, usize>, others: BTreeMap<T, usize>) {
+    for (thing, times) in others {
+        *met.entry(thing).or_default() += times;
+    }
+}
+
+/// Whether one on no circle held fewer locks than the lightest on one.
+fn lighter_one_spared(told_19: &TurnedAway) -> bool {
+    told_19.on_none.iter().any(|(_, held)| told_19.fewest().is_some_and(|fewest| *held < fewest))
 }
 
 /// How many slots hold X where they held S for the same transaction and name.

@@ -3,11 +3,13 @@
 use crate::beside::Beside;
 use crate::met::Met;
 use crate::pictures::others_in_the_way_at_rest;
+use crate::scripts::{WEIGHTS, circle, settled};
 use crate::under_test::UnderTest;
 use model::desk::Picture;
 use model::generators::random::Random;
 use model::generators::requests::{Bias, Requests};
 use model::layout::request::Request;
+use std::collections::BTreeMap;
 
 /// A run and what it has met so far.
 pub struct Run {
@@ -54,6 +56,33 @@ pub fn biased(under_test: UnderTest, bias: Bias, seeds: u64, requests: usize) ->
         let mut run = Run::fresh(under_test, seed);
         run.steps(&mut Requests::new(seed, bias), requests);
         run.met()
+    }))
+}
+
+/// So many scripts of one kind, each on so many settled keys of its own.
+pub fn scripts(
+    seeds: u64,
+    keys: u64,
+    script: impl Fn(&mut Random) -> Vec<Request>,
+) -> Vec<Vec<Request>> {
+    let whole = |seed| [settled(keys), script(&mut Random::new(seed))].concat();
+    (1..=seeds).map(whole).collect()
+}
+
+/// So many circles of each length that a circle can have. Asserts that all of them were closed, and
+/// that of each length some turned the newest away and some an older one, and that the lightest was
+/// alone in some and one of several in others.
+pub fn circles_of_each_length(under_test: UnderTest, seeds: u64) -> Met {
+    together((2..=16).map(|length| {
+        let keys = length as u64 + WEIGHTS;
+        let met = scripted(under_test, scripts(seeds, keys, |random| circle(random, length)), 15);
+        let count = |met: &BTreeMap<usize, usize>| met.get(&length).copied().unwrap_or(0);
+        let (closed, older) = (count(&met.circles), count(&met.older_turned_away));
+        let equally_light = count(&met.equally_light);
+        assert!(closed >= seeds as usize, "circles of {length} came {closed} times");
+        assert!(older >= 3 && older + 3 <= closed, "{length}: {older} of {closed}");
+        assert!(equally_light >= 3 && equally_light + 3 <= closed, "{length}: {equally_light}");
+        met
     }))
 }
 

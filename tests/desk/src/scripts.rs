@@ -15,22 +15,55 @@ pub fn settled(keys: u64) -> Vec<Request> {
     script
 }
 
-/// A circle of so many, on as many settled keys: each holds a key, S or X, and then asks for the
-/// next one's in a conflicting mode. They ask in any order; the last of them closes the circle.
+/// How many settled keys a circle needs beside those of its members, for what they hold besides.
+pub const WEIGHTS: u64 = 2;
+
+/// A circle of so many, on as many settled keys: each holds a key, S or X, and some locks besides,
+/// and then asks for the next one's in a conflicting mode. They ask in any order; the last of them
+/// closes the circle. At times one more, which holds nothing, asks before it: for what the first of
+/// them waits for, and so it is on no circle, or for what the last will ask for, and it is.
 pub fn circle(random: &mut Random, length: usize) -> Vec<Request> {
-    let members = begun(random, length);
+    let everyone = begun(random, 16);
+    let (members, others) = everyone.split_at(length);
     let keys: Vec<u64> =
         random.order(0, length - 1).into_iter().map(|place| place as u64 * GAP).collect();
-    let mut script = begins(&members);
+    let mut script = begins(members);
     let mut holds_x = Vec::new();
     for (member, key) in members.iter().zip(&keys) {
         holds_x.push(random.chance(50));
         let is_x = holds_x[holds_x.len() - 1];
         script.push(if is_x { delete(*member, *key) } else { read(*member, *key) });
     }
-    for place in random.order(0, length - 1) {
-        let next = (place + 1) % length;
-        script.push(conflicting(random, members[place], keys[next], holds_x[next]));
+    script.extend(weights(random, members));
+    let order = random.order(0, length - 1);
+    let wanted = |turn: usize| (order[turn] + 1) % length;
+    for turn in 0..length {
+        if let Some(one_more) = others.first().filter(|_| turn == length - 1 && random.chance(50)) {
+            let beside = if random.chance(50) { 0 } else { turn };
+            script.extend(begins(&[*one_more]));
+            script.push(delete(*one_more, keys[wanted(beside)]));
+        }
+        let next = wanted(turn);
+        script.push(conflicting(random, members[order[turn]], keys[next], holds_x[next]));
+    }
+    script
+}
+
+/// Reads that lock settled keys above those of a circle, and then the end: as many for all members,
+/// none for one of them and some for the others, or any number for each.
+fn weights(random: &mut Random, members: &[u16]) -> Vec<Request> {
+    let (most, lowest) = (WEIGHTS + 1, members.len() as u64);
+    let (kind, for_all) = (random.below(3), random.below(most + 1));
+    let light = random.between(0, members.len() - 1);
+    let mut script = Vec::new();
+    for (place, member) in members.iter().enumerate() {
+        let count = match kind {
+            0 => for_all,
+            1 if place == light => 0,
+            1 => 1 + random.below(most),
+            _ => random.below(most + 1),
+        };
+        script.extend((lowest..lowest + count).map(|place| read(*member, place * GAP)));
     }
     script
 }
@@ -44,6 +77,27 @@ fn conflicting(random: &mut Random, asker: u16, key: u64, is_x: bool) -> Request
         2 => read(asker, key),
         _ => insert(asker, key),
     }
+}
+
+/// A circle of three in which the lightest holds nothing and only its request is in the way of the
+/// last, which wants S beside another's S: its 19 lets the last one run. Needs two settled keys.
+pub fn reader_let_past(random: &mut Random) -> Vec<Request> {
+    let members = begun(random, 3);
+    let [holder, writer, reader] = members[..] else { panic!("there are three") };
+    let in_the_gap = 1 + random.below(GAP - 1);
+    let mut script = begins(&members);
+    script.push(read(holder, GAP));
+    script.push(read(reader, 0));
+    let writes = if random.chance(50) { delete(writer, GAP) } else { insert(writer, in_the_gap) };
+    let waits = [writes, delete(holder, 0)];
+    script.extend(random.order(0, 1).into_iter().map(|place| waits[place]));
+    script.push(match random.below(4) {
+        0 => read(reader, GAP),
+        1 => read(reader, in_the_gap),
+        2 => insert(reader, GAP),
+        _ => delete(reader, in_the_gap),
+    });
+    script
 }
 
 /// An insert in a gap whose run moves the target of one older request and so frees another that

@@ -1,11 +1,12 @@
-//! The cases of document 01, "Overs to bowl at it", that are not starred, and the reading that
-//! makes the longest row of nineteens. Expected answers are written out by hand; every byte is also
-//! held to the model.
+//! The cases of document 01, "Overs to bowl at it", that are not starred, the case that document
+//! 02, [14], adds, and the reading that makes the longest row of nineteens. Expected answers are
+//! written out by hand; every byte is also held to the model.
 
 use desk::beside::Beside;
 use desk::under_test::LIBRARY;
 use model::key::Key;
 use model::layout::answer::Answer;
+use model::layout::desk::{Lock, Mode};
 
 /// A desk with settled keys, put there by transaction 16, on which 1 to `last` have begun.
 fn settled_with_begun(keys: &[u64], last: u16) -> Beside {
@@ -71,8 +72,40 @@ fn the_779th_ascending_key_finds_no_page_until_one_is_deleted() {
     assert_eq!(desk.insert(2, 779, 0), [Answer::plain(2, 0)]);
 }
 
+/// Document 02, [14]: settled 10, 20, 30, 40 with records 1, 2, 3, 4; 1 reads 10..10; 2 reads
+/// 20..20, 30..30 and 40..40; 1 deletes 20: 3; 2 deletes 10: 19 to 1, which holds one lock, and
+/// then 3 to 2, which holds three.
+#[test]
+fn the_lighter_one_gives_way_though_it_is_older() {
+    let mut desk = Beside::fresh(LIBRARY, 3);
+    desk.begin(16);
+    for (key, record) in [(10, 1), (20, 2), (30, 3), (40, 4)] {
+        assert_eq!(desk.insert(16, key, record), [Answer::plain(16, 0)]);
+    }
+    desk.commit(16);
+    desk.begin(1);
+    desk.begin(2);
+    assert_eq!(desk.read(1, 10, 10), [Answer::showing(1, 1, Key(10), 1)]);
+    for (key, record) in [(20, 2), (30, 3), (40, 4)] {
+        assert_eq!(desk.read(2, key, key), [Answer::showing(2, 1, Key(key), record)]);
+    }
+    assert_eq!(desk.delete(1, 20), [Answer::waiting(1, 2)]);
+    let written: Vec<u8> = desk.delete(2, 10).iter().flat_map(Answer::encode).collect();
+    let expected = [
+        20, 0, 7, 0, 1, 0, 19, 0, 0, 0, 0, 0, 0, 0, 0, 0, 0, 0, 0, 0, // 19 to 1
+        20, 0, 7, 0, 2, 0, 3, 0, 0, 0, 0, 0, 0, 0, 0, 0, 1, 0, 0, 0, // 3 to 2, behind 1
+    ];
+    assert_eq!(written, expected);
+    assert_eq!(desk.tables().desk.queue, [2]);
+    let s_on = |key, holder| Lock { name: Key(key), holder, mode: Mode::S };
+    let locks = [s_on(10, 1), s_on(20, 2), s_on(30, 2), s_on(40, 2)];
+    assert_eq!(desk.tables().desk.locks().collect::<Vec<_>>(), locks);
+    assert_eq!(desk.rollback(1), [Answer::plain(1, 0), Answer::plain(2, 0)]);
+}
+
 /// 1 deletes 20; 2 to 15 take S on 30; 2 to 16 insert 15; 1 commits: thirteen nineteens, newest
-/// first. 16 holds nothing, so it is on no circle.
+/// first, since 2 to 15 hold one lock each. 16 holds none, but came last: nobody waits behind it,
+/// and it is on no circle.
 #[test]
 fn one_commit_gives_thirteen_nineteens() {
     let mut desk = settled_with_begun(&[10, 20, 30], 16);
@@ -91,6 +124,7 @@ fn one_commit_gives_thirteen_nineteens() {
 }
 
 /// A circle of sixteen: "a wait chain is followed with the number of links left falling, from 15".
+/// All hold one lock, and the last is the newest.
 #[test]
 fn a_circle_of_sixteen_is_found() {
     let mut desk = settled_with_begun(&[], 16);

@@ -2,12 +2,10 @@
 //! has to reach what it is there for.
 
 use desk::met::Met;
-use desk::runs::{Run, biased, scripted, together};
-use desk::scripts::{circle, older_freed, settled, sixteen_answers};
+use desk::runs::{Run, biased, circles_of_each_length, scripted, scripts, together};
+use desk::scripts::{older_freed, reader_let_past, sixteen_answers};
 use desk::under_test::LIBRARY;
-use model::generators::random::Random;
 use model::generators::requests::{Bias, Requests};
-use model::layout::request::Request;
 
 /// Runs and requests in each of them, for each bias.
 const WAITS: (u64, usize) = (14, 3000);
@@ -64,7 +62,11 @@ fn circles() {
     assert_numbers(&met, 100, &[0, 1, 2, 3, 13, 14, 15, 16, 19]);
     for length in 2..=4 {
         assert!(met.circles[&length] >= 10, "circles of {length}");
+        assert!(met.older_turned_away[&length] >= 10, "older ones in circles of {length}");
+        assert!(met.equally_light[&length] >= 10, "equally light ones in circles of {length}");
     }
+    assert!(met.waits_after_a_19 >= 100 && met.runs_after_a_19 >= 50, "{met:?}");
+    assert!(met.lighter_ones_spared >= 500 && met.named_otherwise_at_rest >= 20, "{met:?}");
     assert_named(&met);
 }
 
@@ -102,37 +104,32 @@ fn locks_until_all_are_in_use() {
 #[test]
 fn waits_in_a_tall_index() {
     let wide = Bias { span: u64::MAX, reach: 1 << 56, ..Bias::WAITS };
-    let met = together((1..=3).map(|seed| {
+    let met = together((1..=6).map(|seed| {
         let mut run = Run::fresh(LIBRARY, seed);
         run.steps(&mut Requests::new(seed, Bias::SPLITS), 1000);
         run.steps(&mut Requests::without_opening(seed, wide), 2000);
         run.met()
     }));
-    assert!(met.height_3 >= 6000, "{met:?}");
+    assert!(met.height_3 >= 12_000, "{met:?}");
     assert_numbers(&met, 10, &[0, 1, 2, 3, 13, 14, 15, 16, 19]);
 }
 
-/// Scripts of one kind, each on settled keys of its own.
-fn scripts(
-    seeds: u64,
-    keys: u64,
-    script: impl Fn(&mut Random) -> Vec<Request>,
-) -> Vec<Vec<Request>> {
-    let whole = |seed| [settled(keys), script(&mut Random::new(seed))].concat();
-    (1..=seeds).map(whole).collect()
-}
-
-/// Each length that a circle can have.
+/// Each length that a circle can have, with lock counts that differ and that are equal. Who holds
+/// fewer and is on no circle is spared; whoever turns others away has to wait then.
 #[test]
 fn circles_of_two_to_sixteen() {
-    let of_length = |length: usize| scripts(12, length as u64, |random| circle(random, length));
-    let met = together((2..=16).map(|length| {
-        let met = scripted(LIBRARY, of_length(length), 30);
-        let closed = met.circles.get(&length).copied().unwrap_or(0);
-        assert!(closed >= 12, "circles of {length} came {closed} times");
-        met
-    }));
+    let met = circles_of_each_length(LIBRARY, 20);
     println!("{met:?}");
+    assert!(met.waits_after_a_19 >= 100 && met.lighter_ones_spared >= 30, "{met:?}");
+    assert!(met.named_otherwise_at_rest >= 20, "{met:?}");
+}
+
+/// Whoever turns another away can also run then.
+#[test]
+fn circles_that_let_the_new_one_run() {
+    let met = scripted(LIBRARY, scripts(40, 2, reader_let_past), 40);
+    assert!(met.runs_after_a_19 >= 40, "{met:?}");
+    assert!([1, 2, 16].iter().all(|number| met.count(*number) >= 40), "{met:?}");
 }
 
 #[test]

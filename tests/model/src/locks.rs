@@ -61,6 +61,11 @@ impl Tables {
         locks.find(|lock| lock.holder == holder && lock.name == name).map(|lock| lock.mode)
     }
 
+    /// How many locks a transaction holds: slots of the table, S, X and the end alike.
+    pub fn locks_held(&self, holder: u16) -> usize {
+        self.desk.locks().filter(|lock| lock.holder == holder).count()
+    }
+
     /// Whether a waiting transaction is blocked, and by whom: "the lowest-numbered transaction that
     /// blocks it, or none" (document 02, [4]).
     pub fn blocker(&self, waiter: u16) -> Option<u16> {

@@ -1,4 +1,4 @@
-//! Beginning, ending and working the queue (document 01, Working the queue).
+//! Beginning, ending and working the queue (document 01, Working the queue; document 02, [14]).
 
 use crate::entry::Entry;
 use crate::key::Key;
@@ -18,12 +18,7 @@ impl Tables {
         if let Some(refusal) = self.refusal(request) {
             return vec![Answer::plain(asker, refusal)];
         }
-        match request.kind {
-            RequestKind::Begin => self.desk.set_transaction(asker, Transaction::Running),
-            RequestKind::Commit => self.end(asker, Entry::committed),
-            RequestKind::Rollback => self.end(asker, Entry::rolled_back),
-            RequestKind::Keys(request) => self.join_queue(asker, request),
-        }
+        self.act(request);
         let mut answers = match request.kind {
             RequestKind::Keys(_) => Vec::new(),
             _ => vec![Answer::plain(asker, number::DONE)],
@@ -34,6 +29,16 @@ impl Tables {
             answers.push(Answer::waiting(asker, behind));
         }
         answers
+    }
+
+    /// What a request does before the queue is worked.
+    pub fn act(&mut self, Request { transaction: asker, kind }: Request) {
+        match kind {
+            RequestKind::Begin => self.desk.set_transaction(asker, Transaction::Running),
+            RequestKind::Commit => self.end(asker, Entry::committed),
+            RequestKind::Rollback => self.end(asker, Entry::rolled_back),
+            RequestKind::Keys(request) => self.join_queue(asker, request),
+        }
     }
 
     /// 13, 14 or 15 where one is due, in that order (document 01, What the desk says).
@@ -75,14 +80,14 @@ impl Tables {
         request
     }
 
-    /// Works the queue until it is at rest. After each run the scan starts again at the oldest,
-    /// since a run can free an older request.
+    /// Works the queue until it is at rest. After each run and each 19 everything is worked out
+    /// again from the oldest on: a run can free an older request, and a 19 a later one.
     fn work_queue(&mut self, answers: &mut Vec<Answer>) {
         loop {
             if let Some(waiter) = self.oldest_unblocked() {
                 let request = self.leave_queue(waiter);
                 answers.push(self.run(waiter, request));
-            } else if let Some(waiter) = self.newest_on_circle() {
+            } else if let Some(waiter) = self.lightest_on_circle() {
                 self.leave_queue(waiter);
                 answers.push(Answer::plain(waiter, number::CIRCLE));
             } else {
@@ -96,9 +101,13 @@ impl Tables {
         oldest_first.find(|waiter| self.blocker(*waiter).is_none())
     }
 
-    fn newest_on_circle(&self) -> Option<u16> {
-        let mut newest_first = self.desk.queue.iter().rev().copied();
-        newest_first.find(|waiter| self.is_on_circle(*waiter))
+    /// "Of the queued requests on a circle, the one whose transaction holds the fewest locks"; "of
+    /// equals, the newest" (document 02, [14]): the first of equals, newest first. All who lie on
+    /// any circle are looked at together.
+    fn lightest_on_circle(&self) -> Option<u16> {
+        let newest_first = self.desk.queue.iter().rev().copied();
+        let on_circle = newest_first.filter(|waiter| self.is_on_circle(*waiter));
+        on_circle.min_by_key(|waiter| self.locks_held(*waiter))
     }
 
     /// Runs an unblocked request. 17 comes before every other number. Being unblocked, the asker

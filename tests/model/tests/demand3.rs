@@ -3,6 +3,7 @@
 
 use model::demand3::Breach;
 use model::demand3::told::Told;
+use model::demand3::turned_away;
 use model::demand3::waits::{self, Waits};
 use model::entry::Entry;
 use model::key::Key;
@@ -345,6 +346,27 @@ fn a_circle_past_the_one_named_is_caught() {
     assert_eq!(waits.every_named_chain_ends(&tables), Ok(()));
     assert_eq!(waits::check(&tables), Err(Breach::WaitsInACircle { waiter: 2 }));
     assert!(tables.is_on_circle(2) && tables.is_on_circle(3));
+}
+
+/// 1 waits for 2 and 2 for 3; 4 waits for 1, and nobody for 4. When 3 asks for what 1 holds, the
+/// circle is 1, 2, 3. Only 3 holds a second lock: of 1 and 2 the newer is 2. Its 19 opens the
+/// circle, and a second one is wrong whoever gets it.
+#[test]
+fn a_19_to_another_than_the_lightest_is_caught() {
+    let mut tables = sixteen_holders();
+    tables.desk.slots[0] = Slot::Taken(Lock { name: Key::END, holder: 3, mode: Mode::S });
+    for (waiter, holder) in [(1, 2), (2, 3), (4, 1)] {
+        wait_for(&mut tables, waiter, holder);
+    }
+    let request = Request { transaction: 3, kind: read(10, 10) };
+    let check = |answers: &[Answer]| turned_away::check(&request, answers, &tables);
+    let told_19 = |waiter| Answer::plain(waiter, 19);
+    let caught = |waiter| Err(Breach::TurnsAwayAnother { waiter });
+    assert_eq!(check(&[told_19(2), Answer::waiting(3, 1)]), Ok(()));
+    for wrong in [1, 3, 4] {
+        assert_eq!(check(&[told_19(wrong)]), caught(wrong));
+        assert_eq!(check(&[told_19(2), told_19(wrong)]), caught(wrong));
+    }
 }
 
 #[test]

@@ -93,10 +93,10 @@ fn a_joining_request_runs_after_older_ones() {
     assert_eq!(session.commit(1), [Answer::plain(1, 0), Answer::showing(2, 1, Key(5), 8)]);
 }
 
-/// 1 and 2 hold X on settled entries and wait for each other; the newest in the queue is 1. Ending
-/// leaves a settled entry as it is: commit goes by the owner, not by the X lock.
+/// 1 and 2 hold one lock each, X on settled entries, and wait for each other; the newest in the
+/// queue is 1. Ending leaves a settled entry as it is: commit goes by the owner, not by the X lock.
 #[test]
-fn a_circle_is_broken_at_its_newest() {
+fn of_equals_on_a_circle_the_newest_is_turned_away() {
     let mut tables = one_leaf(&[settled(10), settled(20)]);
     lock(&mut tables, 0, 10, 1, Mode::X);
     lock(&mut tables, 1, 20, 2, Mode::X);
@@ -125,7 +125,8 @@ fn a_3_names_who_is_in_the_way_after_the_runs() {
 }
 
 /// When 4 joins to read 20, the holder 2 and the earlier waiter 1 are in its way. 1 and 2 wait for
-/// each other, and 1 is the newer: it gets 19 and leaves, and at rest 2 alone is in the way of 4.
+/// each other with one lock each, and 1 is the newer: it gets 19 and leaves, and at rest 2 alone is
+/// in the way of 4.
 #[test]
 fn a_3_names_who_is_in_the_way_after_a_19() {
     let mut tables = one_leaf(&[settled(10), settled(20)]);
@@ -154,7 +155,7 @@ fn a_3_names_one_that_is_in_the_way_only_since_its_run() {
     assert_eq!(answers, [Answer::showing(1, 1, Key(20), 20), Answer::waiting(4, 1)]);
 }
 
-/// Each circle loses its newest, the newest of all first.
+/// All hold one lock. Each circle loses its newest, the newest of all first.
 #[test]
 fn two_circles_are_broken_one_after_the_other() {
     let mut tables = one_leaf(&[settled(10), settled(20), settled(30), settled(40)]);
@@ -172,7 +173,51 @@ fn two_circles_are_broken_one_after_the_other() {
     assert_eq!(session.tables().desk.queue, [1, 3]);
 }
 
-/// 3 is the newest and waits behind the circle of 1 and 2, but isn't on it.
+/// "The one whose transaction holds the fewest locks" (document 02, [14]) of all who lie on any
+/// circle, together. 1 and 2 wait for each other, with three locks and two; so do 3 and 4, with one
+/// and two. The oldest and the newest in the queue are 1 and 2, but 3 goes first. Then nobody waits
+/// for 3 but 4, and of 1 and 2 it is 2.
+#[test]
+fn the_lightest_of_two_circles_goes_first() {
+    let keys = [10, 20, 30, 40, 50, 60];
+    let mut tables = one_leaf(&keys.map(settled));
+    let locks = [(10, 1), (20, 2), (30, 3), (40, 4)];
+    let extra_locks = [(50, 1), (60, 1), (50, 2), (60, 4)];
+    for (slot, (name, holder)) in locks.into_iter().enumerate() {
+        lock(&mut tables, slot, name, holder, Mode::X);
+    }
+    for (slot, (name, holder)) in extra_locks.into_iter().enumerate() {
+        lock(&mut tables, 100 + slot, name, holder, Mode::S);
+    }
+    wait(&mut tables, 1, read(20, 20));
+    wait(&mut tables, 3, read(40, 40));
+    wait(&mut tables, 4, read(30, 30));
+    wait(&mut tables, 2, read(10, 10));
+    let mut session = session_at(&tables);
+    let answers = session.begin(5);
+    assert_eq!(answers, [Answer::plain(5, 0), Answer::plain(3, 19), Answer::plain(2, 19)]);
+    assert_eq!(session.tables().desk.queue, [1, 4]);
+}
+
+/// 1 and 2 wait for each other; 1 is older and holds X on 10, one lock; 2 is newer and holds X on
+/// 20 and on the end, two locks. 19 to 1 in the call of 3, which is on no circle and holds nothing,
+/// and then 3 to it: 2 is in its way.
+#[test]
+fn one_that_joins_beside_a_circle_turns_its_lightest_away() {
+    let mut tables = one_leaf(&[settled(10), settled(20)]);
+    run(&mut tables, [3]);
+    lock(&mut tables, 0, 10, 1, Mode::X);
+    lock(&mut tables, 1, 20, 2, Mode::X);
+    lock(&mut tables, 2, u64::MAX, 2, Mode::X);
+    wait(&mut tables, 1, read(20, 20));
+    wait(&mut tables, 2, read(10, 10));
+    let mut session = session_at(&tables);
+    assert_eq!(session.read(3, 30, 30), [Answer::plain(1, 19), Answer::waiting(3, 2)]);
+    assert_eq!(session.tables().desk.queue, [2, 3]);
+}
+
+/// 3 is the newest, holds nothing and waits behind the circle of 1 and 2, but isn't on it. Those
+/// two hold one lock each.
 #[test]
 fn whoever_only_waits_behind_a_circle_is_spared() {
     let mut tables = one_leaf(&[settled(10), settled(20)]);
@@ -205,7 +250,8 @@ fn sixteen_waiting_and_a_rollback_give_sixteen_answers() {
 }
 
 /// Each of sixteen owns a key and waits for the next one's. When 1 rolls back, its key 10 goes, and
-/// 16, which read 10..10, now stands before 20: a circle of fifteen is left, and 16 is its newest.
+/// 16, which read 10..10, now stands before 20: a circle of fifteen is left, with one lock each,
+/// and 16 is its newest.
 #[test]
 fn a_circle_of_sixteen_becomes_one_of_fifteen() {
     let own_key = |transaction: u16| u64::from(transaction) * 10;

@@ -1,7 +1,8 @@
-//! Every case of document 01, "Overs to bowl at it", in its order, its 3 with the name that document
-//! 02, [4], adds. What is expected was worked out from the documents by hand.
+//! Every case of document 01, "Overs to bowl at it", in its order, its 3 with the name that
+//! document 02, [4], adds; and the case that [14] adds, in which the older loses. What is expected
+//! was worked out from the documents by hand.
 
-use model::desk::{fresh, serve};
+use model::desk::{Picture, fresh, serve};
 use model::entry::Entry;
 use model::key::Key;
 use model::layout::answer::Answer;
@@ -74,7 +75,7 @@ fn a_read_that_finds_nothing_holds_its_gap() {
 }
 
 /// "Settled 10, 20; 1 and 2 read 12..18; 1 inserts 15: 3; 2 inserts 16: 19; 2 rolls back: 0 to 2,
-/// 0 to 1."
+/// 0 to 1." Both hold one lock, S on 20: of equals the newest.
 #[test]
 fn two_readers_of_a_gap_that_both_insert_make_a_circle() {
     let mut session = Session::settled(&[10, 20]);
@@ -88,7 +89,8 @@ fn two_readers_of_a_gap_that_both_insert_make_a_circle() {
 }
 
 /// "Settled 10, 20, 30, 50. 1 deletes 20; 2 reads 50..50; 3 reads 30..30; 2 inserts 15: 3; 3
-/// deletes 50: 3. 1 commits: 0 to 1, 19 to 3; 2 still waits, now at 30."
+/// deletes 50: 3. 1 commits: 0 to 1, 19 to 3; 2 still waits, now at 30." 2 and 3 hold one lock
+/// each.
 #[test]
 fn a_commit_can_close_a_circle() {
     let mut session = Session::settled(&[10, 20, 30, 50]);
@@ -109,6 +111,45 @@ fn a_commit_can_close_a_circle() {
     assert_eq!(tables.desk.transaction(3), Transaction::Running);
     assert_eq!(tables.target(2, insert_15).name, Key(30));
     assert_eq!(session.rollback(3), [Answer::plain(3, 0), Answer::plain(2, 0)]);
+}
+
+/// Document 02, [14]: "of the queued requests on a circle, the one whose transaction holds the
+/// fewest locks is answered 19". Settled 10, 20, 30, 40 with records 1, 2, 3, 4; 1 reads 10..10; 2
+/// reads 20..20, 30..30 and 40..40; 1 deletes 20: 3, 2 is in its way; 2 deletes 10: 19 to 1, which
+/// holds one lock, and then 3 to 2, which holds three and waits behind 1.
+#[test]
+fn the_lighter_one_gives_way_though_it_is_older() {
+    let mut session = Session::fresh();
+    session.begin(16);
+    for (key, record) in [(10, 1), (20, 2), (30, 3), (40, 4)] {
+        session.insert(16, key, record);
+    }
+    session.commit(16);
+    session.begin(1);
+    session.begin(2);
+    assert_eq!(session.read(1, 10, 10), [Answer::showing(1, 1, Key(10), 1)]);
+    assert_eq!(session.read(2, 20, 20), [Answer::showing(2, 1, Key(20), 2)]);
+    assert_eq!(session.read(2, 30, 30), [Answer::showing(2, 1, Key(30), 3)]);
+    assert_eq!(session.read(2, 40, 40), [Answer::showing(2, 1, Key(40), 4)]);
+    assert_eq!(session.delete(1, 20), [Answer::waiting(1, 2)]);
+
+    let delete_10 = [16, 0, 6, 0, 2, 0, 0, 0, 10, 0, 0, 0, 0, 0, 0, 0];
+    let expected = [
+        20, 0, 7, 0, 1, 0, 19, 0, 0, 0, 0, 0, 0, 0, 0, 0, 0, 0, 0, 0, // 19 to 1
+        20, 0, 7, 0, 2, 0, 3, 0, 0, 0, 0, 0, 0, 0, 0, 0, 1, 0, 0, 0, // 3 to 2, behind 1
+    ];
+    let Picture { pages, desk } = &mut session.picture;
+    assert_eq!(ask_bytes(pages, desk, &delete_10), expected);
+
+    let tables = session.tables();
+    assert_eq!(tables.desk.queue, [2]);
+    assert_eq!(tables.desk.transaction(1), Transaction::Running);
+    let delete_10 = KeyRequest::Delete { key: Key(10) };
+    assert_eq!(tables.desk.transaction(2), Transaction::Waiting(delete_10));
+    let s_on = |key, holder| Lock { name: Key(key), holder, mode: Mode::S };
+    let locks = [s_on(10, 1), s_on(20, 2), s_on(30, 2), s_on(40, 2)];
+    assert_eq!(tables.desk.locks().collect::<Vec<_>>(), locks);
+    assert_eq!(session.rollback(1), [Answer::plain(1, 0), Answer::plain(2, 0)]);
 }
 
 /// "1 deletes 20 (settled) and inserts it with record 9; rollback gives the old record."

@@ -2,6 +2,7 @@
 //! the answers, and the answers are as many and as long as they may be.
 
 use model::demand3::told::Told;
+use model::demand3::turned_away;
 use model::demand3::waits::{self, Waits};
 use model::desk::{Picture, fresh, serve};
 use model::generators::pictures::picture;
@@ -32,6 +33,12 @@ struct Met {
     upgrades: usize,
     splits: usize,
     circles_of_three_or_more: usize,
+    /// Circles that a joining request closed and in which an older one was turned away.
+    older_turned_away: usize,
+    /// Of these, the calls in which the joining request then had to wait, and those in which it
+    /// ran.
+    then_waited: usize,
+    then_ran: usize,
     calls_with_several_answers: usize,
     greatest_height: u16,
 }
@@ -61,7 +68,10 @@ impl Run {
         } else {
             assert_eq!(waits::check(&after), Ok(()), "at rest after {request:?}");
             assert_eq!(waits::check_named(&after, &answers), Ok(()), "after {request:?}");
+            let turned_away = turned_away::check(request, &answers, &before);
+            assert_eq!(turned_away, Ok(()), "after {request:?}");
         }
+        check_order(request, &answers);
         if self.is_from_fresh {
             check_from_fresh(&answers, &after);
         }
@@ -106,15 +116,26 @@ impl Run {
     }
 }
 
+/// A 3 comes last, and to the asker alone. And after a 19 nothing is inserted or deleted any more:
+/// a 19 frees only those who want S, since whoever wants X is blocked by a holder too.
+fn check_order(request: &Request, answers: &[Answer]) {
+    let waits = answers.iter().position(|answer| answer.number == 3);
+    assert!(waits.is_none_or(|place| place == answers.len() - 1), "{answers:?}");
+    assert!(waits.is_none_or(|place| answers[place].transaction == request.transaction));
+    let mut from_19 = answers.iter().skip_while(|answer| answer.number != 19);
+    assert!(from_19.all(|answer| answer.number != 0), "{answers:?}");
+}
+
 /// What no whole picture alone gives, but every run from fresh: X is held on exactly the entries
-/// that one owns, and whoever has to wait gets the only answer of the call.
+/// that one owns, and where someone has to wait, nobody else is answered unless a 19 comes first.
 fn check_from_fresh(answers: &[Answer], after: &Tables) {
     let x_locks = after.desk.locks().filter(|lock| lock.mode == Mode::X);
     let held: BTreeSet<(Key, u16)> = x_locks.map(|lock| (lock.name, lock.holder)).collect();
     let owned_entries = after.index.entries().filter(|entry| entry.owner != 0);
     let owned: BTreeSet<(Key, u16)> = owned_entries.map(|e| (e.key, e.owner)).collect();
     assert_eq!(held, owned);
-    assert!(answers.len() == 1 || answers.iter().all(|answer| answer.number != 3));
+    let someone_waits = answers.iter().any(|answer| answer.number == 3);
+    assert!(!someone_waits || [3, 19].contains(&answers[0].number), "{answers:?}");
 }
 
 fn tables_of(picture: &Picture) -> Tables {
@@ -159,9 +180,21 @@ impl Met {
         self.splits += usize::from(after.index.used() > before.index.used());
         self.calls_with_several_answers += usize::from(answers.len() > 1);
         self.greatest_height = self.greatest_height.max(after.index.height);
-        if *answers == [Answer::plain(request.transaction, 19)] {
-            let circle = circle_closed_by(request, before).expect("19 to a joining request");
-            self.circles_of_three_or_more += usize::from(circle >= 3);
+        if answers[0].number == 19 {
+            self.take_in_circle(request, answers, before);
+        }
+    }
+
+    /// The same for a call that begins with a 19.
+    fn take_in_circle(&mut self, request: &Request, answers: &[Answer], before: &Tables) {
+        let Some(length) = circle_closed_by(request, before) else { return };
+        self.circles_of_three_or_more += usize::from(length >= 3);
+        self.older_turned_away += usize::from(answers[0].transaction != request.transaction);
+        let to_asker = answers.iter().find(|answer| answer.transaction == request.transaction);
+        match to_asker.map(|answer| answer.number) {
+            Some(19) | None => {}
+            Some(3) => self.then_waited += 1,
+            Some(_) => self.then_ran += 1,
         }
     }
 
@@ -204,6 +237,8 @@ fn circles() {
     let met = runs_from_fresh(Bias::CIRCLES, 4, 1000);
     assert!(total(&met, |met| met.count(19)) >= 100);
     assert!(total(&met, |met| met.circles_of_three_or_more) >= 10);
+    assert!(total(&met, |met| met.older_turned_away) >= 30);
+    assert!(total(&met, |met| met.then_waited) >= 30 && total(&met, |met| met.then_ran) >= 1);
 }
 
 #[test]

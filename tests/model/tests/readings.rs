@@ -1,5 +1,6 @@
-//! Places where document 01 leaves a choice or is easily misread, each as a small case, and whom an
-//! answer 3 names (document 02, [4]). What is expected was worked out by hand.
+//! Places where document 01 leaves a choice or is easily misread, each as a small case, whom an
+//! answer 3 names (document 02, [4]), and whom an answer 19 goes to ([14]). What is expected was
+//! worked out by hand.
 
 use model::entry::Entry;
 use model::key::Key;
@@ -17,8 +18,8 @@ fn settled_with_begun(keys: &[u64], last: u16) -> Session {
     session
 }
 
-/// A circle of sixteen. Each owns a key and reads the next one's; the sixteenth closes the circle
-/// and is its newest.
+/// A circle of sixteen. Each owns a key and reads the next one's; the sixteenth closes the circle.
+/// All hold one lock, and it is the newest.
 #[test]
 fn a_circle_of_sixteen_is_found() {
     let mut session = settled_with_begun(&[], 16);
@@ -198,7 +199,8 @@ fn an_entry_absent_now_and_before_is_taken_out_at_the_end() {
 }
 
 /// 1 deletes 20; 2 to 15 take S on 30; 2 to 16 insert 15; 1 commits: thirteen nineteens, newest
-/// first. 16 holds nothing, so nobody waits behind it and it is on no circle.
+/// first, since 2 to 15 hold one lock each. 16 holds none, but came last: nobody waits behind it,
+/// and it is on no circle.
 #[test]
 fn one_commit_gives_thirteen_nineteens() {
     let mut session = settled_with_begun(&[10, 20, 30], 16);
@@ -217,7 +219,7 @@ fn one_commit_gives_thirteen_nineteens() {
     assert_eq!(session.tables().desk.queue, [2, 16]);
 }
 
-/// A rollback that takes out an inserted entry can close a circle.
+/// A rollback that takes out an inserted entry can close a circle. 2 and 3 hold one lock each.
 #[test]
 fn a_rollback_can_close_a_circle() {
     let mut session = settled_with_begun(&[10, 30, 50], 3);
@@ -348,4 +350,183 @@ fn a_waiter_whose_target_has_moved_is_not_named() {
     assert_eq!(session.insert(1, 15, 0), [Answer::waiting(1, 3)]);
     assert_eq!(session.insert(3, 15, 0), [Answer::plain(3, 0)]);
     assert_eq!(session.insert(2, 17, 0), [Answer::waiting(2, 3)]);
+}
+
+/// S, X and the end count alike. Settled 10, 20. 1 deletes 10: X, one lock. 2 reads 20 and above
+/// it: S on 20 and on the end, two locks. They close a circle: 19 to 1, and 2 waits behind 1's X.
+#[test]
+fn a_lock_on_the_end_counts_and_an_x_counts_once() {
+    let mut session = settled_with_begun(&[10, 20], 2);
+    assert_eq!(session.delete(1, 10), [Answer::plain(1, 0)]);
+    assert_eq!(session.read(2, 20, 20), [Answer::showing(2, 1, Key(20), 20)]);
+    assert_eq!(session.read(2, 21, 30), [Answer::plain(2, 2)]);
+    assert_eq!(session.delete(1, 20), [Answer::waiting(1, 2)]);
+    assert_eq!(session.read(2, 10, 10), [Answer::plain(1, 19), Answer::waiting(2, 1)]);
+}
+
+/// Settled 10, 20, 30. 1 reads 10: one S. 2 deletes 20 and 30: two X, and no S. 19 to 1.
+#[test]
+fn two_x_locks_are_more_than_one_s_lock() {
+    let mut session = settled_with_begun(&[10, 20, 30], 2);
+    session.read(1, 10, 10);
+    session.delete(2, 20);
+    session.delete(2, 30);
+    assert_eq!(session.read(1, 20, 20), [Answer::waiting(1, 2)]);
+    assert_eq!(session.delete(2, 10), [Answer::plain(1, 19), Answer::waiting(2, 1)]);
+}
+
+/// Settled 10, 20, 30. 1 holds S on 10 and on 30. 2 holds S on 20 alone and closes the circle: the
+/// newest is the lightest, and its 19 is the only answer.
+#[test]
+fn the_lighter_one_can_be_the_newest() {
+    let mut session = settled_with_begun(&[10, 20, 30], 2);
+    session.read(1, 10, 10);
+    session.read(1, 30, 30);
+    session.read(2, 20, 20);
+    assert_eq!(session.delete(1, 20), [Answer::waiting(1, 2)]);
+    assert_eq!(session.delete(2, 10), [Answer::plain(2, 19)]);
+    assert_eq!(session.tables().desk.queue, [1]);
+}
+
+/// Locks are those held then, one for each name. 1 has held two and ended, has begun again, and
+/// asks for S on 10 twice and then for X: one lock. 2 holds two, S on 20 and on 30. 19 to 1.
+#[test]
+fn locks_asked_for_again_or_let_go_do_not_count() {
+    let mut session = settled_with_begun(&[10, 20, 30], 2);
+    session.read(1, 20, 20);
+    session.read(1, 30, 30);
+    session.commit(1);
+    session.begin(1);
+    session.read(1, 10, 10);
+    session.read(1, 10, 10);
+    assert_eq!(session.delete(1, 10), [Answer::plain(1, 0)]);
+    session.read(2, 20, 20);
+    session.read(2, 30, 30);
+    assert_eq!(session.delete(1, 20), [Answer::waiting(1, 2)]);
+    assert_eq!(session.read(2, 10, 10), [Answer::plain(1, 19), Answer::waiting(2, 1)]);
+}
+
+/// Only those on a circle are looked at. Settled 10, 20. 1 holds S on 10 and 2 S on 20; 3 holds
+/// nothing and waits behind both to delete 10, and nobody waits behind 3. Of 1 and 2, with one lock
+/// each, the newest goes, and that is 1; 3 stays.
+#[test]
+fn one_that_holds_fewer_and_is_on_no_circle_is_spared() {
+    let mut session = settled_with_begun(&[10, 20], 3);
+    session.read(1, 10, 10);
+    session.read(2, 20, 20);
+    assert_eq!(session.delete(2, 10), [Answer::waiting(2, 1)]);
+    assert_eq!(session.delete(3, 10), [Answer::waiting(3, 1)]);
+    assert_eq!(session.delete(1, 20), [Answer::plain(1, 19)]);
+    assert_eq!(session.tables().desk.queue, [2, 3]);
+}
+
+/// One without any lock can lie on a circle, since its request stands in another's way. Settled 10,
+/// 20. 1 holds S on 20, where 2 waits to delete; 3 holds S on 10, where 1 waits to delete. When 3
+/// asks for S on 20, by whatever request, it waits behind 2, and that closes a circle. 2 holds
+/// nothing: 19 to 2. Nothing is in the way of 3 then, since S goes with 1's S, and it runs.
+#[test]
+fn a_19_to_an_older_one_can_let_the_new_one_run() {
+    let setting = || {
+        let mut session = settled_with_begun(&[10, 20], 3);
+        session.read(1, 20, 20);
+        session.read(3, 10, 10);
+        assert_eq!(session.delete(2, 20), [Answer::waiting(2, 1)]);
+        assert_eq!(session.delete(1, 10), [Answer::waiting(1, 3)]);
+        session
+    };
+    let found = Answer::showing(3, 1, Key(20), 20);
+    assert_eq!(setting().read(3, 20, 20), [Answer::plain(2, 19), found]);
+    assert_eq!(setting().read(3, 12, 18), [Answer::plain(2, 19), Answer::plain(3, 2)]);
+    assert_eq!(setting().delete(3, 15), [Answer::plain(2, 19), Answer::plain(3, 2)]);
+    let present = Answer::showing(3, 16, Key(20), 20);
+    let mut session = setting();
+    assert_eq!(session.insert(3, 20, 7), [Answer::plain(2, 19), present]);
+    assert_eq!(session.tables().desk.queue, [1]);
+    let s_on_20 = Lock { name: Key(20), holder: 3, mode: Mode::S };
+    assert_eq!(session.tables().desk.slots[2], Slot::Taken(s_on_20));
+}
+
+/// A 19, a run that it lets happen, and the 3 of the new request, in this order. Settled 10, 20,
+/// 30. 1 holds S on 20, where 2 waits to delete, and behind 2 waits 3, which holds S on 30, to read
+/// 20; 1 waits to delete 10, where 4 holds S. When 4 deletes 30, the circle is 4, 3, 2, 1. 2 holds
+/// nothing: 19 to 2. Then 3 reads 20, beside 1's S, and 4 waits behind 3.
+#[test]
+fn a_19_can_let_another_run_before_the_3() {
+    let mut session = settled_with_begun(&[10, 20, 30], 4);
+    session.read(1, 20, 20);
+    session.read(3, 30, 30);
+    session.read(4, 10, 10);
+    assert_eq!(session.delete(2, 20), [Answer::waiting(2, 1)]);
+    assert_eq!(session.read(3, 20, 20), [Answer::waiting(3, 2)]);
+    assert_eq!(session.delete(1, 10), [Answer::waiting(1, 4)]);
+    let found = Answer::showing(3, 1, Key(20), 20);
+    let answers = session.delete(4, 30);
+    assert_eq!(answers, [Answer::plain(2, 19), found, Answer::waiting(4, 3)]);
+    assert_eq!(session.tables().desk.queue, [1, 4]);
+}
+
+/// "As it stands at rest" (document 02, [4]), from fresh too. Settled 10, 20, 30. 3 holds S on 20,
+/// where 2 waits to delete; 4 holds S on 10 and on 30, and 3 waits to delete 10. When 4 joins to
+/// delete 20, the waiter 2 and the holder 3 are in its way, and all three lie on circles. 2 holds
+/// nothing: 19 to 2. That leaves the circle of 3 and 4: 3 holds one lock and 4 two: 19 to 3. At
+/// rest 3 alone is in the way of 4, and not 2, the lowest when it joined.
+#[test]
+fn a_3_names_another_than_at_joining_after_two_nineteens() {
+    let mut session = settled_with_begun(&[10, 20, 30], 4);
+    session.read(3, 20, 20);
+    session.read(4, 10, 10);
+    session.read(4, 30, 30);
+    assert_eq!(session.delete(2, 20), [Answer::waiting(2, 3)]);
+    assert_eq!(session.delete(3, 10), [Answer::waiting(3, 4)]);
+    let answers = session.delete(4, 20);
+    assert_eq!(answers, [Answer::plain(2, 19), Answer::plain(3, 19), Answer::waiting(4, 3)]);
+    assert_eq!(session.tables().desk.queue, [4]);
+}
+
+/// Two circles that share one: 2 deletes 40, which 1 and 3 hold in S, and both wait for 20, which 2
+/// holds in X. 1 and 3 hold two locks each.
+fn two_circles_through_2(session: &mut Session) -> Vec<Answer> {
+    session.delete(2, 20);
+    for (reader, own) in [(1, 50), (3, 60)] {
+        session.read(reader, 40, 40);
+        session.read(reader, own, own);
+    }
+    assert_eq!(session.read(1, 20, 20), [Answer::waiting(1, 2)]);
+    assert_eq!(session.read(3, 20, 20), [Answer::waiting(3, 2)]);
+    session.delete(2, 40)
+}
+
+/// 2 holds one lock: its 19 opens both circles, and nobody else is turned away.
+#[test]
+fn after_a_19_the_circles_are_worked_out_again() {
+    let mut session = settled_with_begun(&[20, 40, 50, 60], 3);
+    assert_eq!(two_circles_through_2(&mut session), [Answer::plain(2, 19)]);
+    assert_eq!(session.tables().desk.queue, [1, 3]);
+}
+
+/// 2 holds three locks: of 1 and 3 the newer goes first, and then 1, which is lighter than 2. 2
+/// waits, since both still hold 40.
+#[test]
+fn a_heavy_one_that_joins_can_turn_two_away() {
+    let mut session = settled_with_begun(&[20, 40, 50, 60], 3);
+    session.read(2, 50, 50);
+    session.read(2, 60, 60);
+    let answers = two_circles_through_2(&mut session);
+    assert_eq!(answers, [Answer::plain(3, 19), Answer::plain(1, 19), Answer::waiting(2, 1)]);
+    assert_eq!(session.tables().desk.queue, [2]);
+}
+
+/// A circle that a commit closes: as document 01's fourth case, but 3, the newer, holds S on the
+/// end besides. 2 holds one lock: 19 to 2; 3 still waits, since 2 keeps its S on 50.
+#[test]
+fn a_commit_can_turn_the_older_one_away() {
+    let mut session = settled_with_begun(&[10, 20, 30, 50], 3);
+    session.delete(1, 20);
+    session.read(2, 50, 50);
+    session.read(3, 30, 30);
+    assert_eq!(session.read(3, 60, 70), [Answer::plain(3, 2)]);
+    assert_eq!(session.insert(2, 15, 1), [Answer::waiting(2, 1)]);
+    assert_eq!(session.delete(3, 50), [Answer::waiting(3, 2)]);
+    assert_eq!(session.commit(1), [Answer::plain(1, 0), Answer::plain(2, 19)]);
+    assert_eq!(session.tables().desk.queue, [3]);
 }

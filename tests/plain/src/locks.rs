@@ -41,6 +41,15 @@ pub fn conflicts(desk: &DeskBytes, asker: u16, name: u64, mode: u16) -> (u32, bo
     (others, holds)
 }
 
+/// How many locks each transaction holds; at 0, how many slots are free.
+pub fn held_by_each(desk: &DeskBytes) -> [u16; 17] {
+    let mut held_by = [0; 17];
+    for (_, held) in slots(desk) {
+        held_by[usize::from(held as u16)] += 1;
+    }
+    held_by
+}
+
 /// Where a lasting lock goes.
 pub enum Place {
     /// The asker holds the name as it wants, or more.

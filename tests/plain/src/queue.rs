@@ -126,8 +126,8 @@ fn lowest(blocking: u32) -> Option<u32> {
     (blocking != 0).then(|| blocking.trailing_zeros())
 }
 
-/// One step of the queue: the oldest request that isn't blocked runs, or else the newest on a circle
-/// is refused. Where there is neither it is at rest, and those who block are given.
+/// One step of the queue: the oldest request that isn't blocked runs, or else the lightest on a
+/// circle is refused. Where there is neither it is at rest, and those who block are given.
 fn work_queue(
     pages: &mut PagesBytes,
     desk: &mut DeskBytes,
@@ -156,13 +156,22 @@ fn work_queue(
         targets[place] = (target.name, target.mode);
         blockers[usize::from(waiter)] = blocking;
     }
-    let newest_first = (0..length).rev();
-    let mut on_circle = newest_first.filter(|place| is_on_circle(&blockers, queued(desk, *place)));
-    let Some(place) = on_circle.next() else { return Some(blockers) };
+    let Some(place) = lightest_on_circle(desk, &blockers) else { return Some(blockers) };
     let waiter = queued(desk, place);
     leave_queue(desk, place);
     answers.plain(waiter, number::CIRCLE);
     None
+}
+
+/// The place of the request on a circle whose transaction holds the fewest locks: of equals the
+/// newest, which is the first to be looked at. Locks are counted where somebody is on a circle.
+fn lightest_on_circle(desk: &DeskBytes, blockers: &Blockers) -> Option<usize> {
+    let newest_first = (0..queue_length(desk)).rev();
+    let on_circle = newest_first.filter(|place| is_on_circle(blockers, queued(desk, *place)));
+    let mut on_circle = on_circle.peekable();
+    on_circle.peek()?;
+    let held = locks::held_by_each(desk);
+    on_circle.min_by_key(|place| held[usize::from(queued(desk, *place))])
 }
 
 /// Whether the waits lead from a transaction back to itself.

@@ -3,7 +3,8 @@
 
 use desk::judging::Judge;
 use desk::pictures::{all_locks_s, all_locks_x, at_rest, not_at_rest, settled};
-use desk::runs::{Run, biased, named_at_rest, together};
+use desk::runs::{Run, biased, circles_of_each_length, named_at_rest, scripted, scripts, together};
+use desk::scripts::reader_let_past;
 use desk::under_test::UnderTest;
 use model::generators::requests::{Bias, Requests};
 
@@ -19,6 +20,14 @@ fn sessions_from_fresh() {
     assert!(met.upgrades > 0 && met.inserts_over_own_ghosts > 0 && met.older_freed > 0, "{met:?}");
     assert!(met.height_3 > 0 && met.full_index > 0 && met.settlings > 0, "{met:?}");
     assert!(met.holders_named > 0 && met.waiters_named_before_holders > 0, "{met:?}");
+}
+
+#[test]
+fn circles_of_two_to_sixteen() {
+    let met = circles_of_each_length(PLAIN, 20);
+    assert!(met.waits_after_a_19 >= 100 && met.lighter_ones_spared >= 30, "{met:?}");
+    let met = scripted(PLAIN, scripts(40, 2, reader_let_past), 40);
+    assert!(met.runs_after_a_19 >= 40, "{met:?}");
 }
 
 #[test]

@@ -3,9 +3,11 @@
 //! What each running transaction was told about, and what was changed since, goes by the requests
 //! and their answers alone (`told`); on the way, answers that contradict each other are caught too.
 //! Locks and waits, and whom a 3 has to name (document 02, [4]), are looked up in the picture, but
-//! worked out another way than the desk does it (`waits`).
+//! worked out another way than the desk does it (`waits`), and so is who is told 19
+//! (`turned_away`).
 
 pub mod told;
+pub mod turned_away;
 pub mod waits;
 
 use crate::key::Key;
@@ -32,4 +34,7 @@ pub enum Breach {
     NamedChainDoesNotEnd { waiter: u16 },
     /// An answer 3 that names another than the lowest-numbered of those who block.
     NamesAnother { waiter: u16, named: u32 },
+    /// An answer 19 to one on no circle, or to one on a circle on which another is lighter, or as
+    /// light and newer.
+    TurnsAwayAnother { waiter: u16 },
 }

@@ -21,7 +21,7 @@ loop-holds : tie.Need-loop-holds Inv-loop μ-loop
 loop-holds c = (search needs, search (needs, counted-start))
 
 count-slot-requires : tie.Need-count-slot-requires Inv-loop μ-loop
-count-slot-requires c κs = search needs
+count-slot-requires c κs = (search needs, (search needs, search needs))
 
 add-i : tie.Need-add-i Inv-loop μ-loop
 add-i c = search needs
