@@ -1,4 +1,4 @@
-//! The key desk, written from document 01 alone as a second opinion on the proved desk.
+//! The key desk, written from documents 01 and 02 alone as a second opinion on the proved desk.
 //!
 //! Plain before fast: a call decodes the whole picture into plain values, acts on them as the
 //! rule book says, and encodes the whole picture again. Read `key`, `entry` and `layout` for what
