@@ -6,8 +6,7 @@ use mathlib.Core.Bool.{Bool, true, false, cond}
 use mathlib.Core.List.{List}
 use mathlib.Core.Option.{Option, none, some}
 use native.Mathlib.Omega.{arith}
-use borrow.Author.Tests.{ltb-true, ltb-false, lt-ltb, le-ltb, le-leb, lt-leb}
-use lib.Dec.{ltb}
+use borrow.Author.Tests.{le-leb, lt-leb}
 use lib.ListN.{length, getD}
 use Rattle.limits.specs.Limits.{transactionsMost, locksMost}
 use Rattle.lists.specs.Lists.{lightest, tab}
@@ -24,21 +23,13 @@ use Rattle.waits.specs.declared.Place.the-variants.{At, Nowhere}
 use Rattle.waits.specs.declared.Yielding.{Yielding}
 use Rattle.waits.specs.Choices.{Chosen, LightestAt}
 use Rattle.waits.specs.Blocks.{ahead, waitsTo, Rows}
-use Rattle.waits.specs.Weights.{CountedTo, lighterOf, lightestTo, heldBy, BestTo, nobodyYet, NobodyTo}
+use Rattle.waits.specs.Weights.{CountedTo, lightestTo, heldBy, BestTo, nobodyYet, NobodyTo}
 use Rattle.waits.proofs.QueueKnown.{whole-order}
 use Rattle.waits.proofs.Queue.{waitAt}
 use Rattle.waits.proofs.WaitRows.{waits-next, waits-all, wait-in}
 
 pub circle-at : (d row : List ℕ) (q t : ℕ) (b : Bool) → t ≡ inPlace d q → b ≡ circleOn row t → b ≡ circleOn row (inPlace d q)
 circle-at d row q t b e c = c ∙ ap (circleOn row) e
-
--- ---- of two, the lighter
-module _ (y : Yielding) (q h : ℕ) where
-  pub lighter-before : y .held < h → y ≡ lighterOf y q h
-  lighter-before l = ap (λ b. cond b y (record { place = At q; held = h })) (sym (lt-ltb (y .held) h l))
-
-  pub lighter-here : h ≤ y .held → record { place = At q; held = h } ≡ lighterOf y q h
-  lighter-here l = ap (λ b. cond b y (record { place = At q; held = h })) (sym (le-ltb (y .held) h l))
 
 module _ (p d : List ℕ) where
   abbrev on : Wait book → Bool
@@ -112,30 +103,31 @@ module _ (p d : List ℕ) where
             ∙ n .held t (omega (arith, whole-order p d k .from q h)) (omega (arith, whole-order p d k .to q h))
             ∙ ap (locksHeld book (slotsOf d)) a
 
-        pub best-next : (z : Yielding) → z ≡ lighterOf y q m → BestTo p d (q + 1) z
-        best-next z g =
-            rw g
-            (go (lightestTo p d q) (ltb (y .held) m) refl refl
-            (next ∙ ap (λ x. cond x (newer on held (waitAt p d q) (lightestTo p d q)) (lightestTo p d q)) f))
-          where
-            this : Chosen d (some (waitAt p d q)) (At q)
-            this = record { inside = h; request = refl }
+        weighed : lightestTo p d (q + 1) ≡ newer on held (waitAt p d q) (lightestTo p d q)
+        weighed = next ∙ ap (λ x. cond x (newer on held (waitAt p d q) (lightestTo p d q)) (lightestTo p d q)) f
 
-            go : (o : Option (Wait book)) (c : Bool) → lightestTo p d q ≡ o → ltb (y .held) m ≡ c
-                → lightestTo p d (q + 1) ≡ newer on held (waitAt p d q) (lightestTo p d q)
-                → BestTo p d (q + 1) (cond c y (record { place = At q; held = m }))
-            go none true u v x = absurd (omega (arith, ltb-true (y .held) m v, best .held ∙ ap (heldBy p d) u, e, n .most t))
-            go none false u v x = as-best (q + 1) (record { place = At q; held = m }) (some (waitAt p d q)) (x ∙ ap (newer on held (waitAt p d q)) u) this weighs
-            go (some w) true u v x =
-                let than : held w < held (waitAt p d q) = omega (arith, ltb-true (y .held) m v, best .held ∙ ap (heldBy p d) u, weighs) in
+        -- one before it is lighter
+        pub best-kept : y .held < m → BestTo p d (q + 1) y
+        best-kept l = go (lightestTo p d q) refl
+          where
+            go : (o : Option (Wait book)) → lightestTo p d q ≡ o → BestTo p d (q + 1) y
+            go none u = absurd (omega (arith, best .held ∙ ap (heldBy p d) u, e, n .most t))
+            go (some w) u =
+                let than : held w < held (waitAt p d q) = omega (arith, best .held ∙ ap (heldBy p d) u, weighs) in
                 as-best (q + 1) y (some w)
-                (x ∙ ap (newer on held (waitAt p d q)) u ∙ ap (λ l. cond l (some (waitAt p d q)) (some w)) (lt-leb (held (waitAt p d q)) (held w) than))
+                (weighed ∙ ap (newer on held (waitAt p d q)) u ∙ ap (λ l. cond l (some (waitAt p d q)) (some w)) (lt-leb (held (waitAt p d q)) (held w) than))
                 (subst (λ c. Chosen d c (y .place)) u (best .chosen)) (best .held ∙ ap (heldBy p d) u)
-            go (some w) false u v x =
-                let than : held (waitAt p d q) ≤ held w = omega (arith, ltb-false (y .held) m v, best .held ∙ ap (heldBy p d) u, weighs) in
-                as-best (q + 1) (record { place = At q; held = m }) (some (waitAt p d q))
-                (x ∙ ap (newer on held (waitAt p d q)) u ∙ ap (λ l. cond l (some (waitAt p d q)) (some w)) (le-leb (held (waitAt p d q)) (held w) than))
-                this weighs
+
+        -- none before it is, or none lies on a circle
+        pub best-here : m ≤ y .held → BestTo p d (q + 1) (record { place = At q; held = m })
+        best-here l =
+            as-best (q + 1) (record { place = At q; held = m }) (some (waitAt p d q)) (weighed ∙ go (lightestTo p d q) refl) (record { inside = h; request = refl }) weighs
+          where
+            go : (o : Option (Wait book)) → lightestTo p d q ≡ o → newer on held (waitAt p d q) o ≡ some (waitAt p d q)
+            go none u = refl
+            go (some w) u =
+                let than : held (waitAt p d q) ≤ held w = omega (arith, best .held ∙ ap (heldBy p d) u, weighs) in
+                ap (λ l. cond l (some (waitAt p d q)) (some w)) (le-leb (held (waitAt p d q)) (held w) than)
 
   pub nobody-next : (n q : ℕ) → Whole p d → n ≡ queued d → q < n → (row : List ℕ) → Rows p d row → NobodyTo p d q → (b : Bool)
       → b ≡ circleOn row (inPlace d q) → b ≡ false → NobodyTo p d (q + 1)

@@ -1,10 +1,8 @@
 -- How many locks each transaction holds, and which request is the lightest of those looked at (document 02, [14]). Assumes nothing.
 use Prim.Native.Nat.{ℕ, _+_, _≤_}
 use mathlib.Core.Path.{_≡_}
-use mathlib.Core.Bool.{cond}
 use mathlib.Core.List.{List}
 use mathlib.Core.Option.{Option, none, some}
-use lib.Dec.{ltb}
 use lib.ListN.{length, getD}
 use Rattle.limits.specs.Limits.{transactionsMost, locksMost}
 use Rattle.lists.specs.Lists.{lightest, tab}
@@ -12,7 +10,7 @@ use Rattle.rules.specs.Queue.{Wait, waits, onCircle, locksHeld, weight}
 use Rattle.queue.specs.QueueLayout.{queued}
 use Rattle.locks.specs.SlotLayout.{slotAt}
 use Rattle.states.specs.States.{book, stateOf}
-use Rattle.waits.specs.declared.Place.the-variants.{At, Nowhere}
+use Rattle.waits.specs.declared.Place.the-variants.{Nowhere}
 use Rattle.waits.specs.declared.Yielding.{Yielding}
 use Rattle.waits.specs.Choices.{Chosen}
 use Rattle.waits.specs.Blocks.{waitsTo}
@@ -22,10 +20,6 @@ pub record CountedTo (d counts : List ℕ) (i : ℕ) : Type 0 where
   pub long : length counts ≡ transactionsMost + 1
   pub most : (t : ℕ) → getD counts t 0 ≤ i
   pub held : (t : ℕ) → 1 ≤ t → t ≤ transactionsMost → getD counts t 0 ≡ locksHeld book (tab i 0 (slotAt d)) t
-
--- of two, the lighter; of equals the newer
-abbrev pub lighterOf : Yielding → ℕ → ℕ → Yielding
-lighterOf y q h = cond (ltb (y .held) h) y (record { place = At q; held = h })
 
 -- the lightest of the requests on a circle that stand before a place, and how many locks it holds; more than there are where there is none
 unfoldable pub lightestTo : List ℕ → List ℕ → ℕ → Option (Wait book)

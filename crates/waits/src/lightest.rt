@@ -8,7 +8,7 @@ ghost use Rattle.queue.specs.QueueLayout.{queued, inPlace};
 ghost use Rattle.states.specs.Whole.{Whole};
 ghost use Rattle.waits.specs.Choices.{LightestAt};
 ghost use Rattle.waits.specs.Blocks.{Rows};
-ghost use Rattle.waits.specs.Weights.{CountedTo, lighterOf, BestTo, NobodyTo};
+ghost use Rattle.waits.specs.Weights.{CountedTo, BestTo, NobodyTo};
 use super::Place;
 use super::Yielding;
 use super::blockers;
@@ -40,19 +40,6 @@ fn count_locks(pages: &[u8], desk: &[u8], counts: &mut [u64])
     }
 }
 
-// The lighter of the one found so far and the request at place q, whose transaction holds so many locks; of equals the newer, which is this.
-fn lighter_of(best: Yielding, q: usize, held: u64) -> Yielding
-    ensures { λ r. ⌜ r ≡ lighterOf best q held ⌝ }
-{
-    if best.held < held {
-        return best;
-    }
-    Yielding {
-        place: Place::At(q),
-        held: held,
-    }
-}
-
 // Whether the request at place q lies on a circle. The row has all who block each request.
 fn lies_on_circle(pages: &[u8], desk: &[u8], row: &[u64], q: usize) -> bool
     requires { ⌜ Whole (now pages) (now desk) ⌝ }
@@ -63,7 +50,7 @@ fn lies_on_circle(pages: &[u8], desk: &[u8], row: &[u64], q: usize) -> bool
     circles::on_circle(row, queue::in_place(desk, q) as usize)
 }
 
-// Looks at the request at place q, where those before it have been looked at.
+// Looks at the request at place q, where those before it have been looked at: of equals the newer is kept, which is this.
 fn look_at(
     pages: &[u8],
     desk: &[u8],
@@ -81,7 +68,14 @@ fn look_at(
 {
     if lies_on_circle(pages, desk, row, q) {
         let t = queue::in_place(desk, q) as usize;
-        return lighter_of(best, q, counts[t]);
+        let held = counts[t];
+        if best.held < held {
+            return best;
+        }
+        return Yielding {
+            place: Place::At(q),
+            held: held,
+        };
     }
     best
 }

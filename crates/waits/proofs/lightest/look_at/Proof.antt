@@ -1,7 +1,7 @@
 -- `waits::lightest::look_at` meets its contract: the lightest of those before a place, and the one at it.
 -- Assumes nothing.
 use borrow.Author.Needs.{needs}
-use Rattle.waits.proofs.Yielders.{looked-under, looked-counted, best-past, best-next}
+use Rattle.waits.proofs.Yielders.{looked-under, looked-counted, best-past, best-kept, best-here}
 use Rattle.waits.proofs.lightest.look_at.Statement.{statement}
 use Rattle.waits.proofs.lightest.look_at.Tie as tie
 
@@ -14,20 +14,20 @@ in-place-requires c κs = (search needs, search (needs, looked-under))
 cast-t : tie.Need-cast-t
 cast-t c = search needs
 
-mul-lighter-of : tie.Need-mul-lighter-of
-mul-lighter-of c = search (needs, looked-counted)
+mul-held : tie.Need-mul-held
+mul-held c = search (needs, looked-counted)
 
-shared-slice-read-lighter-of : tie.Need-shared-slice-read-lighter-of
-shared-slice-read-lighter-of c = search (needs, looked-counted)
-
-lighter-of-requires : tie.Need-lighter-of-requires
-lighter-of-requires c κs = search needs
+shared-slice-read-held : tie.Need-shared-slice-read-held
+shared-slice-read-held c = search (needs, looked-counted)
 
 returns : tie.Need-returns
-returns c = search (needs, best-next)
+returns c = search (needs, best-kept)
 
 returns-2 : tie.Need-returns-2
-returns-2 c = search (needs, best-past)
+returns-2 c = search (needs, best-here)
+
+returns-3 : tie.Need-returns-3
+returns-3 c = search (needs, best-past)
 
 pub look-at-spec : {M : Type 1} → statement M
 look-at-spec =
@@ -36,8 +36,8 @@ look-at-spec =
     lies-on-circle-requires
     in-place-requires
     cast-t
-    mul-lighter-of
-    shared-slice-read-lighter-of
-    lighter-of-requires
+    mul-held
+    shared-slice-read-held
     returns
-    returns-2)
+    returns-2
+    returns-3)
