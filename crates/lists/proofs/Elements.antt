@@ -26,6 +26,7 @@ module _ {A : Type 0} where
   -- ---- all
   pub all_in : (p : A → Bool) (xs : List A) (x : A) → all p xs ≡ true → In x xs → p x ≡ true
   unfolding all
+  all_in p [] x h x4 = elim x4 [ ]
   all_in p (y ∷ ys) x h (inl e) = subst (λ z. p z ≡ true) e (and_left (p y) (all p ys) h)
   all_in p (y ∷ ys) x h (inr i) = all_in p ys x (and_right (p y) (all p ys) h) i
 
@@ -45,6 +46,7 @@ module _ {A : Type 0} where
 
   pub in_any : (p : A → Bool) (xs : List A) (x : A) → In x xs → p x ≡ true → any p xs ≡ true
   unfolding any
+  in_any p [] x x4 h = elim x4 [ ]
   in_any p (y ∷ ys) x (inl e) h = or_left (p y) (any p ys) (subst (λ z. p z ≡ true) (sym e) h)
   in_any p (y ∷ ys) x (inr i) h = or_right (p y) (any p ys) (in_any p ys x i h)
 
@@ -70,6 +72,7 @@ module _ {A : Type 0} where
 
   pub none_first : (p : A → Bool) (xs : List A) (x : A) → first p xs ≡ none → In x xs → p x ≡ false
   unfolding first
+  none_first p [] x h i = elim i [ ]
   none_first p (y ∷ ys) x h i = go (p y) refl h i (none_first p ys x)
     where
       go : (b : Bool) → p y ≡ b → cond b (some y) (first p ys) ≡ none → In x (y ∷ ys)
@@ -85,6 +88,7 @@ module _ {A : Type 0} where
   append_in (z ∷ xs) ys x (inr i) = ⊎_elim (λ j. inl (inr j)) inr (append_in xs ys x i)
 
   pub in_left : (xs ys : List A) (x : A) → In x xs → In x (xs ++ ys)
+  in_left [] ys x x3 = elim x3 [ ]
   in_left (y ∷ xs) ys x (inl e) = inl e
   in_left (y ∷ xs) ys x (inr i) = inr (in_left xs ys x i)
 
@@ -93,6 +97,7 @@ module _ {A : Type 0} where
   in_right (y ∷ xs) ys x i = inr (in_right xs ys x i)
 
   pub in_split : (xs : List A) (x : A) → In x xs → (b : List A) × (a : List A) × (xs ≡ b ++ x ∷ a)
+  in_split [] x x3 = elim x3 [ ]
   in_split (y ∷ ys) x (inl e) = ([], ys, ap (λ z. z ∷ ys) e)
   in_split (y ∷ ys) x (inr i) = let r = in_split ys x i in (y ∷ r.0, r.1, ap (λ zs. y ∷ zs) r.2)
 
@@ -116,6 +121,7 @@ module _ {A : Type 0} where
   -- ---- keep
   pub keep_in : (p : A → Bool) (xs : List A) (x : A) → In x (keep p xs) → In x xs × (p x ≡ true)
   unfolding keep
+  keep_in p [] x i = elim i [ ]
   keep_in p (y ∷ ys) x i = go (p y) refl i (keep_in p ys x)
     where
       go : (b : Bool) → p y ≡ b → In x (cond b (y ∷ keep p ys) (keep p ys)) → (In x (keep p ys) → In x ys × (p x ≡ true))
@@ -126,6 +132,7 @@ module _ {A : Type 0} where
 
   pub in_keep : (p : A → Bool) (xs : List A) (x : A) → In x xs → p x ≡ true → In x (keep p xs)
   unfolding keep
+  in_keep p [] x x4 h = elim x4 [ ]
   in_keep p (y ∷ ys) x (inl e) h = rw (subst (λ z. p z ≡ true) (sym e) h) (inl e)
   in_keep p (y ∷ ys) x (inr i) h = go (p y) (in_keep p ys x i h)
     where
@@ -178,10 +185,12 @@ module _ {A : Type 0} where
 -- ---- map
 module _ {A B : Type 0} where
   pub map_in : (f : A → B) (xs : List A) (y : B) → In y (map f xs) → (x : A) × In x xs × (f x ≡ y)
+  map_in f [] y x' = elim x' [ ]
   map_in f (x ∷ xs) y (inl e) = (x, inl refl, e)
   map_in f (x ∷ xs) y (inr i) = let w = map_in f xs y i in (w.0, inr w.1, w.2)
 
   pub in_map : (f : A → B) (xs : List A) (x : A) → In x xs → In (f x) (map f xs)
+  in_map f [] x x3 = elim x3 [ ]
   in_map f (y ∷ ys) x (inl e) = inl (ap f e)
   in_map f (y ∷ ys) x (inr i) = inr (in_map f ys x i)
 

@@ -26,6 +26,7 @@ module _ {A : Type 0} where
 
   pub keep_shorter : (p : A → Bool) (xs : List A) (x : A) → In x xs → p x ≡ false → length (keep p xs) < length xs
   unfolding keep
+  keep_shorter p [] x x4 h = elim x4 [ ]
   keep_shorter p (y ∷ ys) x (inl e) h = rw (ap p e ∙ h) (omega (arith, keep_no_longer p ys))
   keep_shorter p (y ∷ ys) x (inr i) h = go (p y) (keep_shorter p ys x i h)
     where
@@ -38,6 +39,7 @@ module _ {A : Type 0} where
       → ((y : A) → r x y ≡ true → p y ≡ true) → ((y : A) → r y x ≡ true → p y ≡ true)
       → In x xs → p x ≡ false → suc (length (keep p xs)) ≡ length xs
   unfolding keep
+  keep_but_one r p [] x d after before x7 h = elim x7 [ ]
   keep_but_one r p (y ∷ ys) x d after before (inl e) h =
       let others : all p ys ≡ true = in_all p ys (λ z j. after z (subst (λ w. r w z ≡ true) e (all_in (r y) ys z (pairs_head r y ys d) j))) in
       rw (ap p e ∙ h, keep_all p ys others)

@@ -84,6 +84,7 @@ module _ {A B : Type 0} where
 
   pub all_join : (p : B → Bool) (f : A → List B) (xs : List A) (x : A) → all p (join f xs) ≡ true → In x xs → all p (f x) ≡ true
   unfolding join
+  all_join p f [] x h x4 = elim x4 [ ]
   all_join p f (y ∷ ys) x h (inl e) = subst (λ z. all p (f z) ≡ true) e (all_left p (f y) (join f ys) h)
   all_join p f (y ∷ ys) x h (inr i) = all_join p f ys x (all_right p (f y) (join f ys) h) i
 

@@ -53,6 +53,7 @@ module _ {A : Type 0} where
   -- any two elements, one way round or the other
   pub pairs_in : (r : A → A → Bool) (xs : List A) (x y : A) → pairs r xs ≡ true → In x xs → In y xs
       → (x ≡ y) ⊎ ((r x y ≡ true) ⊎ (r y x ≡ true))
+  pairs_in r [] x y h x5 _ = elim x5 [ ]
   pairs_in r (z ∷ zs) x y h (inl d) (inl e) = inl (sym d ∙ e)
   pairs_in r (z ∷ zs) x y h (inl d) (inr j) = inr (inl (subst (λ v. r v y ≡ true) d (all_in (r z) zs y (pairs_head r z zs h) j)))
   pairs_in r (z ∷ zs) x y h (inr i) (inl e) = inr (inr (subst (λ v. r v x ≡ true) e (all_in (r z) zs x (pairs_head r z zs h) i)))
@@ -62,6 +63,7 @@ module _ {A : Type 0} where
   pub first_least : (p : A → Bool) (r : A → A → Bool) (xs : List A) (y : A) → pairs r xs ≡ true → In y xs → p y ≡ true
       → (x : A) × (first p xs ≡ some x) × ((x ≡ y) ⊎ (r x y ≡ true))
   unfolding first
+  first_least p r [] y h x3 q = elim x3 [ ]
   first_least p r (x ∷ xs) y h (inl e) q = (x, rw (subst (λ z. p z ≡ true) (sym e) q) refl, inl e)
   first_least p r (x ∷ xs) y h (inr i) q = go (p x) refl (first_least p r xs y (pairs_tail r x xs h) i q)
     where
@@ -108,6 +110,7 @@ module _ {A : Type 0} where
       (pairs_last r xs y (pairs_tail r x xs d) (and_right (r x y) (all (λ z. r z y) xs) h))
     where
       go : (z : A) → In z xs ⊎ In z (y ∷ []) → r x z ≡ true
+      go z (inr (inr x5)) = elim x5 [ ]
       go z (inl i) = all_in (r x) xs z (pairs_head r x xs d) i
       go z (inr (inl e)) = subst (λ w. r x w ≡ true) e (and_left (r x y) (all (λ z. r z y) xs) h)
 

@@ -124,6 +124,7 @@ module _ (B : Book) where
   waits_from_lem : (es : Entries B) (ls : Slots B) (ahead qs : List (Q B)) (w : Wait B) → In w (waits_from B es ls ahead qs)
       → In w.request qs × ((before : List (Q B)) × (blockers B es ls before w.request ≡ w.behind))
   unfolding waits_from
+  waits_from_lem es ls ahead [] w x' = elim x' [ ]
   waits_from_lem es ls ahead (q ∷ qs) w (inl e) = (inl (ap (λ (v : Wait B). v.request) e), (ahead, go))
     where
       go : blockers B es ls ahead w.request ≡ w.behind

@@ -103,6 +103,7 @@ module _ (B : Book) (L : Ordered B.Key B.compare) where
       new = record { asker = t; asks = a }
 
       each : (q : Q B) → In q s.queue ⊎ In q (new ∷ []) → (runs B s q.asker ≡ true) × (legal_ask B q.asks ≡ true)
+      each q (inr (inr x'')) = elim x'' [ ]
       each q (inl i) = (good_queues B s g).queued q i
       each q (inr (inl z)) = subst (λ (p : Q B). (runs B s p.asker ≡ true) × (legal_ask B p.asks ≡ true)) z (r, l)
 

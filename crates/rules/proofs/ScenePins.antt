@@ -19,9 +19,11 @@ three_is_free = record { it_runs = refl; it_waits_not = refl }
 -- all who stand in 2's way are 3
 only_three : (w : Wait (document endless)) (u : ℕ) → In w (waits (document endless) standing) → In u w.behind → 3 ≡ u
 unfolding the_book the_cases
+only_three w u (inr x'') i = elim x'' [ ]
 only_three w u (inl e) i = go (subst (λ (x : Wait (document endless)). In u x.behind) (sym e) i)
   where
     go : In u (3 ∷ []) → 3 ≡ u
+    go (inr x3) = elim x3 [ ]
     go (inl h) = h
 
 pub pinned : Pinned
