@@ -1,0 +1,13 @@
+-- `numbers::move_down` meets its contract. The invariant: the first k of the n bytes are moved. The measure is what is left of n.
+-- Assumes nothing.
+use mathlib.Core.Path.{◌≡◌}
+use Prim.Native.Nat.{◌-◌, ◌≤◌}
+use lib.ListN.{length}
+use Rattle.numbers.specs.Numbers.{moved}
+use Rattle.numbers.proofs.move_down.Given as goal
+
+abbrev pub invariant-loop-k : goal.invariant-loop-k
+invariant-loop-k l = (l.k ≤ l.n) × ((length l.s ≡ length l.initial.s) × (l.s ≡ moved l.k l.from l.to l.initial.s))
+
+abbrev pub decreases-loop-k : goal.decreases-loop-k
+decreases-loop-k l = l.n - l.k

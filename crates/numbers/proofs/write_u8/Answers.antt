@@ -1,0 +1,8 @@
+-- `numbers::write_u8` meets its contract: a number of one byte is that byte.
+-- Assumes nothing.
+use borrow.Author.Rules.{rules}
+use Rattle.numbers.proofs.Numbers.{put_byte}
+use Rattle.numbers.proofs.write_u8.Goals as goal
+
+pub returns : goal.returns
+returns c = search (rules, put_byte)
