@@ -22,6 +22,7 @@ summed_append f (x ∷ xs) ys = let r = summed_append f xs ys in omega arith
 
 pub summed_in : {A : Type 0} (f : A → ℕ) (xs : List A) (x : A) → In x xs → f x ≤ summed f xs
 unfolding summed
+summed_in {A = A} f [] x x3 = elim x3 [ ]
 summed_in f (y ∷ ys) x (inl e) = omega (arith, ap f e)
 summed_in f (y ∷ ys) x (inr i) = omega (arith, summed_in f ys x i)
 

@@ -82,6 +82,7 @@ module _ {K A : Type 0} {compare : K → K → Ordering} (L : Ordered K compare)
   among : (x : A) (p : A → Bool) (xs : List A) → pairs (ascends compare key) xs ≡ true → In x xs
       → any (λ j. compare_is_eq (compare j (key x))) (map key (keep p xs)) ≡ p x
   unfolding pairs any keep
+  among x p [] h x3 = elim x3 [ ]
   among x p (y ∷ ys) h (inl e) =
       subst (λ z. any (λ j. compare_is_eq (compare j (key z))) (map key (keep p (y ∷ ys))) ≡ p z) e (go (p y))
     where

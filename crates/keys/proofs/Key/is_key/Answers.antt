@@ -2,11 +2,7 @@
 -- Assumes nothing.
 use borrow.Author.Rules.{rules}
 use Rattle.keys.proofs.KeyMarks.{key_range}
-use Rattle.keys.proofs.Key.is_key.Statement.{statement}
-use Rattle.keys.proofs.Key.is_key.Tie as tie
+use Rattle.keys.proofs.Key.is_key.Goals as goal
 
-returns : tie.Need-returns
+pub returns : goal.returns
 returns c = search (rules, key_range)
-
-pub is-key-spec : {M : Type 1} → statement M
-is-key-spec = tie.close (tie.spec returns)
