@@ -20,7 +20,7 @@ use rows::head;
 
 // What becomes of a tree that an entry is put into: how many pages are used then, and the new tree beside it if it was divided. Where the pages
 // are short nothing has changed.
-#[derive(Drop)]
+#[derive(Clone, Copy)]
 pub enum Grown {
     Short,
     Same(usize),

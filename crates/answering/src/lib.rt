@@ -23,7 +23,7 @@ use queue::transactions;
 use requests::{Ask, Call, Request};
 
 // What stands against a request, 13 to 15, or nothing.
-#[derive(Drop)]
+#[derive(Clone, Copy)]
 pub enum Refusal {
     By(Says),
     Nothing,
@@ -130,7 +130,7 @@ fn work_with(
     requires le_t { 1 ≤ t }
     requires t_le_transactions_most { t ≤ transactions_most }
     requires space_least_in_bounds { space_least ≤ length answers.old }
-    requires* do_value { do ⌜ (← ⟦row.len()⟧) ≡ transactions_most + 1 ⌝ }
+    requires row_len { length row.old ≡ transactions_most + 1 }
     ensures { Wrote answers.old 0 (waiting_last book t (worked_of pages.old desk.old)) pages.new desk.new answers.new result }
 {
     let end = turns::work(pages, desk, answers, 0, row);

@@ -1,5 +1,6 @@
 // Answers as values and as records. (Document 01, "What the desk says", "Records and pages".)
-ghost use Rattle.std.specs.Prelude.{◌≡◌, ◌+◌, ◌≤◌};
+#![tactic(auto)]
+ghost use Rattle.std.specs.Prelude.{◌≡◌, ◌+◌, ◌≤◌, length};
 ghost use Rattle.limits.specs.Limits.{answer_size};
 ghost use Rattle.rules.specs.Runs.{paper, numbered};
 ghost use Rattle.answers.specs.AnswerMeaning.{book_says, book_answer, OnPaper};
@@ -9,7 +10,7 @@ use entries::Value;
 use keys::Key;
 
 // What the desk says. Who waits is told the number of the one who is in the way.
-#[derive(Drop)]
+#[derive(Clone, Copy)]
 pub enum Says {
     Done,
     Found(Key, Value),
@@ -25,7 +26,7 @@ pub enum Says {
 }
 
 // The paper's number, key and record; key and record are zero where there is none. The record's place has who is in the way with 3.
-#[derive(Drop)]
+#[derive(Clone, Copy)]
 pub struct Paper {
     pub number: u16,
     pub key: Key,
@@ -77,7 +78,7 @@ impl Says {
 }
 
 // What the desk says, and to whom.
-#[derive(Drop)]
+#[derive(Clone, Copy)]
 pub struct Answer {
     pub asker: u16,
     pub says: Says,
@@ -90,7 +91,7 @@ const REC: usize = 8 + limits::KEY_SIZE;
 
 // Writes an answer record at a place, and nothing else.
 pub fn put_answer(out: &mut [u8], at: usize, a: Answer)
-    requires* { do ⌜ at + answer_size ≤ (← ⟦out.len()⟧) ⌝ }
+    requires { at + answer_size ≤ length out.old }
     ensures { out.new ≡ put_answer out.old at (book_answer a) }
 {
     let says = a.says;

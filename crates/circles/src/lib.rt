@@ -10,7 +10,7 @@ ghost use Rattle.circles.specs.InTheWay.{NextIn};
 use sets::word;
 
 // Who is in the way: a transaction, by its number, or nobody. (Document 02, [4].)
-#[derive(Drop)]
+#[derive(Clone, Copy)]
 pub enum Blocker {
     By(u16),
     Nobody,

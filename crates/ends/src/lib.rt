@@ -19,7 +19,7 @@ use queue::transactions;
 
 // Drops t's request from the queue, if it has one there.
 fn drop_request(desk: &mut [u8], t: u16)
-    requires* do_value { do ⌜ (← ⟦desk.len()⟧) ≡ desk_size ⌝ }
+    requires desk_len { length desk.old ≡ desk_size }
     requires desk_bound { queued desk.old ≤ transactions_most }
     requires t_le_transactions_most { t ≤ transactions_most }
     ensures { desk.new ≡ cond (ltb (waits_in desk.old t) (queued desk.old)) (queue_left desk.old (waits_in desk.old t)) desk.old }
@@ -33,7 +33,7 @@ fn drop_request(desk: &mut [u8], t: u16)
 
 // Releases t's locks, and marks that it runs no more.
 fn stop(desk: &mut [u8], t: u16)
-    requires* do_value { do ⌜ (← ⟦desk.len()⟧) ≡ desk_size ⌝ }
+    requires desk_len { length desk.old ≡ desk_size }
     requires t_le_transactions_most { t ≤ transactions_most }
     ensures { desk.new ≡ mark_put (locks_released t desk.old) t false }
 {

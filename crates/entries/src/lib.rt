@@ -1,4 +1,5 @@
 // Entries as values, and what a first insert, a delete, a commit and a rollback make of them. (Document 01, "Keys and entries".)
+#![tactic(auto)]
 ghost use Rattle.std.specs.Prelude.{◌≡◌, true, false, ◌<◌};
 ghost use Rattle.rules.specs.Entries.{is_there, committed, rolled_back, deleted, revived, inserted, ghost};
 ghost use Rattle.entries.specs.EntryMeaning.{book_entry, book_value};
@@ -7,7 +8,7 @@ ghost use Rattle.entries.specs.Absent.{or_zero};
 use keys::Key;
 
 // Present with a record, or absent.
-#[derive(Drop)]
+#[derive(Clone, Copy)]
 pub enum Value {
     Present(u32),
     Absent,
@@ -36,7 +37,7 @@ impl Value {
 }
 
 // An entry of the index. Owner 0 is nobody.
-#[derive(Drop)]
+#[derive(Clone, Copy)]
 pub struct Entry {
     pub key: Key,
     pub owner: u16,

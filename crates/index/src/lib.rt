@@ -10,21 +10,21 @@ use keys::Key;
 pub use search::find;
 
 // What a search looks for: the first entry at or above lo that is above hi or isn't the asker's own ghost.
-#[derive(Drop)]
+#[derive(Clone, Copy)]
 pub struct Sought {
     pub lo: Key,
     pub hi: Key,
     pub asker: u16,
 }
 
-#[derive(Drop)]
+#[derive(Clone, Copy)]
 pub enum Found {
     Here(Entry),
     Nothing,
 }
 
 // Page 0: the root's page, its level, and how many pages are used.
-#[derive(Drop)]
+#[derive(Clone, Copy)]
 pub struct Top {
     pub root: usize,
     pub level: usize,
@@ -32,14 +32,14 @@ pub struct Top {
 }
 
 // A place among an inner page's children, and how many there are.
-#[derive(Drop)]
+#[derive(Clone, Copy)]
 pub struct Step {
     pub slot: usize,
     pub count: usize,
 }
 
 // The child that a key belongs to: its place and its page.
-#[derive(Drop)]
+#[derive(Clone, Copy)]
 pub struct Way {
     pub slot: usize,
     pub page: usize,

@@ -18,7 +18,7 @@ use locks::{Slot, slot_at};
 use sorting::number_in;
 
 // To which place in the order of the locks the walk over the entries has come, or that it cannot go on.
-#[derive(Drop)]
+#[derive(Clone, Copy)]
 pub enum Passage {
     To(usize),
     Stuck,

@@ -13,7 +13,7 @@ use rows::head;
 use sets::Set;
 
 // A page with the range of its keys: from low on, below high.
-#[derive(Drop)]
+#[derive(Clone, Copy)]
 pub struct Span {
     pub page: usize,
     pub low: Key,
@@ -21,7 +21,7 @@ pub struct Span {
 }
 
 // The pages seen so far; or a page that is not in order, or not there, or seen before.
-#[derive(Drop)]
+#[derive(Clone, Copy)]
 pub enum Trail {
     Went(Set),
     Bad,

@@ -6,7 +6,7 @@ ghost use Rattle.numbers.specs.Numbers.{number_at, put_number};
 ghost use Rattle.rules.specs.Document.{end_mark};
 
 // A key: its upper half is the pupil, its lower half the delivery. The marks belong to it; the end is never a key, but names a lock.
-#[derive(Drop)]
+#[derive(Clone, Copy)]
 pub struct Key(pub u64);
 
 impl Key {

@@ -1,4 +1,5 @@
 // Locks, and the lock table in the desk buffer. Every function takes the whole buffer. (Document 01, "Locks", "Records and pages".)
+#![tactic(auto)]
 ghost use Rattle.std.specs.Prelude.{◌≡◌, not};
 ghost use Rattle.rules.specs.Entries.{is_there};
 ghost use Rattle.rules.specs.Locks.{conflict, stronger};
@@ -14,7 +15,7 @@ pub use slots::{
     slot_at, take_at,
 };
 
-#[derive(Drop)]
+#[derive(Clone, Copy)]
 pub enum Mode {
     S,
     X,
@@ -63,14 +64,14 @@ impl Mode {
 }
 
 // A lock: on a key, or on the end by the end mark.
-#[derive(Drop)]
+#[derive(Clone, Copy)]
 pub struct Lock {
     pub name: Key,
     pub holder: u16,
     pub mode: Mode,
 }
 
-#[derive(Drop)]
+#[derive(Clone, Copy)]
 pub enum Slot {
     Free,
     Held(Lock),

@@ -101,7 +101,7 @@ pub fn slot_at(d: &[u8], i: usize) -> Slot
 
 // Writes slot i by its numbers, and nothing else.
 fn put_row(d: &mut [u8], i: usize, name: Key, holder: u16, mode: u16)
-    requires* do_value { do ⌜ (← ⟦d.len()⟧) ≡ desk_size ⌝ }
+    requires d_len { length d.old ≡ desk_size }
     requires i_lt_locks_most { i < locks_most }
     ensures { d.new ≡ put_fields lock_widths d.old (lock_place i) (name.0 ∷ holder ∷ mode ∷ 0 ∷ []) }
 {
@@ -116,7 +116,7 @@ fn put_row(d: &mut [u8], i: usize, name: Key, holder: u16, mode: u16)
 
 // Writes slot i, and nothing else; a free slot is zero.
 pub fn put_slot(d: &mut [u8], i: usize, s: Slot)
-    requires* do_value { do ⌜ (← ⟦d.len()⟧) ≡ desk_size ⌝ }
+    requires d_len { length d.old ≡ desk_size }
     requires i_lt_locks_most { i < locks_most }
     ensures { d.new ≡ put_slot d.old i (book_slot s) }
 {
@@ -133,7 +133,7 @@ pub fn put_slot(d: &mut [u8], i: usize, s: Slot)
 // Takes a lock for t: strengthens the one in slot `own`, or puts a new one into slot `free`. Where there is no such slot, each is the number
 // of slots. False, and nothing changed, where there is neither.
 pub fn take_at(d: &mut [u8], own: usize, free: usize, t: u16, name: Key, mode: Mode) -> bool
-    requires* { do ⌜ (← ⟦d.len()⟧) ≡ desk_size ⌝ }
+    requires { length d.old ≡ desk_size }
     ensures taken { d.new ≡ taken_at d.old own free t (name_in name.0) (book_mode mode) }
     ensures given { result ≡ given_at own free }
 {
@@ -158,7 +158,7 @@ pub fn take_at(d: &mut [u8], own: usize, free: usize, t: u16, name: Key, mode: M
 
 // Sets slot i to zero if t is its holder.
 fn release_row(d: &mut [u8], i: usize, t: u16)
-    requires* do_value { do ⌜ (← ⟦d.len()⟧) ≡ desk_size ⌝ }
+    requires d_len { length d.old ≡ desk_size }
     requires i_lt_locks_most { i < locks_most }
     ensures { d.new ≡ row_released t i d.old }
 {
@@ -169,7 +169,7 @@ fn release_row(d: &mut [u8], i: usize, t: u16)
 
 // Releases all locks of t: their slots are zero, the others keep their bytes.
 pub fn release_locks(d: &mut [u8], t: u16)
-    requires* { do ⌜ (← ⟦d.len()⟧) ≡ desk_size ⌝ }
+    requires { length d.old ≡ desk_size }
     ensures { d.new ≡ locks_released t d.old }
 {
     let mut i: usize = 0;

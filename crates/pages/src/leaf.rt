@@ -210,7 +210,7 @@ fn value_if(there: u16, rec: u32) -> Value
 }
 
 // The records and the presence of an entry as its row has them.
-#[derive(Drop)]
+#[derive(Clone, Copy)]
 struct Packed {
     now: u32,
     before: u32,

@@ -70,7 +70,7 @@ pub fn place_in_queue(d: &[u8], t: u16) -> usize
 
 // Puts t's request at the end of the queue.
 pub fn join_queue(d: &mut [u8], t: u16, a: Ask)
-    requires* do_value { do ⌜ (← ⟦d.len()⟧) ≡ desk_size ⌝ }
+    requires d_len { length d.old ≡ desk_size }
     requires t_le_transactions_most { t ≤ transactions_most }
     requires d_bound { queued d.old < transactions_most }
     ensures { d.new ≡ queue_joined d.old t (book_ask a) }
@@ -83,7 +83,7 @@ pub fn join_queue(d: &mut [u8], t: u16, a: Ask)
 
 // Takes the request at place q out of the queue: those behind it move up, and its record says no more that it waits.
 pub fn leave_queue(d: &mut [u8], q: usize)
-    requires* do_value { do ⌜ (← ⟦d.len()⟧) ≡ desk_size ⌝ }
+    requires d_len { length d.old ≡ desk_size }
     requires q_bound { q < queued d.old }
     requires d_bound { queued d.old ≤ transactions_most }
     requires q_bound_2 { in_place d.old q ≤ transactions_most }

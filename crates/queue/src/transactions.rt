@@ -95,7 +95,7 @@ fn mark(b: bool) -> u16
 
 // Sets down that t runs, or no longer.
 pub fn put_running(d: &mut [u8], t: u16, b: bool)
-    requires* do_value { do ⌜ (← ⟦d.len()⟧) ≡ desk_size ⌝ }
+    requires d_len { length d.old ≡ desk_size }
     requires t_le_transactions_most { t ≤ transactions_most }
     ensures { d.new ≡ mark_put d.old t b }
 {
@@ -130,7 +130,7 @@ pub fn ask_at(d: &[u8], t: u16) -> Ask
 
 // Writes t's waiting request by its fields, and nothing else. A field not in use is zero.
 fn put_request(d: &mut [u8], t: u16, kind: u16, rec: u32, lo: Key, hi: Key)
-    requires* do_value { do ⌜ (← ⟦d.len()⟧) ≡ desk_size ⌝ }
+    requires d_len { length d.old ≡ desk_size }
     requires t_le_transactions_most { t ≤ transactions_most }
     ensures { d.new ≡ put_ask d.old t (kind ∷ rec ∷ lo.0 ∷ hi.0 ∷ []) }
 {
@@ -145,7 +145,7 @@ fn put_request(d: &mut [u8], t: u16, kind: u16, rec: u32, lo: Key, hi: Key)
 
 // Writes the request that t waits for, and nothing else.
 pub fn put_ask(d: &mut [u8], t: u16, a: Ask)
-    requires* do_value { do ⌜ (← ⟦d.len()⟧) ≡ desk_size ⌝ }
+    requires d_len { length d.old ≡ desk_size }
     requires t_le_transactions_most { t ≤ transactions_most }
     ensures { d.new ≡ put_ask d.old t (ask_fields (book_ask a)) }
 {
@@ -158,7 +158,7 @@ pub fn put_ask(d: &mut [u8], t: u16, a: Ask)
 
 // Sets t's waiting request to zero: t waits no longer.
 pub fn clear_ask(d: &mut [u8], t: u16)
-    requires* do_value { do ⌜ (← ⟦d.len()⟧) ≡ desk_size ⌝ }
+    requires d_len { length d.old ≡ desk_size }
     requires t_le_transactions_most { t ≤ transactions_most }
     ensures { d.new ≡ put_ask d.old t (0 ∷ 0 ∷ 0 ∷ 0 ∷ []) }
 {

@@ -1,4 +1,5 @@
 // Requests as values and as records: the call that a slice of bytes is, or number 12. (Document 01, "What the desk says", "Records and pages".)
+#![tactic(auto)]
 ghost use Rattle.std.specs.Prelude.{◌≡◌, true, ◌+◌, ◌<◌, ◌≤◌, length};
 ghost use Rattle.limits.specs.Limits.{key_size, read_size, delete_size};
 ghost use Rattle.numbers.specs.Numbers.{number_at};
@@ -19,7 +20,7 @@ pub fn is_transaction(t: u16) -> bool
 }
 
 // What joins the queue.
-#[derive(Drop)]
+#[derive(Clone, Copy)]
 pub enum Ask {
     Read(Key, Key),
     Insert(Key, u32),
@@ -47,7 +48,7 @@ impl Ask {
 }
 
 // What a transaction can ask for.
-#[derive(Drop)]
+#[derive(Clone, Copy)]
 pub enum Request {
     Begin,
     Commit,
@@ -77,7 +78,7 @@ impl Request {
 }
 
 // A request with the transaction that makes it.
-#[derive(Drop)]
+#[derive(Clone, Copy)]
 pub struct Call {
     pub asker: u16,
     pub request: Request,
@@ -94,7 +95,7 @@ impl Call {
 }
 
 // What a slice of bytes is, read as a request record: a call, or number 12.
-#[derive(Drop)]
+#[derive(Clone, Copy)]
 pub enum Heard {
     Good(Call),
     Bad,

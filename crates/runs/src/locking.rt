@@ -1,5 +1,5 @@
 // What a run does to the desk. (Document 01, "Working the queue".)
-ghost use Rattle.std.specs.Prelude.{◌≡◌, ◌<◌, ◌≤◌};
+ghost use Rattle.std.specs.Prelude.{◌≡◌, ◌<◌, ◌≤◌, length};
 ghost use Rattle.limits.specs.Limits.{transactions_most, desk_size};
 ghost use Rattle.queue.specs.QueueLayout.{queued, in_place};
 ghost use Rattle.locks.specs.SlotLayout.{name_in, book_mode};
@@ -20,7 +20,7 @@ pub fn lock_and_leave(
     name: Key,
     mode: Mode,
 ) -> bool
-    requires* do_value { do ⌜ (← ⟦desk.len()⟧) ≡ desk_size ⌝ }
+    requires desk_len { length desk.old ≡ desk_size }
     requires q_bound { q < queued desk.old }
     requires desk_bound { queued desk.old ≤ transactions_most }
     requires q_bound_2 { in_place desk.old q ≤ transactions_most }

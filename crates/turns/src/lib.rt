@@ -15,7 +15,7 @@ use limits::TRANSACTIONS;
 use waits::{Place, Turn};
 
 // What a turn of the queue brought: an answer, or the desk is at rest.
-#[derive(Drop)]
+#[derive(Clone, Copy)]
 pub enum Turned {
     Said(Answer),
     Rest,
@@ -52,7 +52,7 @@ fn circle_turn(pages: &[u8], desk: &mut [u8], row: &[u64]) -> Turned
 // The oldest request that nobody blocks, with room to note what each wants. The row gets all who block each that is looked at.
 fn choose(pages: &[u8], desk: &[u8], row: &mut [u64]) -> Turn
     requires whole { Whole pages.now desk.now }
-    requires* do_value { do ⌜ (← ⟦row.len()⟧) ≡ transactions_most + 1 ⌝ }
+    requires row_len { length row.old ≡ transactions_most + 1 }
     ensures chosen { OldestIs pages.now desk.now result }
     ensures rows { RowsIn pages.now desk.now row.new result }
 {
@@ -65,7 +65,7 @@ fn choose(pages: &[u8], desk: &[u8], row: &mut [u64]) -> Turn
 // One turn: the oldest that nobody blocks runs; where each is blocked, a circle is looked for. At rest the row has all who block each request.
 fn turn(pages: &mut [u8], desk: &mut [u8], row: &mut [u64]) -> Turned
     requires whole { Whole pages.old desk.old }
-    requires* do_value { do ⌜ (← ⟦row.len()⟧) ≡ transactions_most + 1 ⌝ }
+    requires row_len { length row.old ≡ transactions_most + 1 }
     ensures { Turns pages.old desk.old pages.new desk.new row.new result }
 {
     let oldest = choose(pages, desk, row);
@@ -86,7 +86,7 @@ pub fn work(
 ) -> usize
     requires whole { Whole pages.old desk.old }
     requires desk_in_bounds { at + answer_size * queued desk.old ≤ length answers.old }
-    requires* do_value { do ⌜ (← ⟦row.len()⟧) ≡ transactions_most + 1 ⌝ }
+    requires row_len { length row.old ≡ transactions_most + 1 }
     ensures wrote { Wrote answers.old at (worked_of pages.old desk.old) pages.new desk.new answers.new result }
     ensures rests { Rested pages.new desk.new row.new }
     ensures room { RoomLeft desk.new answers.new result }

@@ -20,7 +20,7 @@ pub use blocked::oldest;
 pub use lightest::lightest_on_circle;
 
 // What a request wants: who asks, its target's name, and the mode.
-#[derive(Drop)]
+#[derive(Clone, Copy)]
 pub struct Want {
     pub asker: u16,
     pub name: Key,
@@ -41,7 +41,7 @@ impl Want {
 }
 
 // A place of the queue.
-#[derive(Drop)]
+#[derive(Clone, Copy)]
 pub enum Place {
     At(usize),
     Nowhere,
@@ -49,7 +49,7 @@ pub enum Place {
 
 // The request that runs next: its place in the queue, its target, the slot of its asker's own lock on the target's name, and the lowest free
 // slot. Where there is no such slot, it is the number of slots.
-#[derive(Drop)]
+#[derive(Clone, Copy)]
 pub struct Next {
     pub place: usize,
     pub target: Found,
@@ -58,7 +58,7 @@ pub struct Next {
 }
 
 // A request that is looked at: its target, and what it wants.
-#[derive(Drop)]
+#[derive(Clone, Copy)]
 struct Looked {
     target: Found,
     want: Want,
@@ -66,7 +66,7 @@ struct Looked {
 
 // What a scan of the lock table has collected: who stands against the asker, as a set, the first slot with the asker's own lock on what it
 // wants, and the first that is free. Where there is no such slot, it is the number of those seen.
-#[derive(Drop)]
+#[derive(Clone, Copy)]
 struct Collected {
     against: u64,
     own: usize,
@@ -75,14 +75,14 @@ struct Collected {
 
 // The lightest request on a circle of those looked at: its place, and how many locks its transaction holds; where there is none, one more than
 // there are.
-#[derive(Drop)]
+#[derive(Clone, Copy)]
 struct Yielding {
     place: Place,
     held: u64,
 }
 
 // Whose turn it is: the oldest request that nobody blocks.
-#[derive(Drop)]
+#[derive(Clone, Copy)]
 pub enum Turn {
     Runs(Next),
     Nobody,

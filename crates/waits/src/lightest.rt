@@ -1,6 +1,6 @@
 // Who gives way where everybody is blocked: of the requests that lie on a circle the one whose transaction holds the fewest locks; of equals the
 // newest. (Document 01, "Working the queue"; document 02, [14].)
-ghost use Rattle.std.specs.Prelude.{◌≡◌, ◌+◌, ◌<◌};
+ghost use Rattle.std.specs.Prelude.{◌≡◌, ◌+◌, ◌<◌, length};
 ghost use Rattle.limits.specs.Limits.{transactions_most, locks_most};
 ghost use Rattle.circles.specs.Search.{circle_on};
 ghost use Rattle.queue.specs.QueueLayout.{queued, in_place};
@@ -26,7 +26,7 @@ fn count_slot(pages: &[u8], desk: &[u8], counts: &mut [u64], i: usize)
 // How many locks each transaction holds, at its number, in one pass over the table.
 fn count_locks(pages: &[u8], desk: &[u8], counts: &mut [u64])
     requires whole { Whole pages.now desk.now }
-    requires* do_value { do ⌜ (← ⟦counts.len()⟧) ≡ transactions_most + 1 ⌝ }
+    requires counts_len { length counts.old ≡ transactions_most + 1 }
     ensures { CountedTo desk.now counts.new locks_most }
 {
     circles::clear(counts);
@@ -98,7 +98,7 @@ fn first_on_circle(pages: &[u8], desk: &[u8], row: &[u64]) -> usize
 fn lightest_from(pages: &[u8], desk: &[u8], row: &[u64], counts: &mut [u64], from: usize) -> Place
     requires whole { Whole pages.now desk.now }
     requires rows { Rows pages.now desk.now row.now }
-    requires* do_value { do ⌜ (← ⟦counts.len()⟧) ≡ transactions_most + 1 ⌝ }
+    requires counts_len { length counts.old ≡ transactions_most + 1 }
     requires nobody_to { NobodyTo pages.now desk.now from }
     ensures { LightestAt pages.now desk.now result }
 {

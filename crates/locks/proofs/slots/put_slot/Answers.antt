@@ -1,0 +1,11 @@
+-- `locks::put_slot` meets its contract: a free slot and a lock have their numbers.
+-- Assumes nothing.
+use borrow.Author.Rules.{rules}
+use Rattle.locks.proofs.LockValues.{put_free, put_held}
+use Rattle.locks.proofs.slots.put_slot.Goals as goal
+
+pub returns-in-Free : goal.returns-in-Free
+returns-in-Free c = search (rules, put_free)
+
+pub returns-in-Held : goal.returns-in-Held
+returns-in-Held c = search (rules, put_held)

@@ -1,0 +1,18 @@
+-- `pages::leaf::first_at_or_above` meets its contract. The invariant: where keys ascend, the place lies between low and high. The measure is
+-- the number of places left. Assumes nothing.
+use borrow.Author.Rules.{rules}
+use Prim.Native.Nat.{◌-◌}
+use Rattle.pages.proofs.PageSearches.{between_start, between_lower, between_upper, between_end}
+use Rattle.pages.proofs.leaf.first_at_or_above.Goals as goal
+
+pub loop-low-init : goal.loop-low-init
+loop-low-init c = search (rules, between_start)
+
+pub loop-low-preserved-then-at_most : goal.loop-low-preserved-then-at_most
+loop-low-preserved-then-at_most c = search (rules, between_lower)
+
+pub loop-low-preserved : goal.loop-low-preserved
+loop-low-preserved c = search (rules, between_upper)
+
+pub returns : goal.returns
+returns c = search (rules, between_end)
