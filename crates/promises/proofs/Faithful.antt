@@ -3,7 +3,7 @@
 use Prim.Native.Nat.{ℕ, zero, suc}
 use mathlib.Core.Path.{◌≡◌, refl, ap, ap₂, ◌∙◌}
 use mathlib.Core.Bool.{Bool, true, false, cond}
-use mathlib.Core.List.{List, [], ◌∷◌, ◌++◌, map, map_append}
+use mathlib.Core.List.{List, [], ◌∷◌, ◌++◌, map, map-append}
 use mathlib.Core.Option.{Option, none, some}
 use lib.ListN.{length}
 use Rattle.lists.specs.Lists.{join}
@@ -35,7 +35,7 @@ module _ (B : Book) where
   acts_faithful f s t commit = ap (λ (as' : List (An B)). says B t done ∷ as') (queue_faithful f (ended B committed s t))
   acts_faithful f s t rollback = ap (λ (as' : List (An B)). says B t done ∷ as') (queue_faithful f (ended B rolled_back s t))
   acts_faithful f s t (ask a) =
-      map_append (answer_of B) (queue_deeds B f u) _ ∙ ap₂ (λ (xs ys : List (An B)). xs ++ ys) (queue_faithful f u) (go (waits_now B z t))
+      map-append (answer_of B) (queue_deeds B f u) _ ∙ ap₂ (λ (xs ys : List (An B)). xs ++ ys) (queue_faithful f u) (go (waits_now B z t))
     where
       u : St B
       u = joined B s t a
@@ -62,7 +62,7 @@ module _ (B : Book) where
   faithful_from f s [] = refl
   faithful_from f s (c ∷ cs) =
       let g = asked_then B f c (answers_of B (call B s c)) in
-      map_append (answer_of B) (call_deeds B g s c) _
+      map-append (answer_of B) (call_deeds B g s c) _
       ∙ ap₂ (λ (xs ys : List (An B)). xs ++ ys) (call_faithful g s c) (faithful_from g (state_after B s (call B s c)) cs)
 
   pub faithful : (cs : List (Cl B)) → Faithful B cs

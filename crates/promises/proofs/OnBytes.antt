@@ -4,7 +4,7 @@
 use Prim.Native.Nat.{ℕ}
 use mathlib.Core.Path.{◌≡◌, refl, sym, ap, ap₂, subst, ◌∙◌}
 use mathlib.Core.Bool.{Bool, true, false, cond}
-use mathlib.Core.List.{List, [], ◌∷◌, ◌++◌, map, map_append}
+use mathlib.Core.List.{List, [], ◌∷◌, ◌++◌, map, map-append}
 use mathlib.Core.Option.{Option, none, some}
 use native.Mathlib.Omega.{arith}
 use borrow.Author.Tests.{ltb-false}
@@ -131,7 +131,7 @@ between_on_bytes as' more bs bs' p d p' d' f r ds e =
     let two = (demand3_on_bytes (as' ++ more) (bs ++ bs') p' d' whole).bytes in
     (append_apart (join wrote bs) (join bytes_of (map (answer_of book) first)) _ _ (ap length one)
     (sym (join_append wrote bs bs') ∙ two ∙ ap (λ (es : List (Deed book)). join bytes_of (map (answer_of book) es)) e
-    ∙ ap (join bytes_of) (map_append (answer_of book) first ds) ∙ join_append bytes_of (map (answer_of book) first) (map (answer_of book) ds))).1
+    ∙ ap (join bytes_of) (map-append (answer_of book) first ds) ∙ join_append bytes_of (map (answer_of book) first) (map (answer_of book) ds))).1
   where
     first : List (Deed book)
     first = story book (calls_in as')

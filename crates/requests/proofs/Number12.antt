@@ -3,7 +3,7 @@
 use Prim.Native.Nat.{ℕ, ◌≤◌, ◌<◌}
 use mathlib.Core.Path.{◌≡◌, refl, sym, ap, subst, ◌∙◌}
 use mathlib.Core.Logic.{◌⊎◌, inl, inr, ⊎_elim}
-use mathlib.Core.Bool.{Bool, true, false, not, ◌&&◌, ◌||◌, and_false}
+use mathlib.Core.Bool.{Bool, true, false, not, ◌&&◌, ◌||◌, and-false}
 use mathlib.Core.List.{List}
 use mathlib.Core.Option.{none, some, none-ne-some, some-injective}
 use lib.Dec.{leb, ltb}
@@ -82,7 +82,7 @@ module _ (s : List ℕ) where
   by_kind : (n : ℕ) → kind_in s ≡ n → legal_request (document endless) (request_by n s) ≡ false → illegal s ≡ true
   by_kind n k e =
       let t = is_transaction (document endless) (call_in s).asker in
-      ap (λ b. not (t && b)) (ap (legal_request (document endless)) (sym (asked n s (kind_in s) refl k)) ∙ e) ∙ ap not (and_false t)
+      ap (λ b. not (t && b)) (ap (legal_request (document endless)) (sym (asked n s (kind_in s) refl k)) ∙ e) ∙ ap not (and-false t)
 
   pub end_lo_illegal : kind_in s ≡ 4 → number_at key_size s first_place ≡ end_mark → illegal s ≡ true
   unfolding legal_request legal_ask requests forms fields_at
@@ -90,11 +90,11 @@ module _ (s : List ℕ) where
 
   pub end_hi_illegal : kind_in s ≡ 4 → number_at key_size s second_place ≡ end_mark → illegal s ≡ true
   unfolding legal_request legal_ask requests forms fields_at
-  end_hi_illegal k e = by_kind 4 k (rw (e, and_false))
+  end_hi_illegal k e = by_kind 4 k (rw (e, and-false))
 
   pub lo_above_hi_illegal : kind_in s ≡ 4 → number_at key_size s second_place < number_at key_size s first_place → illegal s ≡ true
   unfolding legal_request legal_ask requests forms fields_at
-  lo_above_hi_illegal k h = by_kind 4 k (rw (lt-leb (number_at key_size s first_place) (number_at key_size s second_place) h, and_false))
+  lo_above_hi_illegal k h = by_kind 4 k (rw (lt-leb (number_at key_size s first_place) (number_at key_size s second_place) h, and-false))
 
   pub end_insert_illegal : kind_in s ≡ 5 → number_at key_size s first_place ≡ end_mark → illegal s ≡ true
   unfolding legal_request legal_ask requests forms fields_at

@@ -5,17 +5,10 @@ use Rattle.answers.proofs.put_answer.Goals as goal
 
 pub returns : goal.returns
 returns c =
-      let rec = c.before in
-    let key = rec.before.before.before.before in
-    let number = key.before.before.before.before in
-    let asker = number.before.before.before.before in
-    let kind = asker.before.before.before.before in
-    let size = kind.before.before.before.before in
-    let said = size.before.before.before in
-    answer_written _ _ _ _ _ _ _ _ said.before.before.args.a _ said.paper.ensures
-    size.write-u16.ensures
-    kind.write-u162.ensures
-    asker.write-u163.ensures
-    number.write-u164.ensures
-    key.write.ensures
-    rec.write-u32.ensures
+    answer_written _ _ _ _ _ _ _ _ c.args.a _ c.paper-p.ensures
+    c.write_u16.ensures
+    c.write_u16-2.ensures
+    c.write_u16-3.ensures
+    c.write_u16-4.ensures
+    c.write.ensures
+    c.write_u32.ensures

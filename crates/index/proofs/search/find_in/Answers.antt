@@ -1,0 +1,19 @@
+-- `index::search::find_in` meets its contract. The loop's invariant: what is sought is the first of the entries from i on.
+-- The measure is how many are left. Assumes nothing.
+use borrow.Author.Rules.{rules}
+use native.Mathlib.Omega.{arith}
+use Prim.Native.Nat.{◌-◌}
+use Rattle.index.proofs.SearchTurns.{leaf_start, leaf_here, leaf_on, leaf_none}
+use Rattle.index.proofs.search.find_in.Goals as goal
+
+pub loop-i-init : goal.loop-i-init
+loop-i-init c = (omega arith, search (rules, leaf_start))
+
+pub returns-then-is_sought : goal.returns-then-is_sought
+returns-then-is_sought c = search (rules, leaf_here)
+
+pub loop-i-preserved : goal.loop-i-preserved
+loop-i-preserved c = (omega arith, search (rules, leaf_on))
+
+pub returns : goal.returns
+returns c = search (rules, leaf_none)
