@@ -1,0 +1,41 @@
+-- `index::search::seek` meets its contract. The loop's invariant: what is sought is what the children from i on have first.
+-- The level falls with each call, what is left of the children with each turn. Assumes nothing.
+use borrow.Author.Rules.{rules}
+use native.Mathlib.Omega.{arith}
+use Prim.Native.Nat.{◌-◌}
+use Rattle.index.proofs.Subtrees.{inner_in, child_in}
+use Rattle.index.proofs.SearchTurns.{at_leaf, found_leaf, seek_start, seek_here, seek_on, seek_none}
+use Rattle.index.proofs.search.+seek.Goals as goal
+
+pub seek_leaf-requires : goal.seek_leaf-requires
+seek_leaf-requires t c = search (rules, at_leaf)
+
+pub returns-then-level-eq0 : goal.returns-then-level-eq0
+returns-then-level-eq0 t c = search (rules, found_leaf)
+
+pub step_to-s-requires : goal.step_to-s-requires
+step_to-s-requires t c = search (rules, inner_in)
+
+pub loop-i-init : goal.loop-i-init
+loop-i-init t c = (omega arith, search (rules, seek_start))
+
+pub child_page-requires-clause-pages_len : goal.child_page-requires-clause-pages_len
+child_page-requires-clause-pages_len t c = omega arith
+
+pub child_page-requires-clause-q_lt_pages_most : goal.child_page-requires-clause-q_lt_pages_most
+child_page-requires-clause-q_lt_pages_most t c = omega arith
+
+pub child_page-requires-clause-i_lt_inner_most : goal.child_page-requires-clause-i_lt_inner_most
+child_page-requires-clause-i_lt_inner_most t c = omega arith
+
+pub seek-f-requires : goal.seek-f-requires
+seek-f-requires t c = (omega arith, search (rules, child_in))
+
+pub returns-in-Here : goal.returns-in-Here
+returns-in-Here t c = search (rules, seek_here)
+
+pub loop-i-preserved : goal.loop-i-preserved
+loop-i-preserved t c = (omega arith, search (rules, seek_on))
+
+pub returns : goal.returns
+returns t c = search (rules, seek_none)
