@@ -317,10 +317,12 @@ module _ (s : List ℕ) (n pg u : ℕ) (e : Item) (g : GrowIn s (suc n) pg u e) 
 
     -- ---- and the page is full
     zero_in : (xs : List P.Child) (y : P.Child) → In y (zero_first xs) → (o : P.Child) × In o xs × (o.page ≡ y.page)
+    zero_in [] y x'' = elim x'' [ ]
     zero_in (o ∷ xs) y (inl i) = (o, inl refl, ap (λ k. k.page) i)
     zero_in (o ∷ xs) y (inr i) = (y, inr i, refl)
 
     zero_small : (xs : List P.Child) → Inner.Smalls xs → Inner.Smalls (zero_first xs)
+    zero_small [] m y x3 = elim x3 [ ]
     zero_small (o ∷ xs) m y (inl i) = subst ChildFits i (record { low = lit< tt; page = (m o (inl refl)).page })
     zero_small (o ∷ xs) m y (inr i) = m y (inr i)
 

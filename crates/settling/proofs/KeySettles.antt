@@ -108,6 +108,7 @@ module _ (commits : Bool) (t k : ℕ) where
   place_settled : (d : Item) (es : List Item) (i : ℕ) → i < length es → ascend es ≡ true → eqb (get_or es i d).key k ≡ true
       → key_settled commits t k es ≡ at (eqb (get_or es i d).owner t) i (get_or es i d) es
   unfolding key_settled join remove_at left
+  place_settled d [] i h a e = elim h [ ]
   place_settled d (y ∷ ys) zero h a e =
       let r : Item → Item → Bool = λ a b. ltb a.key b.key in
       ap (λ b. cond b (left (end_of commits) t y) (y ∷ []) ++ key_settled commits t k ys) e

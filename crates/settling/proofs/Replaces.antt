@@ -138,6 +138,7 @@ module _ (e : Item) where
       go false h = refl
 
   over_small : EntryFits e → (es : List Item) → Smalls es → Smalls (over es)
+  over_small m [] f x x3 = elim x3 [ ]
   over_small m (y ∷ ys) f x (inl i) = subst EntryFits i (go (eqb y.key e.key))
     where
       go : (b : Bool) → EntryFits (cond b e y)

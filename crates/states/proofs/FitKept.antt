@@ -114,4 +114,5 @@ module _ {ls : List (Option (Lock ℕ))} {qs : List (Queued ℕ ℕ)} {ms : List
       (pairs_last (λ p q. not (eqb p.asker q.asker)) qs q fit.askers (sym (not_any (λ q. eqb q.asker t) qs) ∙ ap not new))
     where
       last : (p : Queued ℕ ℕ) → In p (record { asker = t; asks = a } ∷ []) → QueuedFits p
+      last p (inr x') = elim x' [ ]
       last p (inl e) = subst QueuedFits e (record { some = low; most = high; asks = asks })

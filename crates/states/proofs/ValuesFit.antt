@@ -96,6 +96,7 @@ ask_read v (delete k) = refl
 -- ---- who asks: where askers differ, the first request of an asker is the only one
 pub asker_first : (qs : List (Queued ℕ ℕ)) (q : Queued ℕ ℕ) → pairs (λ p q. not (eqb p.asker q.asker)) qs ≡ true → In q qs
     → first (λ p. eqb p.asker q.asker) qs ≡ some q
+asker_first [] q e x'' = elim x'' [ ]
 asker_first (p ∷ qs) q e (inl h) =
     first_hit (λ p. eqb p.asker q.asker) p qs (eq-eqb p.asker q.asker (ap (λ x. x.asker) h)) ∙ ap some h
 asker_first (p ∷ qs) q e (inr i) =

@@ -1,0 +1,19 @@
+-- `judging_pages::are_seen` meets its contract. The invariant: the test of all pages is the test of those from q on.
+-- The measure is the number of pages left. Assumes nothing.
+use borrow.Author.Rules.{rules}
+use Prim.Native.Nat.{◌-◌}
+use Rattle.lists.proofs.Scans.{all_bad, all_step, all_end}
+use Rattle.judging_pages.proofs.Fronts.{seen_start}
+use Rattle.judging_pages.proofs.are_seen.Goals as goal
+
+pub loop-q-init : goal.loop-q-init
+loop-q-init c = (search rules, search (rules, seen_start))
+
+pub returns-then-not-has : goal.returns-then-not-has
+returns-then-not-has c = search (rules, all_bad)
+
+pub loop-q-preserved : goal.loop-q-preserved
+loop-q-preserved c = (search rules, search (rules, all_step))
+
+pub returns : goal.returns
+returns c = search (rules, all_end)

@@ -1,0 +1,6 @@
+-- `judging_pages::page::is_between` meets its contract: its test is the definition's.
+-- Assumes nothing.
+use Rattle.judging_pages.proofs.page.is_between.Goals as goal
+
+pub returns : goal.returns
+returns c = cc

@@ -1,0 +1,6 @@
+-- `judging_pages::page::is_in` meets its contract: its test is the definition's.
+-- Assumes nothing.
+use Rattle.judging_pages.proofs.page.is_in.Goals as goal
+
+pub returns : goal.returns
+returns c = cc
