@@ -26,12 +26,14 @@ use Rattle.judging_desk.specs.DeskChecks.{fields_ok, slot_ok}
 -- the locks in use stand in slots
 pub in_use_lem : (ls : List (Option (Lock ℕ))) (l : Lock ℕ) → In l (in_use ls) → In (some l) ls
 unfolding in_use
+in_use_lem [] l m = elim m [ ]
 in_use_lem (none ∷ ls) l m = inr (in_use_lem ls l m)
 in_use_lem (some x ∷ ls) l (inl e) = inl (ap some e)
 in_use_lem (some x ∷ ls) l (inr m) = inr (in_use_lem ls l m)
 
 pub use_in : (ls : List (Option (Lock ℕ))) (l : Lock ℕ) → In (some l) ls → In l (in_use ls)
 unfolding in_use
+use_in [] l x' = elim x' [ ]
 use_in (none ∷ ls) l (inl e) = absurd (let z : ◌≡◌ {A = ℕ} 0 1 = cc in omega arith)
 use_in (none ∷ ls) l (inr m) = use_in ls l m
 use_in (some x ∷ ls) l (inl e) = let y : x ≡ l = cc in inl y

@@ -57,6 +57,8 @@ inner_parts level least lo hi p h =
 
 span_there : (P : Span → Bool) (hi : ℕ) (lo : ℕ) (cs : List Child) → all P (spans lo hi cs) ≡ true → (c : Child) → In c cs → (l : ℕ) × (h : ℕ) × (P (span_of c.page l h) ≡ true)
 unfolding spans all
+span_there P hi lo (c ∷ []) h x (inr m) = elim m [ ]
+span_there P hi lo [] h x x3 = elim x3 [ ]
 span_there P hi lo (c ∷ []) h x (inl e) = (lo, hi, subst (λ y. P (span_of y.page lo hi) ≡ true) e (both (P (span_of c.page lo hi)) true h).0)
 span_there P hi lo (c ∷ d ∷ cs) h x (inl e) =
     (lo, d.low.0, subst (λ y. P (span_of y.page lo d.low.0) ≡ true) e (both (P (span_of c.page lo d.low.0)) (all P (spans d.low.0 hi (d ∷ cs))) h).0)

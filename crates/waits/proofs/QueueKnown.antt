@@ -28,6 +28,7 @@ use Rattle.waits.specs.Blocks.{HoldersKnown}
 
 in_use_lem : {K : Type 0} (l : Lock K) (ls : List (Option (Lock K))) → In (some l) ls → In l (in_use ls)
 unfolding in_use
+in_use_lem {K = K} l mathlib.Core.List.[] x' = elim x' [ ]
 in_use_lem l (none ∷ ls) (inl e) = let z : ◌≡◌ {A = ℕ} 0 1 = cc in absurd (omega arith)
 in_use_lem l (none ∷ ls) (inr i) = in_use_lem l ls i
 in_use_lem l (some k ∷ ls) (inl e) = inl (cc)

@@ -1,0 +1,12 @@
+-- `waits::lightest::lightest_from` meets its contract. The invariant: the best is the lightest of those before q. The measure is how many are left.
+-- Assumes nothing.
+use borrow.Author.Rules.{rules}
+use Prim.Native.Nat.{◌-◌}
+use Rattle.waits.proofs.Yielders.{best_start, best_end}
+use Rattle.waits.proofs.lightest.lightest_from.Goals as goal
+
+pub loop-q-init : goal.loop-q-init
+loop-q-init c = (search rules, search (rules, best_start))
+
+pub returns : goal.returns
+returns c = search (rules, best_end)
