@@ -43,6 +43,7 @@ module _ {A B : Type 0} (f : A → List B) where
 
   pub in_join : (xs : List A) (x : A) (y : B) → In x xs → In y (f x) → In y (join f xs)
   unfolding join
+  in_join [] x y x4 i = elim x4 [ ]
   in_join (z ∷ zs) x y (inl e) i = in_left (f z) (join f zs) y (subst (λ w. In y (f w)) (sym e) i)
   in_join (z ∷ zs) x y (inr j) i = in_right (f z) (join f zs) y (in_join zs x y j i)
 
@@ -54,6 +55,7 @@ module _ {A B : Type 0} (f : A → List B) where
 -- only one element counts
 only : {A : Type 0} (f : A → ℕ) (xs : List A) (x y : A) → In x xs → In y xs → 0 < f x → 0 < f y → summed f xs ≤ 1 → y ≡ x
 unfolding summed
+only {A = A} f [] x y x7 _ h k l = elim x7 [ ]
 only f (z ∷ zs) x y (inl a) (inl b) h k l = sym b ∙ a
 only f (z ∷ zs) x y (inl a) (inr j) h k l = absurd (omega (arith, ap f a, summed_in f zs y j))
 only f (z ∷ zs) x y (inr i) (inl b) h k l = absurd (omega (arith, ap f b, summed_in f zs x i))
@@ -78,6 +80,7 @@ times_drawn (suc n) q t =
 length_drawn : (least n : ℕ) (t : Tree ℕ Item n) → counted ℕ Item document_sizes least n t ≡ true
     → (g : Drawn) → In g (drawn_tree n t) → length g.bytes ≡ page_size
 unfolding drawn_tree counted
+length_drawn least zero t h g (inr i) = elim i [ ]
 length_drawn least zero t h g (inl e) = subst (λ (d : Drawn). length d.bytes ≡ page_size) e (leaf_length t.holds (leb-true (length t.holds) leaf_most h))
 length_drawn least (suc n) t h g (inl e) =
     let f = counted_filled ℕ Item document_sizes least n t h in

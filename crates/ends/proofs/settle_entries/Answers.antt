@@ -1,0 +1,16 @@
+-- `ends::settle_entries` meets its contract. The loop's invariant: what t still owns stands under a lock from slot i on.
+-- The measure is how many slots are left. Assumes nothing.
+use borrow.Author.Rules.{rules}
+use native.Mathlib.Omega.{arith}
+use Prim.Native.Nat.{◌-◌}
+use Rattle.ends.proofs.Owned.{onward_first, onward_next, onward_last}
+use Rattle.ends.proofs.settle_entries.Goals as goal
+
+pub loop-i-init : goal.loop-i-init
+loop-i-init c = (omega arith, search (rules, onward_first))
+
+pub loop-i-preserved : goal.loop-i-preserved
+loop-i-preserved c = (omega arith, search (rules, onward_next))
+
+pub returns : goal.returns
+returns c = search (rules, onward_last)

@@ -1,0 +1,34 @@
+-- `judging_order::pass_tree` meets its contract. Measure: the level. The invariant: the walk over the entries is the one over those of the
+-- children from i on, from where it is. Assumes nothing.
+use borrow.Author.Rules.{rules}
+use Prim.Native.Nat.{◌-◌}
+use Rattle.judging_locks.proofs.Fines.{fine_page, fine_leaf, fine_few, fine_child}
+use Rattle.judging_order.proofs.Passing.{past_to_most, tree_leaf, tree_start, tree_stuck, tree_turn, tree_end}
+use Rattle.judging_order.proofs.+pass_tree.Goals as goal
+
+pub pass_leaf-requires-clause-q_lt_pages_most : goal.pass_leaf-requires-clause-q_lt_pages_most
+pass_leaf-requires-clause-q_lt_pages_most t c = search (rules, fine_page)
+
+pub pass_leaf-requires-clause-q_bound : goal.pass_leaf-requires-clause-q_bound
+pass_leaf-requires-clause-q_bound t c = search (rules, fine_leaf)
+
+pub returns-then-level-eq0 : goal.returns-then-level-eq0
+returns-then-level-eq0 t c = search (rules, tree_leaf)
+
+pub count_at-n-requires-clause-q_lt_pages_most : goal.count_at-n-requires-clause-q_lt_pages_most
+count_at-n-requires-clause-q_lt_pages_most t c = search (rules, fine_page)
+
+pub loop-i-init : goal.loop-i-init
+loop-i-init t c = (search (rules, fine_page), (search (rules, fine_few), (search rules, (search rules, search (rules, tree_start)))))
+
+pub pass_tree-passage-requires : goal.pass_tree-passage-requires
+pass_tree-passage-requires t c = (search rules, (search (rules, fine_child), (search rules, (search rules, (search rules, search rules)))))
+
+pub returns-in_default : goal.returns-in_default
+returns-in_default t c = search (rules, tree_stuck)
+
+pub loop-i-preserved : goal.loop-i-preserved
+loop-i-preserved t c = (search rules, (search rules, (search rules, (search (rules, past_to_most), search (rules, tree_turn)))))
+
+pub returns : goal.returns
+returns t c = search (rules, tree_end)

@@ -1,0 +1,15 @@
+-- `judging_order::climb` meets its contract. The invariant: the last slot is that of the place before a, and all places go up exactly where
+-- those from a on do. The measure is the number of places left. Assumes nothing.
+use borrow.Author.Rules.{rules}
+use Prim.Native.Nat.{◌-◌}
+use Rattle.judging_order.proofs.Passing.{now_last, climb_stop, climb_next, climb_end}
+use Rattle.judging_order.proofs.climb.Goals as goal
+
+pub returns-then-not-comes_first : goal.returns-then-not-comes_first
+returns-then-not-comes_first c = (search rules, search (rules, climb_stop))
+
+pub loop-a-preserved : goal.loop-a-preserved
+loop-a-preserved c = (search rules, (search (rules, now_last), search (rules, climb_next)))
+
+pub returns : goal.returns
+returns c = (search rules, search (rules, climb_end))

@@ -1,0 +1,16 @@
+-- `judging_order::have_places` meets its contract. The invariant: all slots have a place exactly where those from i on do.
+-- The measure is the number of slots left.
+-- Assumes nothing.
+use borrow.Author.Rules.{rules}
+use Prim.Native.Nat.{◌-◌}
+use Rattle.lists.proofs.Scans.{all_bad, all_step, all_end}
+use Rattle.judging_order.proofs.have_places.Goals as goal
+
+pub returns-then-not-has_place : goal.returns-then-not-has_place
+returns-then-not-has_place c = search (rules, all_bad)
+
+pub loop-i-preserved : goal.loop-i-preserved
+loop-i-preserved c = (search rules, search (rules, all_step))
+
+pub returns : goal.returns
+returns c = search (rules, all_end)
