@@ -1,5 +1,5 @@
 //! The definitions' own numbers, read from their texts: `NAME = EXPRESSION` of the limits, and lists
-//! of widths as `NAME = 2 ∷ keySize ∷ []`.
+//! of widths as `NAME = 2 ∷ key_size ∷ []`.
 
 use crate::file;
 use std::collections::BTreeMap;
@@ -75,7 +75,7 @@ impl Limits {
         }
     }
 
-    /// The widths that a list writes: `2 ∷ keySize ∷ []`.
+    /// The widths that a list writes: `2 ∷ key_size ∷ []`.
     fn widths(&self, list: &str) -> Vec<usize> {
         let items = list.split('∷').map(str::trim).filter(|item| *item != "[]");
         items.map(|item| self.value(item)).collect()
