@@ -56,15 +56,15 @@ fn the_fields_of_every_layout_follow_on_one_another() {
 #[test]
 fn the_layouts_are_the_width_tables_of_the_definitions() {
     let (page, limits) = (Page::read(), Limits::read());
-    let head = limits.value("headSize");
+    let head = limits.value("head_size");
     let tables = [
-        ("page head", "crates/rows/specs/PageHead.antt", "headWidths", 0),
-        ("page 0", "crates/rows/specs/PageHead.antt", "rootWidths", head),
-        ("entry", "crates/pages/specs/PageLayout.antt", "entryWidths", 0),
-        ("child", "crates/pages/specs/PageLayout.antt", "childWidths", 0),
-        ("transaction", "crates/queue/specs/QueueLayout.antt", "recordWidths", 0),
-        ("lock", "crates/locks/specs/SlotLayout.antt", "lockWidths", 0),
-        ("answer", "crates/answers/specs/AnswerRecord.antt", "answerWidths", 0),
+        ("page head", "crates/rows/specs/PageHead.antt", "head_widths", 0),
+        ("page 0", "crates/rows/specs/PageHead.antt", "root_widths", head),
+        ("entry", "crates/pages/specs/PageLayout.antt", "entry_widths", 0),
+        ("child", "crates/pages/specs/PageLayout.antt", "child_widths", 0),
+        ("transaction", "crates/queue/specs/QueueLayout.antt", "record_widths", 0),
+        ("lock", "crates/locks/specs/SlotLayout.antt", "lock_widths", 0),
+        ("answer", "crates/answers/specs/AnswerRecord.antt", "answer_widths", 0),
     ];
     for (table, path, name, from) in tables {
         agree(table, &page.layout(table), from, &limits.width_table(path, name));
@@ -97,19 +97,19 @@ fn the_requests_are_the_forms_of_the_definitions() {
 fn the_desk_is_that_of_the_definitions() {
     let (page, limits) = (Page::read(), Limits::read());
     let fields = page.layout("desk");
-    let head = limits.width_table("crates/queue/specs/QueueLayout.antt", "headWidths");
+    let head = limits.width_table("crates/queue/specs/QueueLayout.antt", "head_widths");
     agree("desk", &fields[..4], 0, &head);
     let places: Vec<(&str, usize, usize)> =
         fields[4..].iter().map(|field| (field.name.as_str(), field.offset, field.end())).collect();
     let value = |expression| limits.value(expression);
     let expected = [
-        ("queue", value("deskHeadSize"), value("deskHeadSize + queueSize")),
+        ("queue", value("desk_head_size"), value("desk_head_size + queue_size")),
         (
             "transactions",
-            value("recordsPlace"),
-            value("recordsPlace + recordSize * transactionsMost"),
+            value("records_place"),
+            value("records_place + record_size * transactions_most"),
         ),
-        ("locks", value("slotsPlace"), value("deskSize")),
+        ("locks", value("slots_place"), value("desk_size")),
     ];
     assert_eq!(places, expected);
 }
@@ -128,17 +128,17 @@ fn the_sizes_are_the_limits() {
 fn the_tables_end_at_the_sizes() {
     let (page, limits) = (Page::read(), Limits::read());
     let ends = [
-        ("page head", "headSize"),
-        ("entry", "entrySize"),
-        ("child", "childSize"),
-        ("desk", "deskSize"),
-        ("transaction", "recordSize"),
-        ("lock", "slotSize"),
-        ("answer", "answerSize"),
-        ("request", "requestHeadSize"),
-        ("read", "readSize"),
-        ("insert", "insertSize"),
-        ("delete", "deleteSize"),
+        ("page head", "head_size"),
+        ("entry", "entry_size"),
+        ("child", "child_size"),
+        ("desk", "desk_size"),
+        ("transaction", "record_size"),
+        ("lock", "slot_size"),
+        ("answer", "answer_size"),
+        ("request", "request_head_size"),
+        ("read", "read_size"),
+        ("insert", "insert_size"),
+        ("delete", "delete_size"),
     ];
     for (table, size) in ends {
         let end = page.layout(table).last().expect("a field").end();
@@ -152,7 +152,7 @@ fn an_expression_is_worked_out() {
     assert_eq!(limits.value("2 + 3 * 4 - 6 / 2"), 11);
     assert_eq!(limits.value("(2 + 3) * (4 - 1)"), 15);
     assert_eq!(limits.value("10 - 3 - 2"), 5);
-    assert_eq!(limits.value("keySize"), 8);
+    assert_eq!(limits.value("key_size"), 8);
     assert!(limits.names().count() > 20, "all limits are read");
 }
 

@@ -10,12 +10,12 @@ use std::process::Command;
 fn the_lengths_are_the_limits() {
     let (defined, limits) = (defined(), Limits::read());
     let lengths = [
-        ("KEYDESK_PAGES", "pagesSize"),
-        ("KEYDESK_DESK", "deskSize"),
-        ("KEYDESK_ANSWERS", "spaceLeast"),
-        ("KEYDESK_ANSWER", "answerSize"),
-        ("KEYDESK_REQUEST", "readSize"),
-        ("KEYDESK_TRANSACTIONS", "transactionsMost"),
+        ("KEYDESK_PAGES", "pages_size"),
+        ("KEYDESK_DESK", "desk_size"),
+        ("KEYDESK_ANSWERS", "space_least"),
+        ("KEYDESK_ANSWER", "answer_size"),
+        ("KEYDESK_REQUEST", "read_size"),
+        ("KEYDESK_TRANSACTIONS", "transactions_most"),
     ];
     for (name, limit) in lengths {
         assert_eq!(defined[name], limits.value(limit) as u64, "{name}");
