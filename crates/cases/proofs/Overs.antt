@@ -45,6 +45,7 @@ records_heard = refl
 
 -- ---- what holds of every element of a list, as an equation of two lists, holds of each
 map_each : {A B : Type 0} (f g : A → B) (xs : List A) (x : A) → In x xs → map f xs ≡ map g xs → f x ≡ g x
+map_each {A = A} {B = B} f g [] x x4 h = elim x4 [ ]
 map_each f g (y ∷ ys) x (inl e) h = ap f (sym e) ∙ ap (λ l. get_or l 0 (f y)) h ∙ ap g e
 map_each f g (y ∷ ys) x (inr i) h = map_each f g ys x i (ap (drop 1) h)
 
