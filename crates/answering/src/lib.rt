@@ -1,4 +1,5 @@
 // One request answered on a whole picture. (Document 01, "Working the queue" and "What the desk says".)
+#![tactic(auto)]
 mod joining;
 mod refusing;
 

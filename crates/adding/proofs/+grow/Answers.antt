@@ -1,5 +1,4 @@
--- `adding::grow` meets its contract: the step at each level is the tree's. The level falls with each call.
--- Assumes nothing.
+-- `adding::grow` meets its contract: the step at each level is the tree's. Assumes nothing.
 use borrow.Author.Rules.{rules}
 use native.Mathlib.Omega.{arith}
 use Rattle.index.proofs.Subtrees.{inner_in}

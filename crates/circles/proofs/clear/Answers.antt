@@ -1,5 +1,4 @@
--- `circles::clear` meets its contract. The invariant: the sets before place t are empty. The measure is what is left of the row.
--- Assumes nothing.
+-- `circles::clear` meets its contract. Assumes nothing.
 use borrow.Author.Rules.{rules}
 use Prim.Native.Nat.{◌-◌}
 use Rattle.circles.proofs.Clearing.{clear_start, clear_turn, clear_end}

@@ -1,5 +1,4 @@
--- `circles::further` meets its contract. The invariant: what those of the set from a number on add to r makes the whole. The measure is what
--- is left of the row. Assumes nothing.
+-- `circles::further` meets its contract. Assumes nothing.
 use borrow.Author.Rules.{rules}
 use Prim.Native.Nat.{◌-◌}
 use Rattle.circles.proofs.CircleTurns.{gather_start}

@@ -1,5 +1,4 @@
--- `circles::next_in` meets its contract. The invariant: none of those passed is in the set. The measure is what is left of them.
--- Assumes nothing.
+-- `circles::next_in` meets its contract. Assumes nothing.
 use borrow.Author.Rules.{rules}
 use Prim.Native.Nat.{◌-◌}
 use Rattle.circles.proofs.Nexts.{none_start, none_on, next_here, none_end}

@@ -1,5 +1,4 @@
--- `circles::reached` meets its contract. The invariant: the links left lead from the set to the whole. The measure is the number of links left.
--- Assumes nothing.
+-- `circles::reached` meets its contract. Assumes nothing.
 use borrow.Author.Rules.{rules}
 use Rattle.circles.proofs.CircleTurns.{reach_turn, reach_stop, reach_end}
 use Rattle.circles.proofs.reached.Goals as goal

@@ -1,5 +1,4 @@
--- `ends::has_many` meets its contract: it ends, and counts no more than it has passed. The measure is how many slots are left.
--- Assumes nothing.
+-- `ends::has_many` meets its contract: it ends, and counts no more than it has passed. Assumes nothing.
 use native.Mathlib.Omega.{arith}
 use Prim.Native.Nat.{◌-◌}
 use Rattle.ends.proofs.has_many.Goals as goal

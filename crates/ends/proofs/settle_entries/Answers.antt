@@ -1,5 +1,4 @@
--- `ends::settle_entries` meets its contract. The loop's invariant: what t still owns stands under a lock from slot i on.
--- The measure is how many slots are left. Assumes nothing.
+-- `ends::settle_entries` meets its contract. Assumes nothing.
 use borrow.Author.Rules.{rules}
 use native.Mathlib.Omega.{arith}
 use Prim.Native.Nat.{◌-◌}

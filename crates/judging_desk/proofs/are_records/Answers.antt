@@ -1,5 +1,4 @@
--- `judging_desk::are_records` meets its contract. The invariant: the test of all records is the test of those from t on.
--- The measure is the number of records left. Assumes nothing.
+-- `judging_desk::are_records` meets its contract. Assumes nothing.
 use borrow.Author.Rules.{rules}
 use Prim.Native.Nat.{◌-◌}
 use Rattle.lists.proofs.Scans.{all_bad, all_step, all_end}

@@ -1,5 +1,4 @@
--- `judging_desk::askers` meets its contract. The invariant: the askers are those set down from place i on.
--- The measure is the number of places left. Assumes nothing.
+-- `judging_desk::askers` meets its contract. Assumes nothing.
 use borrow.Author.Rules.{rules}
 use Prim.Native.Nat.{◌-◌}
 use Rattle.judging_desk.proofs.DeskTurns.{askers_few, askers_start, askers_twice, askers_next, askers_end}

@@ -1,5 +1,4 @@
--- `judging_locks::has_key` meets its contract. Measure: the level. The invariant: some child has the key exactly where one from i on has.
--- Assumes nothing.
+-- `judging_locks::has_key` meets its contract. Assumes nothing.
 use borrow.Author.Rules.{rules}
 use Prim.Native.Nat.{◌-◌}
 use Rattle.judging_locks.proofs.Fines.{fine_page, fine_leaf, fine_few, fine_child, find_leaf, find_start, find_hit, find_next, find_end}

@@ -1,5 +1,4 @@
--- `judging_locks::owners_hold` meets its contract. Measure: the level. The invariant: the test of all children is the test of those from i on.
--- Assumes nothing.
+-- `judging_locks::owners_hold` meets its contract. Assumes nothing.
 use borrow.Author.Rules.{rules}
 use Prim.Native.Nat.{◌-◌}
 use Rattle.judging_locks.proofs.Fines.{fine_page, fine_leaf, fine_few, fine_child, owners_leaf, owners_start, owners_bad, owners_next, owners_end}

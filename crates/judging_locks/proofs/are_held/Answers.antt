@@ -1,5 +1,4 @@
--- `judging_locks::are_held` meets its contract. The invariant: the test of all entries is the test of those from i on.
--- The measure is the number of places left. Assumes nothing.
+-- `judging_locks::are_held` meets its contract. Assumes nothing.
 use borrow.Author.Rules.{rules}
 use Prim.Native.Nat.{◌-◌}
 use Rattle.lists.proofs.Scans.{all_bad, all_step, all_end}

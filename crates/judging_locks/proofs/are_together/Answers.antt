@@ -1,5 +1,4 @@
--- `judging_locks::are_together` meets its contract. The invariant: every two slots go together exactly where every two from i on do.
--- The measure is the number of places left. Assumes nothing.
+-- `judging_locks::are_together` meets its contract. Assumes nothing.
 use borrow.Author.Rules.{rules}
 use Prim.Native.Nat.{◌-◌}
 use Rattle.locks.specs.SlotLayout.{slots_of}

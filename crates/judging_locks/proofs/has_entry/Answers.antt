@@ -1,5 +1,4 @@
--- `judging_locks::has_entry` meets its contract. The invariant: some entry has the key exactly where one from i on has.
--- The measure is the number of places left. Assumes nothing.
+-- `judging_locks::has_entry` meets its contract. Assumes nothing.
 use borrow.Author.Rules.{rules}
 use Prim.Native.Nat.{◌-◌}
 use Rattle.lists.proofs.Scans.{any_hit, any_step, any_end}

@@ -1,5 +1,4 @@
--- `judging_locks::holds_x` meets its contract. The invariant: some slot holds X exactly where one from i on does.
--- The measure is the number of places left. Assumes nothing.
+-- `judging_locks::holds_x` meets its contract. Assumes nothing.
 use borrow.Author.Rules.{rules}
 use Prim.Native.Nat.{◌-◌}
 use Rattle.lists.proofs.Scans.{any_hit, any_step, any_end}

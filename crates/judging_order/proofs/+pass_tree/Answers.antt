@@ -1,5 +1,4 @@
--- `judging_order::pass_tree` meets its contract. Measure: the level. The invariant: the walk over the entries is the one over those of the
--- children from i on, from where it is. Assumes nothing.
+-- `judging_order::pass_tree` meets its contract. Assumes nothing.
 use borrow.Author.Rules.{rules}
 use Prim.Native.Nat.{◌-◌}
 use Rattle.judging_locks.proofs.Fines.{fine_page, fine_leaf, fine_few, fine_child}

@@ -1,5 +1,4 @@
--- `judging_order::climb` meets its contract. The invariant: the last slot is that of the place before a, and all places go up exactly where
--- those from a on do. The measure is the number of places left. Assumes nothing.
+-- `judging_order::climb` meets its contract. Assumes nothing.
 use borrow.Author.Rules.{rules}
 use Prim.Native.Nat.{◌-◌}
 use Rattle.judging_order.proofs.Passing.{now_last, climb_stop, climb_next, climb_end}

@@ -1,6 +1,4 @@
--- `judging_order::have_places` meets its contract. The invariant: all slots have a place exactly where those from i on do.
--- The measure is the number of slots left.
--- Assumes nothing.
+-- `judging_order::have_places` meets its contract. Assumes nothing.
 use borrow.Author.Rules.{rules}
 use Prim.Native.Nat.{◌-◌}
 use Rattle.lists.proofs.Scans.{all_bad, all_step, all_end}

@@ -1,6 +1,4 @@
--- `judging_order::holds_x_among` meets its contract. The invariant: one of the locks is the X exactly where one from a on is.
--- The measure is the number of places left.
--- Assumes nothing.
+-- `judging_order::holds_x_among` meets its contract. Assumes nothing.
 use borrow.Author.Rules.{rules}
 use Prim.Native.Nat.{◌-◌}
 use Rattle.lists.proofs.Scans.{any_hit, any_step, any_end}

@@ -1,6 +1,4 @@
--- `judging_order::pass_leaf` meets its contract. The invariant: the walk over the entries is the one from i on, from where it is.
--- The measure is the number of entries left.
--- Assumes nothing.
+-- `judging_order::pass_leaf` meets its contract. Assumes nothing.
 use borrow.Author.Rules.{rules}
 use Prim.Native.Nat.{◌-◌}
 use Rattle.judging_locks.proofs.LockTurns.{count_few}

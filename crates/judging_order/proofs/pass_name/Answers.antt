@@ -1,6 +1,4 @@
--- `judging_order::pass_name` meets its contract. The invariant: the stretch from k is the one from j.
--- The measure is the number of places left.
--- Assumes nothing.
+-- `judging_order::pass_name` meets its contract. Assumes nothing.
 use borrow.Author.Rules.{rules}
 use Prim.Native.Nat.{◌-◌}
 use Rattle.judging_order.proofs.Passing.{name_other, name_more, name_end}

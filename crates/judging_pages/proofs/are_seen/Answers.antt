@@ -1,5 +1,4 @@
--- `judging_pages::are_seen` meets its contract. The invariant: the test of all pages is the test of those from q on.
--- The measure is the number of pages left. Assumes nothing.
+-- `judging_pages::are_seen` meets its contract. Assumes nothing.
 use borrow.Author.Rules.{rules}
 use Prim.Native.Nat.{◌-◌}
 use Rattle.lists.proofs.Scans.{all_bad, all_step, all_end}

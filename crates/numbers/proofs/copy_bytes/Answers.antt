@@ -1,5 +1,4 @@
--- `numbers::copy_bytes` meets its contract. The invariant: the first k of the n bytes are copied. The measure is what is left of n.
--- Assumes nothing.
+-- `numbers::copy_bytes` meets its contract. Assumes nothing.
 use borrow.Author.Rules.{rules}
 use Prim.Native.Nat.{◌-◌}
 use lib.ListN.{length-set}

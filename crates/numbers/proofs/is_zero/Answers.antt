@@ -1,5 +1,4 @@
--- `numbers::is_zero` meets its contract. The invariant: all is what was found so far and what is left. The measure is what is left of n.
--- Assumes nothing.
+-- `numbers::is_zero` meets its contract. Assumes nothing.
 use borrow.Author.Rules.{rules}
 use Prim.Native.Nat.{◌-◌}
 use Rattle.numbers.proofs.ByteTurns.{test_start, test_turn, test_end}

@@ -1,5 +1,4 @@
--- `numbers::move_up` meets its contract. The invariant: all of the n bytes but the first k are moved. The measure is k.
--- Assumes nothing.
+-- `numbers::move_up` meets its contract. Assumes nothing.
 use borrow.Author.Rules.{rules}
 use Prim.Native.Nat.{◌-◌}
 use lib.ListN.{length-set}

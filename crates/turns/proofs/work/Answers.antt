@@ -1,5 +1,4 @@
--- `turns::work` meets its contract. The invariant: what the whole queue says is what has been written and what the rest will say.
--- The measure is how many are queued. Assumes nothing.
+-- `turns::work` meets its contract. Assumes nothing.
 use borrow.Author.Rules.{rules}
 use Rattle.turns.proofs.Works.{left_start, left_room, left_less, left_turn, left_done, left_rests, left_space, left_pages, left_desk}
 use Rattle.turns.proofs.work.Goals as goal

@@ -1,5 +1,4 @@
--- `index::descent::leaf_for` meets its contract: a leaf is itself the one, and in an inner page it is that of the child.
--- The level falls with each call. Assumes nothing.
+-- `index::descent::leaf_for` meets its contract: a leaf is itself the one, and in an inner page it is that of the child. Assumes nothing.
 use borrow.Author.Rules.{rules}
 use native.Mathlib.Omega.{arith}
 use Rattle.index.proofs.Subtrees.{inner_in}

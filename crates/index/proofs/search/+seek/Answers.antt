@@ -1,5 +1,4 @@
--- `index::search::seek` meets its contract. The loop's invariant: what is sought is what the children from i on have first.
--- The level falls with each call, what is left of the children with each turn. Assumes nothing.
+-- `index::search::seek` meets its contract. Assumes nothing.
 use borrow.Author.Rules.{rules}
 use native.Mathlib.Omega.{arith}
 use Prim.Native.Nat.{◌-◌}

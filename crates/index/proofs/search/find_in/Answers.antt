@@ -1,5 +1,4 @@
--- `index::search::find_in` meets its contract. The loop's invariant: what is sought is the first of the entries from i on.
--- The measure is how many are left. Assumes nothing.
+-- `index::search::find_in` meets its contract. Assumes nothing.
 use borrow.Author.Rules.{rules}
 use native.Mathlib.Omega.{arith}
 use Prim.Native.Nat.{◌-◌}

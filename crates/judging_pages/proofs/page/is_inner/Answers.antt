@@ -1,5 +1,4 @@
--- `judging_pages::page::is_inner` meets its contract. The invariant: the test of all children after the first is the test of those from i on.
--- The measure is the number of children left. Assumes nothing.
+-- `judging_pages::page::is_inner` meets its contract. Assumes nothing.
 use borrow.Author.Rules.{rules}
 use Prim.Native.Nat.{◌-◌}
 use Rattle.judging_pages.proofs.PageTurns.{inner_few, inner_some, inner_headless, inner_bad, inner_next, inner_done}

@@ -1,5 +1,4 @@
--- `judging_pages::page::is_leaf` meets its contract. The invariant: the test of all entries is the test of those from i on, above `last` or
--- from the low end on. The measure is the number of entries left. Assumes nothing.
+-- `judging_pages::page::is_leaf` meets its contract. Assumes nothing.
 use borrow.Author.Rules.{rules}
 use Prim.Native.Nat.{◌-◌}
 use Rattle.judging_pages.proofs.PageTurns.{leaf_few, leaf_headless, leaf_bad, leaf_next, leaf_done}

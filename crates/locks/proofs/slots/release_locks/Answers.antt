@@ -1,5 +1,4 @@
--- `locks::release_locks` meets its contract. The invariant: the first i slots are released, the others as they were.
--- The measure is the number of slots left. Assumes nothing.
+-- `locks::release_locks` meets its contract. Assumes nothing.
 use borrow.Author.Rules.{rules}
 use Prim.Native.Nat.{◌-◌}
 use Rattle.locks.proofs.Releases.{release_start, release_turn, release_end}

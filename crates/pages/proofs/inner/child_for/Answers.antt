@@ -1,5 +1,4 @@
--- `pages::inner::child_for` meets its contract. The invariant: the separators at 1 to i are at most the key.
--- The measure is what is left of the children. Assumes nothing.
+-- `pages::inner::child_for` meets its contract. Assumes nothing.
 use borrow.Author.Rules.{rules}
 use Prim.Native.Nat.{◌-◌}
 use Rattle.pages.proofs.PageSearches.{child_start, child_on, child_here, child_end}

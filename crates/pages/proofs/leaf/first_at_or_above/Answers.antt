@@ -1,5 +1,4 @@
--- `pages::leaf::first_at_or_above` meets its contract. The invariant: where keys ascend, the place lies between low and high. The measure is
--- the number of places left. Assumes nothing.
+-- `pages::leaf::first_at_or_above` meets its contract. Assumes nothing.
 use borrow.Author.Rules.{rules}
 use Prim.Native.Nat.{◌-◌}
 use Rattle.pages.proofs.PageSearches.{between_start, between_lower, between_upper, between_end}

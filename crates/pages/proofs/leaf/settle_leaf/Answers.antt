@@ -1,5 +1,4 @@
--- `pages::leaf::settle_leaf` meets its contract. The invariant: the first i rows are settled, and what is left of them takes j rows.
--- The measure is what is left of the rows. Assumes nothing.
+-- `pages::leaf::settle_leaf` meets its contract. Assumes nothing.
 use borrow.Author.Rules.{rules}
 use Prim.Native.Nat.{◌-◌}
 use Rattle.pages.proofs.LeafSettling.{settled_none, settled_turn, settled_all}

@@ -1,5 +1,4 @@
--- `queue::place_in_queue` meets its contract. The invariant: the place is i, and the place in the queue from i on.
--- The measure is the number of places left. Assumes nothing.
+-- `queue::place_in_queue` meets its contract. Assumes nothing.
 use borrow.Author.Rules.{rules}
 use Prim.Native.Nat.{◌-◌}
 use Rattle.lists.proofs.Scans.{scan_start_of, scan_next, scan_found, scan_done}

@@ -1,5 +1,4 @@
--- `settling::settling::settle` meets its contract. The loop's invariant: the pages below q are settled, the others as they were.
--- The measure is how many are left. Assumes nothing.
+-- `settling::settling::settle` meets its contract. Assumes nothing.
 use borrow.Author.Rules.{rules}
 use native.Mathlib.Omega.{arith}
 use Prim.Native.Nat.{◌-◌}

@@ -1,5 +1,4 @@
--- `waits::blocked::oldest` meets its contract. The queue's invariant: the search has come to the next place; the locks': what is collected is
--- that of the slots before i. The measures are what is left of each. Assumes nothing.
+-- `waits::blocked::oldest` meets its contract. Assumes nothing.
 use borrow.Author.Rules.{rules}
 use Prim.Native.Nat.{◌-◌}
 use Rattle.waits.proofs.BlockerSets.{scan_start, scan_end}

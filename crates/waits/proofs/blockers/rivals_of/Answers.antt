@@ -1,5 +1,4 @@
--- `waits::blockers::rivals_of` meets its contract. The invariant: the set has those of the places before i.
--- The measure is the number of places left. Assumes nothing.
+-- `waits::blockers::rivals_of` meets its contract. Assumes nothing.
 use borrow.Author.Rules.{rules}
 use Prim.Native.Nat.{◌-◌}
 use Rattle.waits.proofs.Noting.{noted_to}

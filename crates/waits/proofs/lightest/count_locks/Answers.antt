@@ -1,5 +1,4 @@
--- `waits::lightest::count_locks` meets its contract. The invariant: the slots before i are counted. The measure is how many are left.
--- Assumes nothing.
+-- `waits::lightest::count_locks` meets its contract. Assumes nothing.
 use borrow.Author.Rules.{rules}
 use Prim.Native.Nat.{◌-◌}
 use Rattle.waits.proofs.Counting.{counted_start, counted_end}

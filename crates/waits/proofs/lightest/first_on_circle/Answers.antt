@@ -1,5 +1,4 @@
--- `waits::lightest::first_on_circle` meets its contract. The invariant: none before q lies on a circle. The measure is how many are left.
--- Assumes nothing.
+-- `waits::lightest::first_on_circle` meets its contract. Assumes nothing.
 use borrow.Author.Rules.{rules}
 use Prim.Native.Nat.{◌-◌}
 use Rattle.waits.proofs.Yielders.{nobody_start, nobody_next, nobody_end}

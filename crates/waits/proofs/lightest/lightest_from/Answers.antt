@@ -1,5 +1,4 @@
--- `waits::lightest::lightest_from` meets its contract. The invariant: the best is the lightest of those before q. The measure is how many are left.
--- Assumes nothing.
+-- `waits::lightest::lightest_from` meets its contract. Assumes nothing.
 use borrow.Author.Rules.{rules}
 use Prim.Native.Nat.{◌-◌}
 use Rattle.waits.proofs.Yielders.{best_start, best_end}
