@@ -238,6 +238,7 @@ module _ (B : Book) where
       refused u m n i = go (refusal B s t r) refl i
         where
           go : (o : Option (Sy B)) → refusal B s t r ≡ o → In (says B u m) (unless B s t (acts B s t r) o).answers → (u ≡ t) × Why s t r m
+          go (some x) e (inr x3) = elim x3 [ ]
           go none e i = absurd (n (acted_later s t r (acts B s t r) (goes (unrefused s t r e)) (says B u m) i))
           go (some x) e (inl q) =
               let v : x ≡ m = ap (λ (a : An B). a.says) q in

@@ -1,1 +1,2 @@
 // What is promised, in the words of the demands: definitions and theorems; no code of its own.
+#![tactic(auto)]
