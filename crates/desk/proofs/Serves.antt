@@ -60,8 +60,8 @@ module _ (p d o : List ℕ) where
             → Served q (lent p d o) (lent p' d' o') n
         served_good c m p' d' o' n a = good (book_call c) n h (j.sound (not-false b e)) (sym k ∙ ap book_heard m) a (omega arith)
 
-pub judged_whole : (p d : List ℕ) (b : Bool) → Judged p d b → not b ≡ false → Whole p d
-judged_whole p d b j e = j.sound (not-false b e)
+pub judged_whole : (p d : List ℕ) (b : Bool) → Judged p d b → b ≡ true → Whole p d
+judged_whole p d b j e = j.sound e
 
 pub heard_right : (q : List ℕ) (x : Heard) → book_heard x ≡ heard q → (c : Call) → x ≡ Good c → legal_call book (book_call c) ≡ true
 heard_right q x k c m = heard_legal book.paging q (book_call c) (sym k ∙ ap book_heard m)

@@ -158,9 +158,9 @@ module _ (B : Book) where
   works_later (ran {as' = bs} w m h r k) = one_more _ bs (later m.says r.never.1 r.never.2 r.never.3) (works_later k)
   works_later (gave_way {as' = bs} w h k) = one_more _ bs tt (works_later k)
 
-  last_later : (s : St B) (t : ℕ) (last : List (An B)) → SaidLast B s t last → AllLater last
-  last_later s t last (nothing_more h) = λ a i. absurd i
-  last_later s t last (waits_behind u l b f) = one_more _ [] tt (λ a i. absurd i)
+  last_later : (s : St B) (t : ℕ) (says : List (An B)) → SaidLast B s t says → AllLater says
+  last_later s t says (nothing_more h) = λ a i. absurd i
+  last_later s t says (waits_behind u l b f) = one_more _ [] tt (λ a i. absurd i)
 
   acted_later : (s : St B) (t : ℕ) (r : Request B.Key B.Rec) (w : Worked B) → Acts B s t r w → AllLater w.answers
   acted_later s t begin w h = let x = h.begins refl in subst AllLater (sym x.1) (one_more _ h.others tt (works_later x.0))
@@ -170,9 +170,9 @@ module _ (B : Book) where
       let x = h.asks a refl in
       subst AllLater (sym x.3) (λ y i. go x.0 y (append_in h.others x.0 y i) (works_later x.1) (last_later w.state t x.0 x.2))
     where
-      go : (last : List (An B)) (y : An B) → In y h.others ⊎ In y last → AllLater h.others → AllLater last → Later y.says
-      go last y (inl i) f k = f y i
-      go last y (inr i) f k = k y i
+      go : (says : List (An B)) (y : An B) → In y h.others ⊎ In y says → AllLater h.others → AllLater says → Later y.says
+      go says y (inl i) f k = f y i
+      go says y (inr i) f k = k y i
 
   -- ---- a call
   -- where the queue is worked from
