@@ -1,6 +1,6 @@
 -- An insert of a missing key, from the root: the tree grown, with a new root if it was divided, and page 0 written, is the index with the
 -- entry, whole again. Page 0 and a new root are pages apart from the tree's. Assumes nothing.
-use Rattle.limits.specs.Limits.{pages_most, page_size, pages_size}
+use Rattle.limits.specs.Limits.{pages_most}
 use Rattle.pages.specs.PageLayout.{EntryFits, ChildFits, children_of}
 use Rattle.rows.specs.PageHead.{root_of, used_of, height_of, put_root}
 use Prim.Native.Nat.{ℕ, suc, ◌+◌, ◌-◌, ◌≤◌, ◌<◌, compare}
@@ -11,13 +11,12 @@ use mathlib.Core.List.{List, [], ◌∷◌, map}
 use mathlib.Core.Option.{some}
 use native.Mathlib.Omega.{arith}
 use lib.Dec.{leb, eqb, lit<, lit≤}
-use lib.ListN.{length, replicate}
 use borrow.Author.Tests.{le-leb, lt-leb, eq-eqb}
 use Rattle.lists.specs.Lists.{In}
 use Rattle.rules.specs.Document.{end_mark}
 use Rattle.rules.proofs.Orders.{numbers_ordered}
 use Rattle.pages.specs.declared.Child as P
-use Rattle.trees.specs.Trees.{Child, Index, WholeIndex, document_sizes, summed, above, times}
+use Rattle.trees.specs.Trees.{Index, WholeIndex, document_sizes, summed, above, times}
 use Rattle.trees.specs.Growth as G
 use Rattle.trees.specs.Growth.{missing, rooted, with_item, fits, needed}
 use Rattle.trees.proofs.PageCounts.{grown_times, above_yes}

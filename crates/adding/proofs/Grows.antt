@@ -22,7 +22,6 @@ use Rattle.pages.specs.declared.Child as P
 use Rattle.pages.specs.KeyPlaces.{EntryPlace}
 use Rattle.pages.specs.PageChanges.{entry_put}
 use Rattle.pages.proofs.EntryRows.{length_entries}
-use Rattle.trees.specs.Trees.{Child}
 use Rattle.trees.specs.Growth as G
 use Rattle.trees.specs.Growth.{halves, grown}
 use Rattle.adding.specs.declared.Grown.{Grown}

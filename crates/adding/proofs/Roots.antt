@@ -1,20 +1,17 @@
 -- Page 0 and the new root, as the code writes them: the parts that are lent are those pages, and a page of zeros with two children is the
 -- page written from the two. Assumes nothing.
 use Prim.Native.Nat.{ℕ, ◌+◌, ◌*◌, ◌-◌, ◌≤◌, ◌<◌}
-use mathlib.Core.Path.{◌≡◌, sym, ap, ◌∙◌}
+use mathlib.Core.Path.{◌≡◌, ap, ◌∙◌}
 use mathlib.Core.List.{List, [], ◌∷◌}
-use native.Mathlib.Nat.{mul-zero}
 use native.Mathlib.Omega.{arith}
 use lib.Dec.{lit≤}
 use lib.ListN.{length, take, drop, replicate}
 use borrow.Rule.Slice.PartMut.{put_mid}
 use Rattle.limits.specs.Limits.{page_size, child_size, inner_most}
-use Rattle.lists.specs.Lists.{tab, insert_at}
+use Rattle.lists.specs.Lists.{insert_at}
 use Rattle.pages.specs.declared.Child as P
 use Rattle.rows.specs.PageHead.{count_of, put_head, put_root}
-use Rattle.rows.specs.PageRows.{row_at, rows_of, with_rows}
 use Rattle.pages.specs.PageChanges.{child_put}
-use Rattle.rows.proofs.WithRows.{with_own}
 use Rattle.index.specs.Pictures.{page_at, put_page, blank_page, inner_page}
 use Rattle.adding.specs.Growing.{root_page, RootIn}
 use Rattle.index.proofs.Buffers.{page_lent, page_back, page_other}

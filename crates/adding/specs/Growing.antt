@@ -8,7 +8,7 @@ use Rattle.lists.specs.Lists.{insert_at}
 use Rattle.pages.specs.declared.Child as P
 use Rattle.pages.specs.PageLayout.{EntryFits, ChildFits, entries_of, children_of}
 use Rattle.rows.specs.PageHead.{count_of}
-use Rattle.trees.specs.Trees.{Child, Tree, document_sizes, times}
+use Rattle.trees.specs.Trees.{Tree, document_sizes, times}
 use Rattle.trees.specs.Growth as G
 use Rattle.adding.specs.declared.Grown.{Grown}
 use Rattle.adding.specs.declared.Grown.TheVariants.{Short, Same, Split}

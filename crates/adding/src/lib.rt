@@ -1,5 +1,6 @@
 // An insert of a missing key: into the leaf, and the pages divided upward where they are full.
 #![tactic(auto)]
+
 ghost use Rattle.std.specs.Prelude.{◌≡◌, true, [], ◌∷◌, length, replicate};
 ghost use Prim.Native.Nat.{◌+◌, ◌≤◌, ◌<◌, compare};
 ghost use Rattle.limits.specs.Limits.{pages_most, page_size};

@@ -1,5 +1,6 @@
 // One request answered on a whole picture. (Document 01, "Working the queue" and "What the desk says".)
 #![tactic(auto)]
+
 mod joining;
 mod refusing;
 

@@ -1,5 +1,6 @@
 // Answers as values and as records. (Document 01, "What the desk says", "Records and pages".)
 #![tactic(auto)]
+
 ghost use Rattle.std.specs.Prelude.{◌≡◌, ◌+◌, ◌≤◌, length};
 ghost use Rattle.limits.specs.Limits.{answer_size};
 ghost use Rattle.rules.specs.Runs.{paper, numbered};

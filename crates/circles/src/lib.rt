@@ -2,6 +2,7 @@
 // A set of transactions is a word of `sets`, with number t - 1 for transaction t, so that sixty-four fit. A row has
 // a set for each transaction, at the place of its number: whom its queued request waits behind. Place 0 is not used.
 #![tactic(auto)]
+
 ghost use Rattle.std.specs.Prelude.{◌≡◌, ◌≤◌, ◌<◌, length, replicate};
 ghost use Rattle.circles.specs.CircleSets.{has};
 ghost use Rattle.circles.specs.Search.{with_one, further_on, reached_on, circle_on};

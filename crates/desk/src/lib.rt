@@ -1,5 +1,6 @@
 // The key desk: one call answers one request on lent bytes. (Document 01, "What the desk says".)
 #![tactic(auto)]
+
 mod fresh;
 
 ghost use Rattle.calls.specs.Promise.{Freshened, Served, lent};

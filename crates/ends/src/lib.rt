@@ -1,5 +1,6 @@
 // The end of a transaction. (Document 01, "Keys and entries", "Locks".)
 #![tactic(auto)]
+
 ghost use Rattle.std.specs.Prelude.{◌≡◌, cond, false, ◌≤◌, ◌<◌, ltb, length};
 ghost use Rattle.limits.specs.Limits.{transactions_most, locks_most, desk_size};
 ghost use Rattle.rules.specs.Desk.{ended};

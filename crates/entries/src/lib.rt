@@ -1,5 +1,6 @@
 // Entries as values, and what a first insert, a delete, a commit and a rollback make of them. (Document 01, "Keys and entries".)
 #![tactic(auto)]
+
 ghost use Rattle.std.specs.Prelude.{◌≡◌, true, false, ◌<◌};
 ghost use Rattle.rules.specs.Entries.{is_there, committed, rolled_back, deleted, revived, inserted, ghost};
 ghost use Rattle.entries.specs.EntryMeaning.{book_entry, book_value};

@@ -16,7 +16,7 @@ use Rattle.rules.specs.Document.{end_mark}
 use Rattle.pages.specs.declared.Child as P
 use Rattle.rows.specs.PageHead.{kind_of, root_of, used_of, height_of}
 use Rattle.pages.specs.PageLayout.{entries_of, children_of}
-use Rattle.trees.specs.Trees.{Child, is_page, times, document_sizes, WholeIndex}
+use Rattle.trees.specs.Trees.{is_page, times, document_sizes, WholeIndex}
 use Rattle.trees.specs.Growth.{with_tree, leaves, in_leaves}
 use Rattle.trees.proofs.Thinning.{Thins, leaves_whole}
 use Rattle.trees.proofs.PageCounts.{summed_some}

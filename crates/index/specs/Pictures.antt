@@ -8,7 +8,7 @@ use Rattle.lists.specs.Lists.{In}
 use Rattle.numbers.specs.Numbers.{part, put_part}
 use Rattle.rules.specs.Kinds.{Entry}
 use Rattle.rules.specs.Document.{end_mark}
-use Rattle.trees.specs.Trees.{Child, Tree, Index, WholeIndex, document_sizes, flat}
+use Rattle.trees.specs.Trees.{Tree, Index, WholeIndex, document_sizes, flat}
 use Rattle.pages.specs.declared.Child as P
 use Rattle.rows.specs.PageHead.{put_head, put_root, root_of, used_of, height_of}
 use Rattle.pages.specs.PageLayout.{entries_of, children_of}

@@ -1,5 +1,6 @@
 // The index in lent pages: a B-tree in 64 pages of 512 bytes, made fresh, gone down and searched. (Document 01, "Records and pages".)
 #![tactic(auto)]
+
 pub mod descent;
 mod fresh;
 mod search;

@@ -1,5 +1,6 @@
 // Judging a picture: pages and desk. (Document 01, **Whole**.)
 #![tactic(auto)]
+
 ghost use Rattle.std.specs.Prelude.{◌≡◌, ◌<◌, length};
 ghost use Rattle.limits.specs.Limits.{pages_size, desk_size};
 ghost use Rattle.numbers.specs.Numbers.{Bytes};

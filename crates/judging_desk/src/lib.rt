@@ -1,6 +1,7 @@
 // The desk's own part of **Whole**: its layout, the queue and the records of the transactions, the slots of the lock table. (Document 01,
 // "Records and pages": "queue without repeats, exactly the waiting ones, each legal by 12"; locks "held by running transactions".)
 #![tactic(auto)]
+
 ghost use Rattle.std.specs.Prelude.{◌≡◌, ◌<◌, ◌≤◌, length};
 ghost use Rattle.limits.specs.Limits.{transactions_most, locks_most, desk_size};
 ghost use Rattle.lists.specs.Lists.{tab, all};

@@ -13,7 +13,7 @@ use lib.ListN.{take, drop}
 use Rattle.limits.specs.Limits.{locks_most, page_size, leaf_most}
 use Rattle.lists.specs.Lists.{tab, all, any, pairs}
 use Rattle.lists.proofs.Tables.{tab_next, tab_done}
-use Rattle.rules.specs.Kinds.{Lock, Entry, on, end}
+use Rattle.rules.specs.Kinds.{Lock, on, end}
 use Rattle.rules.specs.Document.{end_mark}
 use Rattle.rules.specs.Entries.{is_there}
 use Rattle.rules.specs.Locks.{conflict}

@@ -1,6 +1,7 @@
 // Locks against one another and against the entries. (Document 01, **Whole**: "owners running and holding X on their entry; locks only on
 // entries or the end, .., compatible, one per holder and name".)
 #![tactic(auto)]
+
 ghost use Rattle.std.specs.Prelude.{◌≡◌, true, ◌<◌, ◌≤◌, ◌+◌, ◌*◌, ◌-◌, length};
 ghost use Rattle.limits.specs.Limits.{locks_most, pages_most, pages_size, leaf_most, desk_size};
 ghost use Rattle.lists.specs.Lists.{tab, all, any, pairs};

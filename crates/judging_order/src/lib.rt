@@ -1,6 +1,7 @@
 // The quick way through the locks: they are put in order of name and holder, and one walk over the entries passes along it. Nothing is
 // promised of the order (`sorting`); so it is looked at first. Where it is none, the plain tests tell (`judging_locks`).
 #![tactic(auto)]
+
 ghost use Rattle.std.specs.Prelude.{◌≡◌, true, ℕ, ◌*◌, ◌<◌, ◌≤◌, ◌+◌, ◌-◌, leb, length};
 ghost use Rattle.limits.specs.Limits.{locks_most, pages_most, pages_size, leaf_most, slot_size, slots_place, desk_size};
 ghost use Rattle.lists.specs.Lists.{tab, all, any};

@@ -13,7 +13,7 @@ use Rattle.limits.specs.Limits.{key_size}
 use Rattle.lists.proofs.Tests.{both, and_both}
 use Rattle.numbers.specs.Numbers.{Fits}
 use Rattle.rules.specs.Kinds.{Entry}
-use Rattle.rules.specs.Entries.{is_there, present}
+use Rattle.rules.specs.Entries.{present}
 use Rattle.pages.specs.PageLayout.{entry_widths, if_bit, bit, entry_in, entry_fields, child_widths, child_in, child_fields}
 use Rattle.pages.proofs.EntryRows.{bit_small, or_small}
 use Rattle.judging_pages.specs.PageChecks.{entry_ok, fillers_ok}

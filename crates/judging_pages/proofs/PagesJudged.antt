@@ -22,7 +22,7 @@ use Rattle.sets.specs.declared.Set.{Set}
 use Rattle.sets.specs.Sets.{has}
 use Rattle.sets.proofs.Sets.{times_in, times_of_has, has_of_times, alone_one, alone_none}
 use Rattle.rules.specs.Document.{end_mark}
-use Rattle.trees.specs.Trees.{times, above}
+use Rattle.trees.specs.Trees.{above}
 use Rattle.trees.proofs.PageCounts.{above_yes, above_no}
 use Rattle.rows.specs.PageHead.{root_of, used_of, height_of}
 use Rattle.index.specs.Pictures.{Item, page_at, index_of, entries_in, WholePages}

@@ -23,7 +23,7 @@ use Rattle.numbers.specs.Numbers.{number_at, part, Bytes}
 use Rattle.numbers.proofs.Numbers.{number_none}
 use Rattle.numbers.proofs.Parts.{length_part}
 use Rattle.numbers.proofs.BytesKept.{bytes_part}
-use Rattle.trees.specs.Trees.{Child, Tree, document_sizes, flat, times, summed, counted, ranges, ranged, first_low, under, inside}
+use Rattle.trees.specs.Trees.{Tree, document_sizes, flat, times, summed, counted, ranges, ranged, first_low, under, inside}
 use Rattle.trees.proofs.Sorted.{sorted_test, test_sorted}
 use Rattle.rows.specs.PageHead.{count_of}
 use Rattle.pages.specs.PageLayout.{child_at, children_of, entries_of}

@@ -1,5 +1,6 @@
 // Judging the page buffer of a picture. (Document 01, "Records and pages", **Whole**.)
 #![tactic(auto)]
+
 pub mod page;
 
 ghost use Rattle.std.specs.Prelude.{◌≡◌, ◌<◌, ◌≤◌, ◌+◌, ◌*◌, length};

@@ -1,5 +1,6 @@
 // Keys: their marks, their order, and how they stand in bytes. (Document 01, "Keys and entries".)
 #![tactic(auto)]
+
 ghost use Rattle.std.specs.Prelude.{◌≡◌, ◌+◌, ◌<◌, ◌≤◌, leb, eqb, ltb, length};
 ghost use Rattle.limits.specs.Limits.{key_size};
 ghost use Rattle.numbers.specs.Numbers.{number_at, put_number};

@@ -1,5 +1,7 @@
 // Document 01's limits and sizes, each once; what follows from others is computed from them. Sizes and places are counted in bytes. The
 // definitions name the same numbers in specs/Limits; `as_named` ties the two together.
+#![tactic(auto)]
+
 ghost use Rattle.std.specs.Prelude.{◌≡◌};
 ghost use Rattle.limits.specs.Named.{named};
 

@@ -1,1 +1,3 @@
+#![tactic(auto)]
+
 // Definitions and laws of lists; no code of its own.

@@ -1,5 +1,6 @@
 // Locks, and the lock table in the desk buffer. Every function takes the whole buffer. (Document 01, "Locks", "Records and pages".)
 #![tactic(auto)]
+
 ghost use Rattle.std.specs.Prelude.{◌≡◌, not};
 ghost use Rattle.rules.specs.Entries.{is_there};
 ghost use Rattle.rules.specs.Locks.{conflict, stronger};

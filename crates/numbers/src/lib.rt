@@ -1,5 +1,7 @@
 // Numbers in lent bytes: little-endian numbers read and written at a place, and bytes copied, moved, set to zero and
 // tested. Every place is counted in bytes from the start of the slice; the caller sees to it that it is in range.
+#![tactic(auto)]
+
 ghost use Rattle.std.specs.Prelude.{◌≡◌, ◌+◌, ◌≤◌, ◌<◌, length};
 ghost use Rattle.numbers.specs.Numbers.{number_at, put_number, copied, moved, zeroed, zero_at};
 

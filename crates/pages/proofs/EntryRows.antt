@@ -15,7 +15,6 @@ use Rattle.numbers.specs.Numbers.{width_of, Fits, Bytes, fields_at}
 use Rattle.numbers.proofs.Fields.{length_put_fields, fields_same, fields_fit}
 use Rattle.numbers.proofs.BytesKept.{bytes_put_fields, bytes_zeros}
 use Rattle.rules.specs.Kinds.{Entry}
-use Rattle.rules.specs.Entries.{left}
 use Rattle.entries.specs.Absent.{or_zero}
 use Rattle.pages.specs.PageLayout.{EntryFits, entry_widths, if_bit, entry_in, bit, entry_fields, entry_at, entries_of}
 use Rattle.rows.specs.PageHead.{count_of}

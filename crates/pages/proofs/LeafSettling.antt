@@ -17,7 +17,6 @@ use Rattle.numbers.specs.Numbers.{put_number, width_of, put_part, copied, zeroed
 use Rattle.rows.specs.RowMoves.{row_moved, cut}
 use Rattle.numbers.proofs.Parts.{touches_put_part, part_apart, put_part_none}
 use Rattle.numbers.proofs.Splices.{put_part_behind, put_row}
-use Rattle.rules.specs.Kinds.{Entry}
 use Rattle.rules.specs.Entries.{ghost, present, left, committed, rolled_back}
 use Rattle.entries.specs.declared.Entry as Code
 use Rattle.entries.specs.EntryMeaning.{book_entry}

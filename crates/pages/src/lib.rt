@@ -1,6 +1,7 @@
 // One page: the bytes that are lent to it, read and changed as the entries of a leaf or the children of an inner page.
 // (Document 01, "Records and pages".)
 #![tactic(auto)]
+
 pub mod inner;
 pub mod leaf;
 

@@ -16,7 +16,7 @@ use Rattle.rules.specs.Entries.{at_most, inserted, put}
 use Rattle.rules.specs.Locks.{Slots, taken, named, itself}
 use Rattle.rules.specs.Queue.{St, Q, Wait, oldest, yields, leave}
 use Rattle.rules.specs.Runs.{done, found, nothing, runs_already, runs_not, waits_already, pages_short, Sy, En, Ran, unmoved, given, taking, read_says, insert_missing, insert_there, insert_as, delete_there, delete_as, run_on, run, Turn, refused, served, turn, worked}
-use Rattle.rules.specs.Desk.{An, runs, waits_now, says, if_so, unless_runs, refusal, begun, ended, joined, waiting_at, acts}
+use Rattle.rules.specs.Desk.{An, runs, waits_now, if_so, unless_runs, refusal, begun, ended, joined, waiting_at, acts}
 use Rattle.rules.specs.Good.{Good}
 use Rattle.rules.proofs.Rest.{turn_leaves, worked_by_turns}
 use Rattle.rules.proofs.Unblocked.{good_queues}

@@ -17,7 +17,7 @@ use Rattle.rules.specs.Kinds.{Book, Ordered, Ask, Request, begin, commit, rollba
 use Rattle.rules.specs.Entries.{committed, rolled_back}
 use Rattle.rules.specs.Queue.{St, Q, Wait, waits, blocker_of, oldest, yields}
 use Rattle.rules.specs.Runs.{done, waiting, runs_already, waits_already, circle, Sy, unmoved, run, left, Turn, refused, served, turn, onward, turns, Worked, worked, AtRest}
-use Rattle.rules.specs.Desk.{Cl, runs, waits_now, says, if_so, unless_runs, refusal, begun, ended, joined, acts, unless, step, is_transaction, legal_ask, legal_request, legal_call, call, state_after, answers_of, fresh, after}
+use Rattle.rules.specs.Desk.{Cl, runs, waits_now, if_so, unless_runs, refusal, begun, ended, joined, acts, unless, step, is_transaction, legal_ask, legal_request, legal_call, call, state_after, answers_of, fresh, after}
 use Rattle.rules.specs.Good.{Good}
 use Rattle.rules.proofs.Keeps.{Kept, Anyone, anyone_may, call_keeps}
 use Rattle.rules.proofs.Rest.{worked_rests}

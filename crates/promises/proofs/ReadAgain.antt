@@ -19,7 +19,7 @@ use Rattle.rules.specs.Entries.{Entries, at_most, committed, rolled_back}
 use Rattle.rules.specs.Locks.{holds, counts, target, named}
 use Rattle.rules.specs.Queue.{St, blocker_of}
 use Rattle.rules.specs.Runs.{done, found, nothing, waiting, runs_already, runs_not, waits_already, is_present, locks_short, pages_short, circle, Sy, En, read_says, run}
-use Rattle.rules.specs.Desk.{runs, begun, joined}
+use Rattle.rules.specs.Desk.{begun, joined}
 use Rattle.rules.specs.Good.{below, ascending, Good}
 use Rattle.rules.proofs.KeyTests.{at_most_itself, at_most_other, at_most_along}
 use Rattle.rules.proofs.Sound.{committed_settles, rolled_back_settles}

@@ -11,7 +11,7 @@ use Rattle.rules.specs.Kinds.{Book, Ordered}
 use Rattle.rules.specs.Desk.{Cl, fresh, after}
 use Rattle.rules.specs.Good.{Good}
 use Rattle.rules.proofs.Cover.{Covers}
-use Rattle.promises.specs.Story.{Deed, story, told, ends}
+use Rattle.promises.specs.Story.{Deed, story, ends}
 use Rattle.promises.specs.Demand3.{KnowsOf, leaves_alone, ThenAndNow}
 use Rattle.promises.proofs.Deeds.{tells_at, good_after, good_at, story_tells, more_deeds, story_more, more_tells}
 use Rattle.promises.proofs.Told.{told_covered}

@@ -1,7 +1,7 @@
 -- The words of demand 3, each on one short story: what it says there, so that a reader sees that each means what it should. The story is
 -- played by the rule book of document 01, on pages that never run short. Assumes nothing.
 use Rattle.std.specs.Prelude.{ℕ, ◌≡◌, Bool, true, false, not, List, [], ◌∷◌, ◌++◌, map}
-use Rattle.std.proofs.Math.Option.{Option, none, some}
+use Rattle.std.proofs.Math.Option.{none, some}
 use Rattle.lists.specs.Lists.{keep, all}
 use Rattle.rules.specs.Kinds.{Book, Entry, read, insert, delete, Request, begin, commit, ask, Call}
 use Rattle.rules.specs.Runs.{Says, done, found, nothing, waiting, waits_already, is_present}

@@ -5,7 +5,7 @@ use mathlib.Core.List.{List, [], ◌∷◌}
 use borrow.Author.Tests.{ne_eqb}
 use Rattle.limits.specs.Limits.{key_size}
 use Rattle.numbers.specs.Numbers.{number_at, fields_at}
-use Rattle.rules.specs.Kinds.{Ask, read, insert, delete}
+use Rattle.rules.specs.Kinds.{read, insert, delete}
 use Rattle.keys.specs.declared.Key.{Key}
 use Rattle.requests.specs.declared.Ask as A
 use Rattle.requests.specs.declared.Ask.TheVariants as AV

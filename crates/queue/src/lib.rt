@@ -1,6 +1,7 @@
 // The queue and the records of the transactions in the desk buffer, with its head. Every function takes the whole buffer. A transaction is a
 // number from 1 on, of the two bytes that it is written in. (Document 01, "Working the queue", "Records and pages".)
 #![tactic(auto)]
+
 pub mod head;
 mod places;
 pub mod transactions;

@@ -1,5 +1,6 @@
 // Requests as values and as records: the call that a slice of bytes is, or number 12. (Document 01, "What the desk says", "Records and pages".)
 #![tactic(auto)]
+
 ghost use Rattle.std.specs.Prelude.{◌≡◌, true, ◌+◌, ◌<◌, ◌≤◌, length};
 ghost use Rattle.limits.specs.Limits.{key_size, read_size, delete_size};
 ghost use Rattle.numbers.specs.Numbers.{number_at};

@@ -1,6 +1,7 @@
 // Rows of one width in lent bytes, and one page as its head and its rows. What a row holds is not known here.
 // (Document 01, "Records and pages".)
 #![tactic(auto)]
+
 pub mod head;
 mod moving;
 

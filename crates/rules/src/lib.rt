@@ -1,1 +1,3 @@
+#![tactic(auto)]
+
 // The rule book: definitions and theorems; no code of its own.

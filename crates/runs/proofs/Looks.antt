@@ -5,7 +5,7 @@ use mathlib.Core.Path.{◌≡◌, sym, ap, ap₂, subst, ◌∙◌}
 use mathlib.Core.Bool.{Bool, true, false, cond}
 use mathlib.Core.List.{List}
 use lib.Dec.{leb}
-use Rattle.rules.specs.Kinds.{Entry, S, Ask, read}
+use Rattle.rules.specs.Kinds.{S, Ask, read}
 use Rattle.rules.specs.Locks.{target, named}
 use Rattle.rules.specs.Runs.{nothing, locks_short, locked, taking, read_says, run_on, run}
 use Rattle.keys.specs.declared.Key.{Key}

@@ -1,5 +1,6 @@
 // The run of a request that nobody blocks, on a whole picture. (Document 01, "Working the queue" and "What the desk says".)
 #![tactic(auto)]
+
 mod deleting;
 mod inserting;
 mod locking;

@@ -1,5 +1,6 @@
 // Sets of numbers below 128, by value: those below 64 in one word, the others in a second.
 #![tactic(auto)]
+
 pub mod word;
 
 ghost use Rattle.std.specs.Prelude.{◌≡◌, ◌<◌};

@@ -1,7 +1,7 @@
 -- Tables that a desk has room for: as many slots and marks as there are, no more queued than fit, numbers within their widths. Every good
 -- state of the rule book whose values come from bytes is so. Assumes nothing.
 use Rattle.std.specs.Prelude.{ℕ, suc, ◌≤◌, ◌<◌, ◌≡◌, true, not, List, eqb, length, get_or}
-use Rattle.std.proofs.Math.Option.{Option, some}
+use Rattle.std.proofs.Math.Option.{Option}
 use Rattle.limits.specs.Limits.{transactions_most, locks_most}
 use Rattle.lists.specs.Lists.{In, pairs}
 use Rattle.rules.specs.Kinds.{Ask, read, insert, delete, Queued, Mark, idle, Lock, Name, on, end}

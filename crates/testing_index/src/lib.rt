@@ -1,6 +1,7 @@
 // For the tests: the index through C linkage, on a page buffer of any bytes. Each door judges the buffer itself and does nothing where it is
 // not whole. An entry passes as key, owner, now and before; a record that is absent passes as a number above every record.
 #![tactic(auto)]
+
 mod fields;
 
 ghost use Rattle.index.specs.Pictures.{WholePages};

@@ -1,5 +1,6 @@
 // The queue worked to rest, turn by turn. (Document 01, "Working the queue".)
 #![tactic(auto)]
+
 ghost use Rattle.std.specs.Prelude.{◌≡◌, ◌+◌, ◌*◌, ◌<◌, ◌≤◌, length};
 ghost use Rattle.std.proofs.Math.Option.{none};
 ghost use Rattle.limits.specs.Limits.{transactions_most, answer_size};

@@ -1,6 +1,7 @@
 // Who waits, and behind whom: a request's target, all who block it, the oldest request that isn't blocked, the lightest on a circle.
 // (Document 01, "Locks" and "Working the queue".) Everything is worked out from the bytes of a whole picture, afresh each turn.
 #![tactic(auto)]
+
 ghost use Rattle.std.specs.Prelude.{◌≡◌, not, ◌&&◌, eqb};
 ghost use Rattle.rules.specs.Locks.{clash};
 ghost use Rattle.states.specs.States.{book};

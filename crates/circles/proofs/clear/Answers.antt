@@ -1,6 +1,5 @@
 -- `circles::clear` meets its contract. Assumes nothing.
 use borrow.Author.Rules.{rules}
-use Prim.Native.Nat.{◌-◌}
 use Rattle.circles.proofs.Clearing.{clear_start, clear_turn, clear_end}
 use Rattle.circles.proofs.clear.Goals as goal
 

@@ -1,6 +1,5 @@
 -- `circles::further` meets its contract. Assumes nothing.
 use borrow.Author.Rules.{rules}
-use Prim.Native.Nat.{◌-◌}
 use Rattle.circles.proofs.CircleTurns.{gather_start}
 use Rattle.circles.proofs.Nexts.{next_below, next_less, gather_next, gather_none}
 use Rattle.circles.proofs.further.Goals as goal

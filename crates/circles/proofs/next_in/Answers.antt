@@ -1,6 +1,5 @@
 -- `circles::next_in` meets its contract. Assumes nothing.
 use borrow.Author.Rules.{rules}
-use Prim.Native.Nat.{◌-◌}
 use Rattle.circles.proofs.Nexts.{none_start, none_on, next_here, none_end}
 use Rattle.circles.proofs.next_in.Goals as goal
 

@@ -1,6 +1,5 @@
 -- `ends::has_many` meets its contract: it ends, and counts no more than it has passed. Assumes nothing.
 use native.Mathlib.Omega.{arith}
-use Prim.Native.Nat.{◌-◌}
 use Rattle.ends.proofs.has_many.Goals as goal
 
 pub loop-i-init : goal.loop-i-init

@@ -1,7 +1,6 @@
 -- `ends::settle_entries` meets its contract. Assumes nothing.
 use borrow.Author.Rules.{rules}
 use native.Mathlib.Omega.{arith}
-use Prim.Native.Nat.{◌-◌}
 use Rattle.ends.proofs.Owned.{onward_first, onward_next, onward_last}
 use Rattle.ends.proofs.settle_entries.Goals as goal
 

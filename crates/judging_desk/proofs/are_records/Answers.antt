@@ -1,6 +1,5 @@
 -- `judging_desk::are_records` meets its contract. Assumes nothing.
 use borrow.Author.Rules.{rules}
-use Prim.Native.Nat.{◌-◌}
 use Rattle.lists.proofs.Scans.{all_bad, all_step, all_end}
 use Rattle.judging_desk.proofs.are_records.Goals as goal
 

@@ -1,6 +1,5 @@
 -- `judging_desk::askers` meets its contract. Assumes nothing.
 use borrow.Author.Rules.{rules}
-use Prim.Native.Nat.{◌-◌}
 use Rattle.judging_desk.proofs.DeskTurns.{askers_few, askers_start, askers_twice, askers_next, askers_end}
 use Rattle.judging_desk.proofs.askers.Goals as goal
 

@@ -1,6 +1,5 @@
 -- `judging_locks::has_key` meets its contract. Assumes nothing.
 use borrow.Author.Rules.{rules}
-use Prim.Native.Nat.{◌-◌}
 use Rattle.judging_locks.proofs.Fines.{fine_page, fine_leaf, fine_few, fine_child, find_leaf, find_start, find_hit, find_next, find_end}
 use Rattle.judging_locks.proofs.+has_key.Goals as goal
 

@@ -1,6 +1,5 @@
 -- `judging_locks::owners_hold` meets its contract. Assumes nothing.
 use borrow.Author.Rules.{rules}
-use Prim.Native.Nat.{◌-◌}
 use Rattle.judging_locks.proofs.Fines.{fine_page, fine_leaf, fine_few, fine_child, owners_leaf, owners_start, owners_bad, owners_next, owners_end}
 use Rattle.judging_locks.proofs.+owners_hold.Goals as goal
 

@@ -1,6 +1,5 @@
 -- `judging_locks::are_held` meets its contract. Assumes nothing.
 use borrow.Author.Rules.{rules}
-use Prim.Native.Nat.{◌-◌}
 use Rattle.lists.proofs.Scans.{all_bad, all_step, all_end}
 use Rattle.judging_locks.proofs.LockTurns.{count_few, held_start}
 use Rattle.judging_locks.proofs.are_held.Goals as goal

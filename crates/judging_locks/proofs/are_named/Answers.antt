@@ -1,6 +1,5 @@
 -- `judging_locks::are_named` meets its contract. Assumes nothing.
 use borrow.Author.Rules.{rules}
-use Prim.Native.Nat.{◌-◌}
 use Rattle.lists.proofs.Scans.{all_bad, all_step, all_end}
 use Rattle.locks.specs.SlotLayout.{slots_of}
 use Rattle.judging_locks.proofs.are_named.Goals as goal

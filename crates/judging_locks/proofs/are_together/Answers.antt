@@ -1,6 +1,5 @@
 -- `judging_locks::are_together` meets its contract. Assumes nothing.
 use borrow.Author.Rules.{rules}
-use Prim.Native.Nat.{◌-◌}
 use Rattle.locks.specs.SlotLayout.{slots_of}
 use Rattle.judging_locks.proofs.LockTurns.{pairs_bad, pairs_step, pairs_end}
 use Rattle.judging_locks.proofs.are_together.Goals as goal

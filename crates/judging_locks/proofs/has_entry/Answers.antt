@@ -1,6 +1,5 @@
 -- `judging_locks::has_entry` meets its contract. Assumes nothing.
 use borrow.Author.Rules.{rules}
-use Prim.Native.Nat.{◌-◌}
 use Rattle.lists.proofs.Scans.{any_hit, any_step, any_end}
 use Rattle.judging_locks.proofs.LockTurns.{count_few, key_start}
 use Rattle.judging_locks.proofs.has_entry.Goals as goal

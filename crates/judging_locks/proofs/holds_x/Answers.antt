@@ -1,6 +1,5 @@
 -- `judging_locks::holds_x` meets its contract. Assumes nothing.
 use borrow.Author.Rules.{rules}
-use Prim.Native.Nat.{◌-◌}
 use Rattle.lists.proofs.Scans.{any_hit, any_step, any_end}
 use Rattle.locks.specs.SlotLayout.{slots_of}
 use Rattle.judging_locks.proofs.holds_x.Goals as goal

@@ -1,6 +1,5 @@
 -- `judging_locks::stands_with_later` meets its contract. Assumes nothing.
 use borrow.Author.Rules.{rules}
-use Prim.Native.Nat.{◌-◌}
 use Rattle.lists.proofs.Scans.{all_bad, all_step, all_end}
 use Rattle.judging_locks.proofs.LockTurns.{later_free}
 use Rattle.judging_locks.proofs.stands_with_later.Goals as goal

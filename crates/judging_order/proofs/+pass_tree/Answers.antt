@@ -1,6 +1,5 @@
 -- `judging_order::pass_tree` meets its contract. Assumes nothing.
 use borrow.Author.Rules.{rules}
-use Prim.Native.Nat.{◌-◌}
 use Rattle.judging_locks.proofs.Fines.{fine_page, fine_leaf, fine_few, fine_child}
 use Rattle.judging_order.proofs.Passing.{past_to_most, tree_leaf, tree_start, tree_stuck, tree_turn, tree_end}
 use Rattle.judging_order.proofs.+pass_tree.Goals as goal

@@ -12,7 +12,7 @@ use Rattle.judging_order.proofs.+pass_tree.Given as goal
 
 abbrev pub invariant-loop-i : goal.invariant-loop-i
 invariant-loop-i l =
-      (l.q < pages_most)
+    (l.q < pages_most)
     × ((l.n ≤ inner_most)
     × ((l.i ≤ l.n)
     × ((l.at ≤ l.m)

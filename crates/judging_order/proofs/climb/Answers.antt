@@ -1,6 +1,5 @@
 -- `judging_order::climb` meets its contract. Assumes nothing.
 use borrow.Author.Rules.{rules}
-use Prim.Native.Nat.{◌-◌}
 use Rattle.judging_order.proofs.Passing.{now_last, climb_stop, climb_next, climb_end}
 use Rattle.judging_order.proofs.climb.Goals as goal
 

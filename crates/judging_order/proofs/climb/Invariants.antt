@@ -9,7 +9,7 @@ use Rattle.judging_order.proofs.climb.Given as goal
 
 abbrev pub invariant-loop-a : goal.invariant-loop-a
 invariant-loop-a l =
-      (1 ≤ l.a)
+    (1 ≤ l.a)
     × ((book_slot l.last ≡ placed l.d l.order (l.a - 1))
     × (all (goes_up l.d l.order) (tab (l.m - 1) 1 (λ x. x)) ≡ all (goes_up l.d l.order) (tab (l.m - l.a) l.a (λ x. x))))
 

@@ -1,6 +1,5 @@
 -- `judging_order::holds_x_among` meets its contract. Assumes nothing.
 use borrow.Author.Rules.{rules}
-use Prim.Native.Nat.{◌-◌}
 use Rattle.lists.proofs.Scans.{any_hit, any_step, any_end}
 use Rattle.judging_order.proofs.holds_x_among.Goals as goal
 

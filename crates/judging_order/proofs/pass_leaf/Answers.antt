@@ -1,6 +1,5 @@
 -- `judging_order::pass_leaf` meets its contract. Assumes nothing.
 use borrow.Author.Rules.{rules}
-use Prim.Native.Nat.{◌-◌}
 use Rattle.judging_locks.proofs.LockTurns.{count_few}
 use Rattle.judging_order.proofs.Passing.{leaf_start, entry_to_most, leaf_stuck, leaf_turn, leaf_end}
 use Rattle.judging_order.proofs.pass_leaf.Goals as goal

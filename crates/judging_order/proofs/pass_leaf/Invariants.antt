@@ -12,7 +12,7 @@ use Rattle.judging_order.proofs.pass_leaf.Given as goal
 
 abbrev pub invariant-loop-i : goal.invariant-loop-i
 invariant-loop-i l =
-      (l.n ≤ leaf_most)
+    (l.n ≤ leaf_most)
     × ((l.i ≤ l.n)
     × ((l.at ≤ l.m)
     × (past (placed l.d l.order) l.m (entries_of (page_at l.pages l.q)) l.k ≡ past (placed l.d l.order) l.m (tab (l.n - l.i) l.i (entry_at (page_at l.pages l.q))) l.at)))

@@ -1,6 +1,5 @@
 -- `judging_order::pass_name` meets its contract. Assumes nothing.
 use borrow.Author.Rules.{rules}
-use Prim.Native.Nat.{◌-◌}
 use Rattle.judging_order.proofs.Passing.{name_other, name_more, name_end}
 use Rattle.judging_order.proofs.pass_name.Goals as goal
 

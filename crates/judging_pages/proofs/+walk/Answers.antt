@@ -1,6 +1,5 @@
 -- `judging_pages::walk` meets its contract. Assumes nothing.
 use borrow.Author.Rules.{rules}
-use Prim.Native.Nat.{◌-◌}
 use Rattle.judging_pages.proofs.WalkTurns.{walk_unmarked, marked_page, walk_page_bad, walk_leaf, walk_few, walk_over_lem, walk_start, walk_next, walk_stop, walk_end}
 use Rattle.judging_pages.proofs.+walk.Goals as goal
 

@@ -1,6 +1,5 @@
 -- `judging_pages::are_seen` meets its contract. Assumes nothing.
 use borrow.Author.Rules.{rules}
-use Prim.Native.Nat.{◌-◌}
 use Rattle.lists.proofs.Scans.{all_bad, all_step, all_end}
 use Rattle.judging_pages.proofs.Fronts.{seen_start}
 use Rattle.judging_pages.proofs.are_seen.Goals as goal

@@ -1,6 +1,5 @@
 -- `numbers::copy_bytes` meets its contract. Assumes nothing.
 use borrow.Author.Rules.{rules}
-use Prim.Native.Nat.{◌-◌}
 use lib.ListN.{length-set}
 use Rattle.numbers.proofs.ByteMoves.{copied_none}
 use Rattle.numbers.proofs.ByteTurns.{copy_turn, copy_end}

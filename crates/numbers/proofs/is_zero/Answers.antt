@@ -1,6 +1,5 @@
 -- `numbers::is_zero` meets its contract. Assumes nothing.
 use borrow.Author.Rules.{rules}
-use Prim.Native.Nat.{◌-◌}
 use Rattle.numbers.proofs.ByteTurns.{test_start, test_turn, test_end}
 use Rattle.numbers.proofs.is_zero.Goals as goal
 

@@ -1,6 +1,5 @@
 -- `numbers::move_down` meets its contract. Assumes nothing.
 use borrow.Author.Rules.{rules}
-use Prim.Native.Nat.{◌-◌}
 use lib.ListN.{length-set}
 use Rattle.numbers.proofs.ByteMoves.{copied_none}
 use Rattle.numbers.proofs.ByteTurns.{move_down_turn, copy_end}

@@ -1,6 +1,5 @@
 -- `numbers::move_up` meets its contract. Assumes nothing.
 use borrow.Author.Rules.{rules}
-use Prim.Native.Nat.{◌-◌}
 use lib.ListN.{length-set}
 use Rattle.numbers.proofs.ByteTurns.{move_up_start, move_up_turn, move_up_end}
 use Rattle.numbers.proofs.move_up.Goals as goal

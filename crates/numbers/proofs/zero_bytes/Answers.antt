@@ -1,6 +1,5 @@
 -- `numbers::zero_bytes` meets its contract. Assumes nothing.
 use borrow.Author.Rules.{rules}
-use Prim.Native.Nat.{◌-◌}
 use lib.ListN.{length-set}
 use Rattle.numbers.proofs.ByteMoves.{zeroed_none}
 use Rattle.numbers.proofs.ByteTurns.{zero_turn, zero_end}

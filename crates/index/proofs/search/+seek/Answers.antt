@@ -1,7 +1,6 @@
 -- `index::search::seek` meets its contract. Assumes nothing.
 use borrow.Author.Rules.{rules}
 use native.Mathlib.Omega.{arith}
-use Prim.Native.Nat.{◌-◌}
 use Rattle.index.proofs.Subtrees.{inner_in, child_in}
 use Rattle.index.proofs.SearchTurns.{at_leaf, found_leaf, seek_start, seek_here, seek_on, seek_none}
 use Rattle.index.proofs.search.+seek.Goals as goal

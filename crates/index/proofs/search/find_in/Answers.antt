@@ -1,7 +1,6 @@
 -- `index::search::find_in` meets its contract. Assumes nothing.
 use borrow.Author.Rules.{rules}
 use native.Mathlib.Omega.{arith}
-use Prim.Native.Nat.{◌-◌}
 use Rattle.index.proofs.SearchTurns.{leaf_start, leaf_here, leaf_on, leaf_none}
 use Rattle.index.proofs.search.find_in.Goals as goal
 

@@ -1,6 +1,5 @@
 -- `judging_pages::page::is_inner` meets its contract. Assumes nothing.
 use borrow.Author.Rules.{rules}
-use Prim.Native.Nat.{◌-◌}
 use Rattle.judging_pages.proofs.PageTurns.{inner_few, inner_some, inner_headless, inner_bad, inner_next, inner_done}
 use Rattle.judging_pages.proofs.page.is_inner.Goals as goal
 

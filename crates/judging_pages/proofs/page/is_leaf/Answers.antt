@@ -1,6 +1,5 @@
 -- `judging_pages::page::is_leaf` meets its contract. Assumes nothing.
 use borrow.Author.Rules.{rules}
-use Prim.Native.Nat.{◌-◌}
 use Rattle.judging_pages.proofs.PageTurns.{leaf_few, leaf_headless, leaf_bad, leaf_next, leaf_done}
 use native.Mathlib.Nat.{sub-zero}
 use Rattle.judging_pages.proofs.page.is_leaf.Goals as goal

@@ -1,6 +1,5 @@
 -- `locks::release_locks` meets its contract. Assumes nothing.
 use borrow.Author.Rules.{rules}
-use Prim.Native.Nat.{◌-◌}
 use Rattle.locks.proofs.Releases.{release_start, release_turn, release_end}
 use Rattle.locks.proofs.slots.release_locks.Goals as goal
 

@@ -1,6 +1,5 @@
 -- `pages::inner::child_for` meets its contract. Assumes nothing.
 use borrow.Author.Rules.{rules}
-use Prim.Native.Nat.{◌-◌}
 use Rattle.pages.proofs.PageSearches.{child_start, child_on, child_here, child_end}
 use Rattle.pages.proofs.inner.child_for.Goals as goal
 

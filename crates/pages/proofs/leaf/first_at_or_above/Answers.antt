@@ -1,6 +1,5 @@
 -- `pages::leaf::first_at_or_above` meets its contract. Assumes nothing.
 use borrow.Author.Rules.{rules}
-use Prim.Native.Nat.{◌-◌}
 use Rattle.pages.proofs.PageSearches.{between_start, between_lower, between_upper, between_end}
 use Rattle.pages.proofs.leaf.first_at_or_above.Goals as goal
 

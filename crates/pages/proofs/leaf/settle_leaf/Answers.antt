@@ -1,6 +1,5 @@
 -- `pages::leaf::settle_leaf` meets its contract. Assumes nothing.
 use borrow.Author.Rules.{rules}
-use Prim.Native.Nat.{◌-◌}
 use Rattle.pages.proofs.LeafSettling.{settled_none, settled_turn, settled_all}
 use Rattle.pages.proofs.leaf.settle_leaf.Goals as goal
 

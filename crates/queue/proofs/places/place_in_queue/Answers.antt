@@ -1,6 +1,5 @@
 -- `queue::place_in_queue` meets its contract. Assumes nothing.
 use borrow.Author.Rules.{rules}
-use Prim.Native.Nat.{◌-◌}
 use Rattle.lists.proofs.Scans.{scan_start_of, scan_next, scan_found, scan_done}
 use Rattle.queue.specs.QueueLayout.{queued_at, queue_of}
 use Rattle.queue.specs.QueueMoves.{waits_in}

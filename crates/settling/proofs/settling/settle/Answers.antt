@@ -1,7 +1,6 @@
 -- `settling::settling::settle` meets its contract. Assumes nothing.
 use borrow.Author.Rules.{rules}
 use native.Mathlib.Omega.{arith}
-use Prim.Native.Nat.{◌-◌}
 use Rattle.settling.proofs.Settles.{used_some, settled_none, leaf_in, settled_on, settled_all}
 use Rattle.settling.proofs.settling.settle.Goals as goal
 

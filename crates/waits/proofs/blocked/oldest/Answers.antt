@@ -1,6 +1,5 @@
 -- `waits::blocked::oldest` meets its contract. Assumes nothing.
 use borrow.Author.Rules.{rules}
-use Prim.Native.Nat.{◌-◌}
 use Rattle.waits.proofs.BlockerSets.{scan_start, scan_end}
 use Rattle.waits.proofs.WaitRows.{rows_left}
 use Rattle.waits.proofs.OldestTurns.{seek_start, seek_left, seek_rows, seek_names, seek_modes, seek_row, seek_on, seek_chosen}

@@ -1,6 +1,5 @@
 -- `waits::blockers::rivals_of` meets its contract. Assumes nothing.
 use borrow.Author.Rules.{rules}
-use Prim.Native.Nat.{◌-◌}
 use Rattle.waits.proofs.Noting.{noted_to}
 use Rattle.waits.proofs.BlockerSets.{rivals_start, rivals_turn, rivals_end}
 use Rattle.waits.proofs.blockers.rivals_of.Goals as goal

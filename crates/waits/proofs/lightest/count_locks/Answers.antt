@@ -1,6 +1,5 @@
 -- `waits::lightest::count_locks` meets its contract. Assumes nothing.
 use borrow.Author.Rules.{rules}
-use Prim.Native.Nat.{◌-◌}
 use Rattle.waits.proofs.Counting.{counted_start, counted_end}
 use Rattle.waits.proofs.lightest.count_locks.Goals as goal
 

@@ -1,6 +1,5 @@
 -- `waits::lightest::first_on_circle` meets its contract. Assumes nothing.
 use borrow.Author.Rules.{rules}
-use Prim.Native.Nat.{◌-◌}
 use Rattle.waits.proofs.Yielders.{nobody_start, nobody_next, nobody_end}
 use Rattle.waits.proofs.lightest.first_on_circle.Goals as goal
 

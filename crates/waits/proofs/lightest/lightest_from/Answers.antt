@@ -1,6 +1,5 @@
 -- `waits::lightest::lightest_from` meets its contract. Assumes nothing.
 use borrow.Author.Rules.{rules}
-use Prim.Native.Nat.{◌-◌}
 use Rattle.waits.proofs.Yielders.{best_start, best_end}
 use Rattle.waits.proofs.lightest.lightest_from.Goals as goal
 
