@@ -1,4 +1,6 @@
 // The desk as a program. Its stream in the gate ends with a record that is answered.
-fn main() {
-    streams::run();
+#![tactic(auto)]
+
+fn main(rt: HostRuntime) {
+    streams::run(&rt);
 }

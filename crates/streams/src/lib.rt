@@ -1,10 +1,13 @@
 // The desk on a stream: starts fresh, reads request records from standard input, writes only the answer records to standard output,
 // stops at the first number 12 or at the end (document 01, "Records and pages"), and says on standard error why it has stopped. What is read
 // and written no contract can speak of, so that is tested and not proved; the desk that it calls is proved.
-ghost use Rattle.std.specs.Prelude.{◌≡◌, ◌+◌, ◌≤◌, length};
+#![tactic(auto)]
+
+ghost use Rattle.std.specs.Prelude.{◌≡◌, ◌≤◌, length};
 ghost use Rattle.limits.specs.Limits.{read_size};
 
-use libc::{STDERR_FILENO, STDIN_FILENO, STDOUT_FILENO};
+use std::io;
+use std::io::Read;
 
 // The longest record that there is. Of one that says to be longer nothing more is waited for: it is bad, whatever follows.
 const LONGEST: usize = limits::READ_SIZE;
@@ -55,13 +58,19 @@ fn wanted(input: &[u8], at: usize, end: usize) -> usize
 }
 
 // Answers one record. A number other than 0 stands above the answers' bytes, and is so more than any space.
-fn answer(pages: &mut [u8], desk: &mut [u8], answers: &mut [u8], record: &[u8]) -> Stop {
+fn answer(
+    rt: &impl Print,
+    pages: &mut [u8],
+    desk: &mut [u8],
+    answers: &mut [u8],
+    record: &[u8],
+) -> Stop {
     let returned = desk::keydesk_serve(pages, desk, answers, record);
     let n = returned as usize;
     if n > answers.len() {
         return Stop::Bad;
     }
-    if io::write_all(STDOUT_FILENO, &answers[0..n]) {
+    if rt.write_all(&answers[0..n]).is_ok() {
         return Stop::Not;
     }
     Stop::Unwritten
@@ -69,6 +78,7 @@ fn answer(pages: &mut [u8], desk: &mut [u8], answers: &mut [u8], record: &[u8]) 
 
 // Answers the records that stand whole before `end`, one after the other.
 fn answer_piece(
+    rt: &impl Print,
     pages: &mut [u8],
     desk: &mut [u8],
     answers: &mut [u8],
@@ -88,7 +98,7 @@ fn answer_piece(
                 stop: Stop::Not,
             };
         }
-        let stop = answer(pages, desk, answers, &input[at..at + n]);
+        let stop = answer(rt, pages, desk, answers, &input[at..at + n]);
         let Stop::Not = stop else {
             return Piece {
                 answered: at,
@@ -106,8 +116,8 @@ fn answer_piece(
 }
 
 // Nothing more comes: why, with what is left.
-fn no_more(got: isize, left: usize) -> Stop {
-    if got < 0 {
+fn no_more(got: io::Result<usize>, left: usize) -> Stop {
+    if got.is_err() {
         return Stop::Unread;
     }
     if left > 0 {
@@ -118,6 +128,8 @@ fn no_more(got: isize, left: usize) -> Stop {
 
 // One turn: reads more behind what is left, and answers what is whole then. What is left of that goes to the front.
 fn go_on(
+    rt: &impl Print,
+    reader: &mut impl Read,
     pages: &mut [u8],
     desk: &mut [u8],
     answers: &mut [u8],
@@ -128,8 +140,11 @@ fn go_on(
     requires left_le_read_size { left ≤ read_size }
     ensures { result.left ≤ read_size }
 {
-    let got = libc::read(STDIN_FILENO, &mut input[left..65536]);
-    let more = io::count(got, &input[left..65536]);
+    let got = reader.read(&mut input[left..65536]);
+    let more = match got {
+        Ok(n) => n,
+        Err(_) => 0,
+    };
     if more == 0 {
         return Piece {
             answered: 0,
@@ -137,7 +152,7 @@ fn go_on(
             stop: no_more(got, left),
         };
     }
-    let piece = answer_piece(pages, desk, answers, input, left + more);
+    let piece = answer_piece(rt, pages, desk, answers, input, left + more);
     let n = piece.left;
     numbers::move_down(input, left + more - n, 0, n);
     piece
@@ -145,53 +160,66 @@ fn go_on(
 
 // Goes on until there is a reason to stop, which it says with the byte of the input, counted from 0, at which it stopped. A proved loop has
 // to end, and nothing says that the input does: it counts its turns down, from a number that no run uses up.
-fn go_through(pages: &mut [u8], desk: &mut [u8], answers: &mut [u8], input: &mut [u8])
+fn go_through(
+    rt: &(impl Print + Eprint),
+    reader: &mut impl Read,
+    pages: &mut [u8],
+    desk: &mut [u8],
+    answers: &mut [u8],
+    input: &mut [u8],
+)
     requires { length input.old ≡ 65536 }
 {
     let mut left: usize = 0;
     let mut at: u64 = 0;
     let mut turns = u64::MAX;
     while turns > 0 {
-        let piece = go_on(pages, desk, answers, input, left);
-        at = std::num::wrapping_add_u64(at, piece.answered as u64);
+        let piece = go_on(rt, reader, pages, desk, answers, input, left);
+        at = at.wrapping_add(piece.answered as u64);
         let stop = piece.stop;
         let Stop::Not = stop else {
-            say(stop, at);
+            say(rt, stop, at);
             return;
         };
         left = piece.left;
         turns -= 1;
     }
-    say(Stop::Not, at);
+    say(rt, Stop::Not, at);
 }
 
-// Says on standard error why the stream has stopped, in one line. (The toolchain has no exit status to say it with.)
-fn say(stop: Stop, at: u64) {
-    say_why(stop);
-    io::print_decimal(STDERR_FILENO, at);
-    io::write_all(STDERR_FILENO, b"\n");
+// Says on standard error why the stream has stopped, in one line. The exit status does not say it.
+fn say(rt: &impl Eprint, stop: Stop, at: u64) {
+    let _ = say_why(rt, stop);
+    let _ = eprintln!(rt; "{at}");
 }
 
-fn say_why(stop: Stop) -> bool {
+fn say_why(rt: &impl Eprint, stop: Stop) -> io::Result<()> {
     match stop {
-        Stop::Not => io::write_all(STDERR_FILENO, b"keydesk: out of turns, at byte "),
-        Stop::Ended => io::write_all(STDERR_FILENO, b"keydesk: the input ended, at byte "),
-        Stop::Cut => io::write_all(STDERR_FILENO, b"keydesk: cut record at byte "),
-        Stop::Bad => io::write_all(STDERR_FILENO, b"keydesk: bad record at byte "),
-        Stop::Unwritten => io::write_all(
-            STDERR_FILENO,
-            b"keydesk: a write failed, of the answers to the record at byte ",
+        Stop::Not => eprint!(rt; "keydesk: out of turns, at byte "),
+        Stop::Ended => eprint!(rt; "keydesk: the input ended, at byte "),
+        Stop::Cut => eprint!(rt; "keydesk: cut record at byte "),
+        Stop::Bad => eprint!(rt; "keydesk: bad record at byte "),
+        Stop::Unwritten => eprint!(rt;
+            "keydesk: a write failed, of the answers to the record at byte "
         ),
-        Stop::Unread => io::write_all(STDERR_FILENO, b"keydesk: a read failed, at byte "),
+        Stop::Unread => eprint!(rt; "keydesk: a read failed, at byte "),
     }
 }
 
 // The whole stream.
-pub fn run() {
+pub fn run(rt: &(impl Input + Print + Eprint)) {
     let mut pages = [0u8; limits::PAGES_SIZE];
     let mut desk = [0u8; limits::DESK_SIZE];
     let mut answers = [0u8; limits::SPACE_LEAST];
-    let mut input = io::large_buffer();
+    let mut input = [0u8; 65536];
+    let mut reader = rt.reader();
     desk::keydesk_fresh(&mut pages, &mut desk);
-    go_through(&mut pages, &mut desk, &mut answers, &mut input);
+    go_through(
+        rt,
+        &mut reader,
+        &mut pages,
+        &mut desk,
+        &mut answers,
+        &mut input,
+    );
 }
