@@ -12,27 +12,25 @@ use std::{env, process};
 /// A folder of this test alone with a small repository.
 struct Folder(PathBuf);
 
-/// Proves three crates: what lies below the desk first, and then the desk with its library. What was
-/// proved before it says so of.
+/// Proves a crate, in whose folder it is called, and makes the library where the crate is that with
+/// the functions for C. That is proved each time; of others that were proved before nothing is said.
 const RT: &str = "\
-if [ $1 = check ]; then
+crate=$(basename \"$from\")
+mkdir -p \"$from/out\"
+[ $crate != desk_c ] || echo library >\"$from/out/libdesk_c.a\"
+if [ ! -e \"$from/out/proved\" ] || [ $crate = desk_c ]; then
     echo 'library std: modules loaded=0 checked=0'
-    echo 'rt: low proved (1 s)'
-    echo 'rt: middle proved (12 s)'
-    exit
+    echo \"fn $crate::f: proved\" >&2
 fi
-echo 'rt: low proved (unchanged since it was last proved)' >&2
-echo 'rt: middle proved (unchanged since it was last proved)' >&2
-mkdir -p target/staticlib
-echo library >target/staticlib/libdesk.a
-echo 'rt: target/staticlib/libdesk.a has the functions of desk'";
+touch \"$from/out/proved\"";
 
 /// What is called where everything is to be made.
-const ALL: [&str; 3] = ["rt check", "rt staticlib", "cargo build"];
+const ALL: [&str; 5] =
+    ["rt lib low", "rt lib middle", "rt lib desk", "rt lib desk_c", "cargo build"];
 
 const RT_FAILS: &str = "\
-echo 'rt: low proved (1 s)' >&2
-echo 'rt: middle NOT PROVED (exit 1, 2 s)' >&2
+[ $(basename \"$from\") = middle ] || { echo 'fn low::f: proved'; exit; }
+echo 'fn middle::f: not proved' >&2
 exit 1";
 
 /// Makes a program that says how it was started, and what it is given to read.
@@ -42,8 +40,9 @@ echo '#!/usr/bin/env bash' >tests/target/release/play
 echo 'echo \"played $*\"; cat' >>tests/target/release/play
 chmod +x tests/target/release/play";
 
-const FILES: [&str; 9] = [
+const FILES: [&str; 10] = [
     "play",
+    "tools/make",
     ".ci/x86",
     "player/help.txt",
     "player/src/arguments.rs",
@@ -62,9 +61,11 @@ impl Folder {
             folder.make_room(file);
             fs::copy(root.join(file), folder.path(file)).expect("a file can be copied");
         }
-        folder
-            .write("crates.txt", "# low first\nlow:\nmiddle: low\ndesk: low middle\nother: desk\n");
-        for name in ["low", "middle", "desk", "other"] {
+        folder.write(
+            "crates.txt",
+            "# low first\nlow:\nmiddle: low\ndesk: low middle\ndesk_c staticlib: desk\nother: desk\n",
+        );
+        for name in ["low", "middle", "desk", "desk_c", "other"] {
             folder.write(&format!("crates/{name}/src/lib.rt"), "");
         }
         folder.write("bindings/rust/Cargo.toml", "");
@@ -88,10 +89,13 @@ impl Folder {
         fs::write(self.path(file), text).expect("a file can be written");
     }
 
-    /// A command that writes down how it was called, and then does this in the repository.
+    /// A command that writes down how it was called, and `rt` in which folder, and then does this in
+    /// the repository.
     fn stub(&self, name: &str, does: &str) {
         let root = self.0.display();
-        let noted = format!("cd '{root}'\necho \"{name} $*\" >>calls\n{does}\n");
+        let call = if name == "rt" { "rt $* $(basename \"$from\")" } else { "{name} $*" };
+        let call = call.replace("{name}", name);
+        let noted = format!("from=$PWD\ncd '{root}'\necho \"{call}\" >>calls\n{does}\n");
         self.write(&format!("stubs/{name}"), &format!("#!/usr/bin/env bash\n{noted}"));
         let executable = fs::Permissions::from_mode(0o755);
         fs::set_permissions(self.path(&format!("stubs/{name}")), executable).expect("it is ours");
@@ -110,12 +114,17 @@ impl Folder {
         self.script(arguments).output().expect("bash is there")
     }
 
-    /// How `rt` and `cargo` have been called since this was last asked, each by two words.
+    /// How `rt` and `cargo` have been called since this was last asked: `rt` by all words and the
+    /// crate, `cargo` by two words.
     fn calls(&self) -> Vec<String> {
         let calls = fs::read_to_string(self.path("calls")).unwrap_or_default();
         self.write("calls", "");
         let called = calls.lines().filter(|call| !call.starts_with("uname"));
-        called.map(|call| call.split(' ').take(2).collect::<Vec<&str>>().join(" ")).collect()
+        let told = |call: &str| match call.strip_prefix("cargo ") {
+            Some(words) => format!("cargo {}", words.split(' ').next().expect("a word")),
+            None => call.to_string(),
+        };
+        called.map(told).collect()
     }
 
     /// Changes a file now.
@@ -203,8 +212,12 @@ fn the_first_time_it_proves_and_builds_and_tells_each_crate() {
     assert_eq!(printed(&output), "played --show 29\n");
     assert_eq!(output.status.code(), Some(0));
     assert_eq!(folder.calls(), ALL);
-    let expected =
-        ["play: low proved, 2 of 3", "play: middle proved, 1 of 3", "play: desk proved, 0 of 3"];
+    let expected = [
+        "play: low proved, 3 of 4",
+        "play: middle proved, 2 of 4",
+        "play: desk proved, 1 of 4",
+        "play: desk_c proved, 0 of 4",
+    ];
     assert_eq!(progress(&output), expected);
     let first = complained(&output).lines().next().expect("it says what it does");
     assert!(first.starts_with("play: proving the desk and making its library"), "{first}");
@@ -213,12 +226,11 @@ fn the_first_time_it_proves_and_builds_and_tells_each_crate() {
 #[test]
 fn a_crate_that_was_proved_before_is_only_counted() {
     let folder = Folder::new("before");
-    folder.stub(
-        "rt",
-        &RT.replace("low proved (1 s)", "low proved (unchanged since it was last proved)"),
-    );
+    folder.write("crates/low/out/proved", "");
     let output = folder.play(&[]);
-    assert_eq!(progress(&output), ["play: middle proved, 1 of 3", "play: desk proved, 0 of 3"]);
+    let expected =
+        ["play: middle proved, 2 of 4", "play: desk proved, 1 of 4", "play: desk_c proved, 0 of 4"];
+    assert_eq!(progress(&output), expected);
 }
 
 #[test]
@@ -279,15 +291,16 @@ fn where_a_step_fails_the_end_of_its_log_is_shown() {
     let output = folder.play(&[]);
     assert_eq!(output.status.code(), Some(2));
     assert_eq!(printed(&output), "");
-    assert_eq!(progress(&output), ["play: low proved, 2 of 3"]);
+    assert_eq!(progress(&output), ["play: low proved, 3 of 4"]);
     let log = folder.path("target/play.log");
     let end = format!(
-        "rt: low proved (1 s)\nrt: middle NOT PROVED (exit 1, 2 s)\n\
+        "make: low proved, 3 of 4 left\nfn middle::f: not proved\n\
+         make: middle NOT PROVED (rt lib ended with 1)\n\
          play: that failed; {} has the whole output\n",
         log.display()
     );
     assert!(complained(&output).ends_with(&end), "{}", complained(&output));
-    assert_eq!(folder.calls(), ["rt check"]);
+    assert_eq!(folder.calls(), ["rt lib low", "rt lib middle"]);
 
     folder.stub("rt", RT);
     folder.stub("cargo", "echo 'error: no such package' >&2\nexit 101");
