@@ -1,6 +1,6 @@
 /* The key desk: a proved next-key-locking desk over an index in 64 pages.
  *
- * Link with target/staticlib/libdesk.a, which `rt staticlib desk` makes. The library keeps nothing
+ * Link with target/staticlib/libdesk.a, which `tools/make desk` makes. The library keeps nothing
  * between calls, allocates nothing and reads and writes only what it is lent: everything stands in
  * the caller's pages and desk, together "the picture". Slices of one call must not overlap. A slice
  * may have any length and hold any bytes: what is wrong with it is said by the number.

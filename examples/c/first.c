@@ -2,7 +2,7 @@
  * 50..150, which waits; 1 commits, and the commit answers both. Prints the commit's answer records
  * in hex, one to a line. Build from the repository's root:
  *
- *   rt staticlib desk
+ *   tools/make desk
  *   cc -Iinclude examples/c/first.c target/staticlib/libdesk.a -o first
  */
 #include "keydesk.h"

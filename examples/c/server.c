@@ -5,7 +5,7 @@
  * already is loaded instead, without the day. examples/rust/src/bin/server.rs is the same in Rust.
  * Build from the repository's root:
  *
- *   rt staticlib desk
+ *   tools/make desk
  *   cc -std=c99 -Iinclude examples/c/server.c target/staticlib/libdesk.a -o server
  */
 #define _POSIX_C_SOURCE 200112L /* for fsync */
