@@ -129,7 +129,7 @@ fn a_read_that_fails_is_not_taken_for_the_end() {
     assert_eq!(ended.stdout, []);
 }
 
-/// The streams that `rt check` runs the program on, one that ends with a good record and one that a
+/// The streams that `rt ci` runs the program on, one that ends with a good record and one that a
 /// bad record ends: their expected outputs were written by hand from document 01.
 #[test]
 fn the_streams_beside_the_program_are_answered_as_the_model_does() {
