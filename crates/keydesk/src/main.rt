@@ -2,5 +2,5 @@
 #![tactic(auto)]
 
 fn main(rt: HostRuntime) {
-    streams::run(&rt);
+    streams::run(&rt, &mut rt.stdin());
 }

@@ -1,3 +1,2 @@
-#![tactic(auto)]
-
 // Definitions and laws of lists; no code of its own.
+#![tactic(auto)]

@@ -99,9 +99,9 @@ module _ (B : Book) where
   answer_alone t m known = record { known = and_both (is_transaction B t) true known refl; once = refl }
 
   module _ (s : St B) (t : ℕ) (known : is_transaction B t ≡ true)
-      (all_Known : (u : ℕ) → waits_now B s u ≡ true → is_transaction B u ≡ true) where
+      (all_known : (u : ℕ) → waits_now B s u ≡ true → is_transaction B u ≡ true) where
     worked_known : (a : An B) → In a (worked B s).answers → is_transaction B a.asker ≡ true
-    worked_known a i = all_Known a.asker ((worked_served s).waited a i)
+    worked_known a i = all_known a.asker ((worked_served s).waited a i)
 
     -- t is answered first, and has nothing queued
     answer_first : (m : Sy B) → waits_now B s t ≡ false → OnceEach (says B t m ∷ (worked B s).answers)

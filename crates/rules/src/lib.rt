@@ -1,3 +1,2 @@
-#![tactic(auto)]
-
 // The rule book: definitions and theorems; no code of its own.
+#![tactic(auto)]

@@ -206,20 +206,12 @@ fn say_why(rt: &impl Eprint, stop: Stop) -> io::Result<()> {
     }
 }
 
-// The whole stream.
-pub fn run(rt: &(impl Input + Print + Eprint)) {
+// The whole stream: what is read comes from the reader, standard input in the programs.
+pub fn run(rt: &(impl Print + Eprint), reader: &mut impl Read) {
     let mut pages = [0u8; limits::PAGES_SIZE];
     let mut desk = [0u8; limits::DESK_SIZE];
     let mut answers = [0u8; limits::SPACE_LEAST];
     let mut input = [0u8; 65536];
-    let mut reader = rt.reader();
     desk::keydesk_fresh(&mut pages, &mut desk);
-    go_through(
-        rt,
-        &mut reader,
-        &mut pages,
-        &mut desk,
-        &mut answers,
-        &mut input,
-    );
+    go_through(rt, reader, &mut pages, &mut desk, &mut answers, &mut input);
 }
