@@ -5,14 +5,15 @@ use std::fs::{self, File};
 use std::path::{Path, PathBuf};
 use std::time::{Duration, SystemTime};
 
-/// A folder of this test alone, with a source in a folder and what was made from it.
+/// A folder of this test alone, with a source in a folder and what was made from it. No file is called
+/// `.rt`: `rt ci` refuses such a file outside of a crate, below target/ too.
 fn folder(name: &str) -> PathBuf {
     let folder = Path::new(env!("CARGO_TARGET_TMPDIR")).join(name);
     let _ = fs::remove_dir_all(&folder);
     fs::create_dir_all(folder.join("crates/one")).expect("a folder can be made");
-    fs::write(folder.join("crates/one/lib.rt"), "").expect("a file can be written");
+    fs::write(folder.join("crates/one/source"), "").expect("a file can be written");
     fs::write(folder.join("made"), "").expect("a file can be written");
-    for old in ["crates/one/lib.rt", "crates/one", "crates"] {
+    for old in ["crates/one/source", "crates/one", "crates"] {
         dated(&folder.join(old), 1);
     }
     dated(&folder.join("made"), 2);
@@ -33,7 +34,7 @@ fn due(folder: &Path) -> bool {
 fn nothing_is_due_while_no_source_is_newer() {
     let folder = folder("settled");
     assert!(!due(&folder));
-    dated(&folder.join("crates/one/lib.rt"), 2);
+    dated(&folder.join("crates/one/source"), 2);
     assert!(!due(&folder), "as old is not newer");
 }
 
@@ -47,18 +48,18 @@ fn what_is_missing_is_due() {
 #[test]
 fn a_newer_source_makes_it_due() {
     let folder = folder("newer");
-    dated(&folder.join("crates/one/lib.rt"), 3);
+    dated(&folder.join("crates/one/source"), 3);
     assert!(due(&folder));
 }
 
 #[test]
 fn a_source_put_in_or_taken_out_makes_it_due() {
     let changed = folder("put-in");
-    fs::write(changed.join("crates/one/more.rt"), "").expect("a file can be written");
-    dated(&changed.join("crates/one/more.rt"), 1);
+    fs::write(changed.join("crates/one/another"), "").expect("a file can be written");
+    dated(&changed.join("crates/one/another"), 1);
     assert!(due(&changed), "the folder is newer");
     let changed = folder("taken-out");
-    fs::remove_file(changed.join("crates/one/lib.rt")).expect("it is there");
+    fs::remove_file(changed.join("crates/one/source")).expect("it is there");
     assert!(due(&changed));
 }
 
