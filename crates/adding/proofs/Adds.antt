@@ -3,6 +3,7 @@
 use Rattle.limits.specs.Limits.{pages_most}
 use Rattle.pages.specs.PageLayout.{EntryFits, ChildFits, children_of}
 use Rattle.rows.specs.PageHead.{root_of, used_of, height_of, put_root}
+use Rattle.std.specs.Prelude as Code
 use Prim.Native.Nat.{ℕ, suc, ◌+◌, ◌-◌, ◌≤◌, ◌<◌, compare}
 use mathlib.Core.Path.{◌≡◌, refl, sym, ap, ap₂, subst, ◌∙◌}
 use mathlib.Core.Logic.{◌≢◌, inl, inr}
@@ -24,11 +25,10 @@ use Rattle.trees.proofs.Need.{Run, grown_needs}
 use Rattle.trees.proofs.Wholes.{with_whole, document_fair}
 use Rattle.index.specs.declared.Top.{Top}
 use Rattle.adding.specs.declared.Grown.{Grown}
-use Rattle.adding.specs.declared.Grown.TheVariants.{Short, Same, Split}
 use Rattle.index.specs.Pictures.{Item, key_of, page_at, put_page, tree_of, index_of, entries_in, head_page, inner_page, Laid, WholePages}
 use Rattle.index.specs.Changes.{with_entry, entry_fits, Becomes, Added}
 use Rattle.index.specs.Descents.{Subtree, TopOf, run_of}
-use Rattle.adding.specs.Growing.{needed_in, GrowIn, Grew, Outcome, Tried, grown_of, root_page, RootIn}
+use Rattle.adding.specs.Growing.{one_tree, two_trees, needed_in, GrowIn, Grew, Outcome, Tried, grown_of, root_page, RootIn}
 use Rattle.index.proofs.Buffers.{length_put_page, page_same, page_kept}
 use Rattle.index.proofs.InnerPages as Inner
 use Rattle.index.proofs.Frame as F
@@ -82,7 +82,7 @@ module _ (s : List ℕ) (w : WholePages s) (t : Top) (o : TopOf s t) (e : Item) 
   used_some = omega (arith, used_page t.used t.root (omega (arith, sub.alone t.root, own_page n s t.root)))
 
   -- where the pages are short, nothing has changed
-  short : (s₁ : List ℕ) → Outcome n s s₁ t.root t.used 1 e Short → Added s s₁ e false
+  short : (s₁ : List ℕ) → Outcome n s s₁ t.root t.used 1 e Code.None → Added s s₁ e false
   short s₁ c =
       record {
         fit = sym (fits_is ∙ lt-leb (t.used + need) pages_most c.1);
@@ -118,10 +118,10 @@ module _ (s : List ℕ) (w : WholePages s) (t : Top) (o : TopOf s t) (e : Item) 
         omega (arith, once q)
 
     module _ (m : missing compare key_of e.key (entries_in s) ≡ true) (h : e.key < end_mark) where
-      add_same : (v : ℕ) (s₂ : List ℕ) → g ≡ Same v → s₂ ≡ put_page s₁ 0 (put_root (page_at s₁ 0) t.root v (n + 1)) → Added s s₂ e true
+      add_same : (v : ℕ) (s₂ : List ℕ) → g ≡ one_tree v → s₂ ≡ put_page s₁ 0 (put_root (page_at s₁ 0) t.root v (n + 1)) → Added s s₂ e true
       unfolding with_entry with_item rooted
       add_same v s₂ z f =
-          let d' : Grew n s s₁ t.root t.used e (Same v) = subst (λ x. Grew n s s₁ t.root t.used e x) z d in
+          let d' : Grew n s s₁ t.root t.used e (one_tree v) = subst (λ x. Grew n s s₁ t.root t.used e x) z d in
           let H = head_page t.root v (n + 1) in
           let i = length_head t.root v (n + 1) in
           let y : s₂ ≡ put_page s₁ 0 H = f ∙ ap (put_page s₁ 0) (head_now t.root v (n + 1)) in
@@ -140,8 +140,8 @@ module _ (s : List ℕ) (w : WholePages s) (t : Top) (o : TopOf s t) (e : Item) 
           ∙ d'.spare q j k ∙ w.spare q (omega (arith, d'.more, o.used)) k)
           x (wholeness m h)))
 
-      module _ (v : ℕ) (c : P.Child) (z : g ≡ Split v c) where
-        d' : Grew n s s₁ t.root t.used e (Split v c)
+      module _ (v : ℕ) (c : P.Child) (z : g ≡ two_trees v c) where
+        d' : Grew n s s₁ t.root t.used e (two_trees v c)
         d' = subst (λ x. Grew n s s₁ t.root t.used e x) z d
 
         next : v < pages_most
@@ -222,20 +222,23 @@ module _ (s : List ℕ) (w : WholePages s) (t : Top) (o : TopOf s t) (e : Item) 
             laid_two y (inr (inr i)) sb a b = absurd i
 
   -- ---- the steps of the code
-  module _ (s₁ : List ℕ) (g : Grown) (d : Tried t.level s s₁ t.root t.used 1 e g) where
-    came : (r : Grown) → g ≡ r → Outcome n s s₁ t.root t.used 1 e r
-    came r z = subst (Outcome n s s₁ t.root t.used 1 e) z d.outcome
+  module _ (s₁ : List ℕ) (r : Code.Option Grown) (d : Tried t.level s s₁ t.root t.used 1 e r) where
+    came : (b : Code.Option Grown) → r ≡ b → Outcome n s s₁ t.root t.used 1 e b
+    came b z = subst (Outcome n s s₁ t.root t.used 1 e) z d.outcome
 
-    pub not_added : g ≡ Short → Added s s₁ e false
-    not_added z = short s₁ (came Short z)
+    pub not_added : r ≡ Code.None → Added s s₁ e false
+    not_added z = short s₁ (came Code.None z)
 
-    module _ (m : missing compare key_of e.key (entries_in s) ≡ true) (h : e.key < end_mark) where
-      pub added_same : (v : ℕ) (s₂ : List ℕ) → g ≡ Same v → s₂ ≡ put_page s₁ 0 (put_root (page_at s₁ 0) t.root v (t.level + 1)) → Added s s₂ e true
-      added_same v s₂ z f = let c = came (Same v) z in add_same s₁ (Same v) c.0 c.1 m h v s₂ refl f
+    module _ (g : Grown) (y : r ≡ Code.Some g) (m : missing compare key_of e.key (entries_in s) ≡ true) (h : e.key < end_mark) where
+      is : (b : Code.Option P.Child) → g.beside ≡ b → g ≡ record { used = g.used; beside = b }
+      is b z = ap (λ b. record { used = g.used; beside = b }) z
 
-      pub added_split : (v : ℕ) (x : P.Child) (s₂ : List ℕ) → g ≡ Split v x
-          → s₂ ≡ put_page (put_page s₁ v (root_page t.level t.root x)) 0 (put_root (page_at s₁ 0) v (v + 1) (t.level + 2)) → Added s s₂ e true
-      added_split v x s₂ z f = let c = came (Split v x) z in add_split s₁ (Split v x) c.0 c.1 m h v x refl s₂ f
+      pub added_same : (s₂ : List ℕ) → g.beside ≡ Code.None → s₂ ≡ put_page s₁ 0 (put_root (page_at s₁ 0) t.root g.used (t.level + 1)) → Added s s₂ e true
+      added_same s₂ z f = let o = came (Code.Some g) y in add_same s₁ g o.0 o.1 m h g.used s₂ (is Code.None z) f
 
-      pub new_root : (v : ℕ) (x : P.Child) → g ≡ Split v x → RootIn s₁ t.level t.root v x
-      new_root v x z = let c = came (Split v x) z in root_in s₁ (Split v x) c.0 c.1 m h v x refl
+      pub added_split : (x : P.Child) (s₂ : List ℕ) → g.beside ≡ Code.Some x
+          → s₂ ≡ put_page (put_page s₁ g.used (root_page t.level t.root x)) 0 (put_root (page_at s₁ 0) g.used (g.used + 1) (t.level + 2)) → Added s s₂ e true
+      added_split x s₂ z f = let o = came (Code.Some g) y in add_split s₁ g o.0 o.1 m h g.used x (is (Code.Some x) z) s₂ f
+
+      pub new_root : (x : P.Child) → g.beside ≡ Code.Some x → RootIn s₁ t.level t.root g.used x
+      new_root x z = let o = came (Code.Some g) y in root_in s₁ g o.0 o.1 m h g.used x (is (Code.Some x) z)

@@ -23,13 +23,13 @@ use Rattle.rows.specs.PageRows.{rows_of, Divided, as_they_are}
 use Rattle.pages.specs.PageChanges.{entry_row, child_row, child_put, from_zero, first_low}
 use Rattle.pages.proofs.ChildRows.{length_children}
 use Rattle.trees.specs.Growth.{low_key}
-use Rattle.adding.specs.declared.Grown.TheVariants.{Same, Split}
 use Rattle.index.specs.Pictures.{Item, key_of, page_at, put_page, blank_page, leaf_page, inner_page, zero_first}
-use Rattle.adding.specs.Growing.{LeafFull, LeafSplit, InnerRoom, InnerFull, Widened}
+use Rattle.adding.specs.declared.Grown.{Grown}
+use Rattle.adding.specs.Growing.{one_tree, two_trees, LeafFull, LeafSplit, InnerRoom, InnerFull, Widened}
 use Rattle.index.proofs.Buffers.{page_lent, page_back, length_page, length_put_page}
 use Rattle.index.proofs.LeafPages as Leaf
 use Rattle.index.proofs.InnerPages as Inner
-use Rattle.index.proofs.BlankPages.{length_blank, count_blank}
+use Rattle.index.proofs.BlankPages.{count_blank}
 
 -- the blank page as the code builds it
 pub built : (kind level : ℕ) → put_head (replicate page_size 0) kind 0 level ≡ blank_page kind level
@@ -69,9 +69,6 @@ leaf_requires s pg u i e f = ap count_of (page_lent s pg) ∙ f.count
 pub blank_count : (kind level : ℕ) (p : List ℕ) → p ≡ put_head (replicate page_size 0) kind 0 level → count_of p ≡ 0
 blank_count kind level p e = ap count_of (e ∙ built kind level) ∙ count_blank kind level
 
-pub blank_length : (kind level : ℕ) (p : List ℕ) → p ≡ put_head (replicate page_size 0) kind 0 level → length p ≡ page_size
-blank_length kind level p e = ap length (e ∙ built kind level) ∙ length_blank kind level
-
 first_key : (es : List Item) → 0 < length es → length es ≤ leaf_most → Leaf.Smalls es → (entry_at (leaf_page es) 0).key ≡ low_key key_of 0 es
 unfolding entries_of tab
 first_key [] h k s = absurd (omega arith)
@@ -102,8 +99,9 @@ module _ (s : List ℕ) (pg u i : ℕ) (e : Item) (f : LeafFull s pg u i e) wher
       → k.0 ≡ (entry_at r 0).key
       → c ≡ copied page_size r 0 0 (take (page_size * u + page_size - page_size * u) (drop (page_size * u) (lent_back pg s l)))
       → length c ≡ length (take (page_size * u + page_size - page_size * u) (drop (page_size * u) (lent_back pg s l)))
-      → LeafSplit s (put_mid (page_size * u) (page_size * u + page_size - page_size * u) (lent_back pg s l) c) pg u i e (Split (u + 1) (record { low = k; page = u }))
-  leaf_split r₀ l r c k b d a key g j =
+      → (grown : Grown) → grown ≡ two_trees (u + 1) (record { low = k; page = u })
+      → LeafSplit s (put_mid (page_size * u) (page_size * u + page_size - page_size * u) (lent_back pg s l) c) pg u i e grown
+  leaf_split r₀ l r c k b d a key g j grown new =
       let old = entries_of (page_at s pg) in
       let z = divided r₀ l r b d in
       let n = length_insert_at i e old in
@@ -116,7 +114,7 @@ module _ (s : List ℕ) (pg u i : ℕ) (e : Item) (f : LeafFull s pg u i e) wher
       record {
         bytes = both_back s f.size pg u f.which f.next (lent_back pg s l) l (leaf_page (take leaf_stay es)) r c a x p refl (ap length y ∙ q) g j
             ∙ ap (put_page (put_page s pg (leaf_page (take leaf_stay es))) u) y;
-        told = ap (λ v. Split (u + 1) (record { low = record { 0 = v }; page = u }))
+        told = new ∙ ap (λ v. two_trees (u + 1) (record { low = record { 0 = v }; page = u }))
             (key ∙ ap (λ v. (entry_at v 0).key) y ∙ first_key (drop leaf_stay es) (omega arith) (omega arith) (λ v o. smalls v (drop_in leaf_stay es v o)));
       }
 
@@ -152,8 +150,9 @@ module _ (s : List ℕ) (n pg u i : ℕ) (c : P.Child) (f : InnerFull s n pg u i
       → length l ≡ length (take (page_size * pg + page_size - page_size * pg) (drop (page_size * pg) s))
       → k' ≡ copied page_size r 0 0 (take (page_size * u + page_size - page_size * u) (drop (page_size * u) (lent_back pg s l)))
       → length k' ≡ length (take (page_size * u + page_size - page_size * u) (drop (page_size * u) (lent_back pg s l)))
-      → Widened s (put_mid (page_size * u) (page_size * u + page_size - page_size * u) (lent_back pg s l) k') n pg u i c (Split (u + 1) (record { low = k; page = u }))
-  inner_split r₀ l r k' k b d key a g j =
+      → (grown : Grown) → grown ≡ two_trees (u + 1) (record { low = k; page = u })
+      → Widened s (put_mid (page_size * u) (page_size * u + page_size - page_size * u) (lent_back pg s l) k') n pg u i c grown
+  inner_split r₀ l r k' k b d key a g j grown new =
       let old = children_of (page_at s pg) in
       let o : length old ≡ inner_most = length_children (page_at s pg) ∙ f.count in
       let z = divided_inner r₀ l r b d in
@@ -165,7 +164,7 @@ module _ (s : List ℕ) (n pg u i : ℕ) (c : P.Child) (f : InnerFull s n pg u i
       let w : length (drop inner_stay ds) ≡ inner_go = length-drop inner_stay ds ∙ ap (λ v. v - inner_stay) (e ∙ ap (λ v. v + 1) o) in
       let p : length (inner_page n (take inner_stay ds)) ≡ page_size = Inner.inner_length n (take inner_stay ds) (omega arith) in
       let q : length (inner_page n (zero_first (drop inner_stay ds))) ≡ page_size = Inner.inner_length n (zero_first (drop inner_stay ds)) (omega (arith, zero_length (drop inner_stay ds))) in
-      record {
+      subst (Widened s (put_mid (page_size * u) (page_size * u + page_size - page_size * u) (lent_back pg s l) k') n pg u i c) (sym new) (record {
         how = (
           refl,
           both_back s f.size pg u f.which f.next (lent_back pg s l) l (inner_page n (take inner_stay ds)) r k' a x p refl (ap length y ∙ q) g j
@@ -177,21 +176,17 @@ module _ (s : List ℕ) (n pg u i : ℕ) (c : P.Child) (f : InnerFull s n pg u i
               ∙ Inner.first_rows (drop inner_stay ds) small),
           o,
         );
-      }
+      })
 
 -- ---- with room
 module _ (s : List ℕ) (n pg u i : ℕ) (c : P.Child) (f : InnerRoom s n pg u i c) where
-  pub room_count : (m : ℕ) → m ≡ count_of (take (page_size * pg + page_size - page_size * pg) (drop (page_size * pg) s)) → m < inner_most
-      → count_of (take (page_size * pg + page_size - page_size * pg) (drop (page_size * pg) s)) < inner_most
-  room_count m e h = omega arith
-
   pub room_place : i ≤ count_of (take (page_size * pg + page_size - page_size * pg) (drop (page_size * pg) s))
   room_place = subst (λ p. i ≤ count_of p) (sym (page_lent s pg)) f.place
 
   pub inner_put_in : (m : ℕ) (p : List ℕ) → m ≡ count_of (take (page_size * pg + page_size - page_size * pg) (drop (page_size * pg) s)) → m < inner_most
       → length p ≡ length (take (page_size * pg + page_size - page_size * pg) (drop (page_size * pg) s))
       → p ≡ child_put (take (page_size * pg + page_size - page_size * pg) (drop (page_size * pg) s)) i c
-      → Widened s (put_mid (page_size * pg) (page_size * pg + page_size - page_size * pg) s p) n pg u i c (Same u)
+      → Widened s (put_mid (page_size * pg) (page_size * pg + page_size - page_size * pg) s p) n pg u i c (one_tree u)
   inner_put_in m p e h l b =
       let old = children_of (page_at s pg) in
       let k : count_of (page_at s pg) ≡ m = sym (e ∙ ap count_of (page_lent s pg)) in

@@ -3,9 +3,10 @@
 use Rattle.limits.specs.Limits.{pages_most, page_size, leaf_most, leaf_stay, leaf_go}
 use Rattle.pages.specs.PageLayout.{EntryFits, entries_of}
 use Rattle.rows.specs.PageHead.{count_of}
+use Rattle.std.specs.Prelude as Code
 use Prim.Native.Nat.{ℕ, ◌+◌, ◌*◌, ◌-◌, ◌≤◌, ◌<◌}
 use mathlib.Core.Path.{◌≡◌, refl, sym, ap, subst, ◌∙◌}
-use mathlib.Core.Logic.{◌≢◌, inl, inr, ⊎_elim}
+use mathlib.Core.Logic.{◌≢◌, inl, ⊎_elim}
 use mathlib.Core.Bool.{Bool, true, false}
 use mathlib.Core.List.{List, [], ◌∷◌}
 use mathlib.Core.Option.{some}
@@ -25,21 +26,13 @@ use Rattle.pages.proofs.EntryRows.{length_entries}
 use Rattle.trees.specs.Growth as G
 use Rattle.trees.specs.Growth.{halves, grown}
 use Rattle.adding.specs.declared.Grown.{Grown}
-use Rattle.adding.specs.declared.Grown.TheVariants.{Short, Same, Split}
 use Rattle.index.specs.Pictures.{Item, key_of, page_at, put_page, tree_of, leaf_page, Laid}
-use Rattle.adding.specs.Growing.{needed_in, GrowIn, Grew, grown_of, Tried, LeafFull, LeafOver, LeafParted, LeafSplit}
+use Rattle.adding.specs.Growing.{one_tree, needed_in, GrowIn, Grew, grown_of, Outcome, Tried, LeafFull, LeafOver, Parted, LeafParted, LeafSplit}
 use Rattle.index.proofs.Buffers.{page_lent, page_back, length_put_page, page_same, page_other}
 use Rattle.index.proofs.LeafPages as Leaf
 use Rattle.index.proofs.Frame.{Times, own_page}
 use Rattle.index.proofs.Subtrees.{leaf_few, keys_ascend_lem}
 use Rattle.adding.proofs.PagesNeeded.{need_none, need_full}
-
--- ---- with room for it
-pub grew_tried : (n : ℕ) (s s' : List ℕ) (pg u above : ℕ) (e : Item) (r : Grown) → Grew n s s' pg u e r → u + needed_in n e.key s pg above ≤ pages_most
-    → Tried n s s' pg u above e r
-grew_tried n s s' pg u above e Short d h = absurd d.told
-grew_tried n s s' pg u above e (Same v) d h = record { outcome = (d, h) }
-grew_tried n s s' pg u above e (Split v c) d h = record { outcome = (d, h) }
 
 -- ---- a leaf
 -- what is read of a page that is written as a leaf
@@ -79,7 +72,7 @@ module _ (s : List ℕ) (pg u : ℕ) (e : Item) (g : GrowIn s 0 pg u e) (i : ℕ
 
   more_grew : (p : List ℕ) → length old ≤ leaf_most - 1 → length p ≡ length (take (page_size * pg + page_size - page_size * pg) (drop (page_size * pg) s))
       → p ≡ entry_put (take (page_size * pg + page_size - page_size * pg) (drop (page_size * pg) s)) i e
-      → Grew 0 s (put_mid (page_size * pg) (page_size * pg + page_size - page_size * pg) s p) pg u e (Same u)
+      → Grew 0 s (put_mid (page_size * pg) (page_size * pg + page_size - page_size * pg) s p) pg u e (one_tree u)
   more_grew p k l b =
       let t = g.sub in
       let m : length new ≤ leaf_most = omega (arith, length_insert_at i e old) in
@@ -89,7 +82,7 @@ module _ (s : List ℕ) (pg u : ℕ) (e : Item) (g : GrowIn s 0 pg u e) (i : ℕ
       let w = Leaf.leaf_length new m in
       let z = put_leaf s' pg new (page_same s t.size pg t.which (leaf_page new) w) m new_small in
       let f = grown_is true (le-leb (length new) leaf_most m) in
-      subst (λ v. Grew 0 s v pg u e (Same u)) (sym x)
+      subst (λ v. Grew 0 s v pg u e (one_tree u)) (sym x)
       (record {
         size = length_put_page s t.size pg t.which (leaf_page new) w;
         tree = z.0 ∙ sym (ap (λ v. v.tree) f);
@@ -164,26 +157,22 @@ module _ (s : List ℕ) (pg u : ℕ) (e : Item) (g : GrowIn s 0 pg u e) (i : ℕ
 
     pub leaf_more : (p : List ℕ) → n < leaf_most → length p ≡ length (take (page_size * pg + page_size - page_size * pg) (drop (page_size * pg) s))
         → p ≡ entry_put (take (page_size * pg + page_size - page_size * pg) (drop (page_size * pg) s)) i e
-        → Tried 0 s (put_mid (page_size * pg) (page_size * pg + page_size - page_size * pg) s p) pg u above e (Same u)
+        → Tried 0 s (put_mid (page_size * pg) (page_size * pg + page_size - page_size * pg) s p) pg u above e (Code.Some (one_tree u))
     leaf_more p h l b =
-        grew_tried 0 s (put_mid (page_size * pg) (page_size * pg + page_size - page_size * pg) s p) pg u above e (Same u) (more_grew p (omega (arith, count)) l b)
-        (omega (arith, need_none s pg e.key above (omega (arith, count)), g.most))
+        record { outcome = (more_grew p (omega (arith, count)) l b, omega (arith, need_none s pg e.key above (omega (arith, count)), g.most)) }
 
     pub leaf_over : leaf_most ≤ n → LeafOver s pg u i e
     leaf_over h = record { full = is_full (omega (arith, count, leaf_few s pg u g.sub)) }
 
-    pub leaf_divided : (s' : List ℕ) (r : Grown) → leaf_most ≤ n → LeafParted s s' pg u above i e r → Tried 0 s s' pg u above e r
-    leaf_divided s' r h d = ⊎_elim no yes d.how
+    pub leaf_divided : (s' : List ℕ) (r : Code.Option Grown) → leaf_most ≤ n → LeafParted s s' pg u above i e r → Tried 0 s s' pg u above e r
+    leaf_divided s' r h d = record { outcome = go r d.how }
       where
         need : needed_in 0 e.key s pg above ≡ 1 + above
         need = need_full s pg e.key above (omega (arith, count))
 
-        no : (r ≡ Short) × (s' ≡ s) × (pages_most < u + above + 1) → Tried 0 s s' pg u above e r
-        no w = subst (Tried 0 s s' pg u above e) (sym w.0) (record { outcome = (w.1, omega (arith, need, w.2)) })
-
-        yes : LeafSplit s s' pg u i e r × (u + above + 1 ≤ pages_most) → Tried 0 s s' pg u above e r
-        yes w =
-            grew_tried 0 s s' pg u above e r (divided_grew s' r ((leaf_over h).full (omega (arith, w.1))) w.0) (omega (arith, need, w.1))
+        go : (r : Code.Option Grown) → Parted s s' pg u above i e r → Outcome 0 s s' pg u above e r
+        go Code.None w = (w.0, omega (arith, need, w.1))
+        go (Code.Some k) w = (divided_grew s' k ((leaf_over h).full (omega (arith, w.1))) w.0, omega (arith, need, w.1))
 
 pub grow_few : (s : List ℕ) (pg u : ℕ) (e : Item) → GrowIn s 0 pg u e → count_of (take (page_size * pg + page_size - page_size * pg) (drop (page_size * pg) s)) ≤ leaf_most
 grow_few s pg u e g =
@@ -194,8 +183,8 @@ module _ (s : List ℕ) (pg u above i : ℕ) (e : Item) where
   pub over_full : LeafOver s pg u i e → u + above + 1 ≤ pages_most → LeafFull s pg u i e
   over_full o h = o.full (omega arith)
 
-  pub parted_short : pages_most < u + above + 1 → LeafParted s s pg u above i e Short
-  parted_short h = record { how = inl (refl, refl, h) }
+  pub parted_short : pages_most < u + above + 1 → LeafParted s s pg u above i e Code.None
+  parted_short h = record { how = (refl, h) }
 
-  pub parted_split : (s' : List ℕ) (r : Grown) → u + above + 1 ≤ pages_most → LeafSplit s s' pg u i e r → LeafParted s s' pg u above i e r
-  parted_split s' r h d = record { how = inr (d, h) }
+  pub parted_split : (s' : List ℕ) (r : Grown) → u + above + 1 ≤ pages_most → LeafSplit s s' pg u i e r → LeafParted s s' pg u above i e (Code.Some r)
+  parted_split s' r h d = record { how = (d, h) }

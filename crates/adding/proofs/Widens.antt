@@ -3,6 +3,7 @@
 use Rattle.limits.specs.Limits.{pages_most, page_size, inner_most, inner_stay, inner_go}
 use Rattle.pages.specs.PageLayout.{ChildFits, child_at, children_of}
 use Rattle.rows.specs.PageHead.{count_of}
+use Rattle.std.specs.Prelude as Code
 use Prim.Native.Nat.{ℕ, zero, suc, ◌+◌, ◌-◌, ◌≤◌, ◌<◌, compare}
 use mathlib.Core.Path.{◌≡◌, refl, sym, ap, subst, ◌∙◌}
 use mathlib.Core.Logic.{◌≢◌, ◌⊎◌, inl, inr, ⊎_elim}
@@ -29,19 +30,17 @@ use Rattle.trees.proofs.ChildPlaces.{grown_at, widened_at}
 use Rattle.trees.proofs.PageCounts.{grown_times, summed_in, summed_append, above_yes}
 use Rattle.trees.proofs.Need.{Run, grown_needs}
 use Rattle.adding.specs.declared.Grown.{Grown}
-use Rattle.adding.specs.declared.Grown.TheVariants.{Short, Same, Split}
 use Rattle.index.specs.declared.Step.{Step}
 use Rattle.index.specs.declared.Way.{Way}
 use Rattle.index.specs.Pictures.{Item, key_of, page_at, put_page, tree_of, inner_page, Laid, zero_first, low_first}
 use Rattle.index.specs.Descents.{Subtree, Starts, Goes, run_of}
-use Rattle.adding.specs.Growing.{needed_in, needed_above, GrowIn, Grew, grown_of, Outcome, Tried, Wider, Widened, InnerRoom, Rising, Rises, Rose, Risen}
+use Rattle.adding.specs.Growing.{one_tree, two_trees, needed_in, needed_above, GrowIn, Grew, grown_of, Outcome, Tried, Wider, Widened, InnerRoom, Rising, Rises, Rose, Risen}
 use Rattle.index.proofs.Buffers.{length_put_page, page_same, page_kept}
 use Rattle.index.proofs.InnerPages as Inner
 use Rattle.index.proofs.Frame as F
 use Rattle.index.proofs.Frame.{kid, Times, own_page, times_inner, frame, laid_frame}
 use Rattle.index.proofs.Subtrees.{used_page, inner_filled, child_place}
 use Rattle.adding.proofs.PagesNeeded.{chosen, child_chosen, need_below}
-use Rattle.adding.proofs.Grows.{grew_tried}
 
 is_page_own : (q : ℕ) → is_page q q ≡ 1
 is_page_own q = ap (λ b. cond {A = ℕ} b 1 0) (eq-eqb q q refl)
@@ -156,10 +155,10 @@ module _ (s : List ℕ) (n pg u : ℕ) (e : Item) (g : GrowIn s (suc n) pg u e) 
       ∙ ap (λ m. halves (leb (length xs) inner_most) inner_stay (G.low_of 0) (G.from_lowest 0) m pg xs) (sym y)
 
   -- ---- the child was not divided
-  pub same_grew : (v : ℕ) → r₁ ≡ Same v → Grew (suc n) s s₁ pg u e (Same v)
+  pub same_grew : (v : ℕ) → r₁ ≡ one_tree v → Grew (suc n) s s₁ pg u e (one_tree v)
   unfolding tree_of
   same_grew v z =
-      let w' : Grew n s s₁ q u e (Same v) = subst (λ r. Grew n s s₁ q u e r) z w in
+      let w' : Grew n s s₁ q u e (one_tree v) = subst (λ r. Grew n s s₁ q u e r) z w in
       let f = inner_filled s n pg u t in
       let k = grown_row v (map (kid n s₁) cs) w'.told.0
       (ap (λ o. grown_at st.slot (kid n s d) (grown_of n e u s q).tree o (map (kid n s) cs)) w'.told.1 ∙ sym row_kept)
@@ -179,8 +178,8 @@ module _ (s : List ℕ) (n pg u : ℕ) (e : Item) (g : GrowIn s (suc n) pg u e) 
       }
 
   -- ---- the child was divided
-  module _ (v : ℕ) (x : P.Child) (z : r₁ ≡ Split v x) where
-    w' : Grew n s s₁ q u e (Split v x)
+  module _ (v : ℕ) (x : P.Child) (z : r₁ ≡ two_trees v x) where
+    w' : Grew n s s₁ q u e (two_trees v x)
     w' = subst (λ r. Grew n s s₁ q u e r) z w
 
     abbrev ds : List P.Child
@@ -292,7 +291,7 @@ module _ (s : List ℕ) (n pg u : ℕ) (e : Item) (g : GrowIn s (suc n) pg u e) 
     other : (m : ℕ) → Times (suc n) m s pg ≡ 0 → m ≢ pg
     other m o y = let k = subst (λ p. Times (suc n) p s pg ≡ 0) y o in let l = own_page (suc n) s pg in omega arith
 
-    pub put_grew : (s₂ : List ℕ) → s₂ ≡ put_page s₁ pg (inner_page (suc n) ds) → length cs ≤ inner_most - 1 → Grew (suc n) s s₂ pg u e (Same v)
+    pub put_grew : (s₂ : List ℕ) → s₂ ≡ put_page s₁ pg (inner_page (suc n) ds) → length cs ≤ inner_most - 1 → Grew (suc n) s s₂ pg u e (one_tree v)
     put_grew s₂ y l =
         let m : length ds ≤ inner_most = omega (arith, length_insert_at (st.slot + 1) x cs) in
         let i = Inner.inner_length (suc n) ds m in
@@ -303,7 +302,7 @@ module _ (s : List ℕ) (n pg u : ℕ) (e : Item) (g : GrowIn s (suc n) pg u e) 
         let f = page_tree s' pg ds (page_same s₁ w.size pg t.which p i) m small_all same laid_all in
         let k = grown_row v (map (kid n s₁) ds) w'.told.0 row_more
         ∙ ap (λ o. halves o inner_stay (G.low_of 0) (G.from_lowest 0) v pg (map (kid n s₁) ds)) (le-leb (length (map (kid n s₁) ds)) inner_most (omega (arith, length-map ds (kid n s₁)))) in
-        subst (λ o. Grew (suc n) s o pg u e (Same v)) (sym y)
+        subst (λ o. Grew (suc n) s o pg u e (one_tree v)) (sym y)
         (record {
           size = length_put_page s₁ w.size pg t.which p i;
           tree = f.0 ∙ sym (ap (λ o. o.tree) k);
@@ -349,7 +348,7 @@ module _ (s : List ℕ) (n pg u : ℕ) (e : Item) (g : GrowIn s (suc n) pg u e) 
     hi = drop inner_stay ds
 
     pub divide_grew : (s₂ : List ℕ) → v < pages_most → s₂ ≡ put_page (put_page s₁ pg (inner_page (suc n) lo)) v (inner_page (suc n) (zero_first hi)) → length cs ≡ inner_most
-        → Grew (suc n) s s₂ pg u e (Split (v + 1) (record { low = record { 0 = low_first hi }; page = v }))
+        → Grew (suc n) s s₂ pg u e (two_trees (v + 1) (record { low = record { 0 = low_first hi }; page = v }))
     divide_grew s₂ vm y l =
         let k : length ds ≡ inner_most + 1 = length_insert_at (st.slot + 1) x cs ∙ ap (λ o. o + 1) l in
         let len-lo : length lo ≡ inner_stay = length-take-le inner_stay ds (omega arith) in
@@ -373,7 +372,7 @@ module _ (s : List ℕ) (n pg u : ℕ) (e : Item) (g : GrowIn s (suc n) pg u e) 
         (λ y j. let o = zero_in hi y j in subst (Laid n s₁) o.2 (laid_all o.0 (drop_in inner_stay ds o.0 o.1))) in
         let gr = grown_row v (map (kid n s₁) ds) w'.told.0 row_more
         ∙ ap (λ o. halves o inner_stay (G.low_of 0) (G.from_lowest 0) v pg (map (kid n s₁) ds)) (lt-leb (length (map (kid n s₁) ds)) inner_most (omega (arith, length-map ds (kid n s₁)))) in
-        subst (λ o. Grew (suc n) s o pg u e (Split (v + 1) (record { low = record { 0 = low_first hi }; page = v }))) (sym y)
+        subst (λ o. Grew (suc n) s o pg u e (two_trees (v + 1) (record { low = record { 0 = low_first hi }; page = v }))) (sym y)
         (record {
           size = length_put_page sa za v vm pr ir;
           tree = fl.0 ∙ ap (λ ys. record { number = pg; holds = ys }) (map_take (kid n s₁) inner_stay ds) ∙ sym (ap (λ o. o.tree) gr);
@@ -398,15 +397,14 @@ module _ (s : List ℕ) (n pg u : ℕ) (e : Item) (g : GrowIn s (suc n) pg u e) 
 
     pub widened_grew : (above : ℕ) → Room above → (s₂ : List ℕ) (r : Grown) → Widened s₁ s₂ (suc n) pg v (st.slot + 1) x r → Grew (suc n) s s₂ pg u e r
     widened_grew above room s₂ r o =
-        go r (subst (λ p. Wider s₁ s₂ (suc n) pg v (children_of p) (insert_at (st.slot + 1) x (children_of p)) r) page_stays o.how)
+        go r.used r.beside (subst (λ p. Wider s₁ s₂ (suc n) pg v (children_of p) (insert_at (st.slot + 1) x (children_of p)) r.used r.beside) page_stays o.how)
       where
-        go : (r : Grown) → Wider s₁ s₂ (suc n) pg v cs ds r → Grew (suc n) s s₂ pg u e r
-        go Short i = absurd i
-        go (Same v') (i, j, k) = subst (λ m. Grew (suc n) s s₂ pg u e (Same m)) (sym i) (put_grew s₂ j k)
-        go (Split v' y) (i, j, k, l) =
+        go : (v' : ℕ) (b : Code.Option P.Child) → Wider s₁ s₂ (suc n) pg v cs ds v' b → Grew (suc n) s s₂ pg u e (record { used = v'; beside = b })
+        go v' Code.None (i, j, k) = subst (λ m. Grew (suc n) s s₂ pg u e (one_tree m)) (sym i) (put_grew s₂ j k)
+        go v' (Code.Some y) (i, j, k, l) =
             let m : v < pages_most = next_page above room (omega (arith, length_children (page_at s pg))) in
-            subst (λ a. Grew (suc n) s s₂ pg u e (Split a y)) (sym i)
-            (subst (λ a. Grew (suc n) s s₂ pg u e (Split (v + 1) a)) (sym k) (divide_grew s₂ m j l))
+            subst (λ a. Grew (suc n) s s₂ pg u e (two_trees a y)) (sym i)
+            (subst (λ a. Grew (suc n) s s₂ pg u e (two_trees (v + 1) a)) (sym k) (divide_grew s₂ m j l))
 
 -- ---- the steps of the code, at a level that is not 0
 module _ (s : List ℕ) (n pg u above : ℕ) (e : Item) (g : GrowIn s n pg u e) (z : n ≡ 0 → ⊥) (way : Way) (goes : Goes s pg e.key way) where
@@ -432,76 +430,81 @@ module _ (s : List ℕ) (n pg u above : ℕ) (e : Item) (g : GrowIn s n pg u e) 
   needs_same : needed_in n e.key s pg above ≡ needed_in (n - 1) e.key s q below
   needs_same = need_below s n pg u e st q above g.sub z goes.starts goes.page
 
-  module _ (s₁ : List ℕ) (r₁ : Grown) (m : ℕ) (b : m ≡ needed_above (count_of (page_at s pg)) above) (w : Tried (n - 1) s s₁ way.page u m e r₁) where
-    came : Outcome (n - 1) s s₁ q u below e r₁
-    came = subst (λ a. Outcome (n - 1) s s₁ q u a e r₁) b w.outcome
+  module _ (s₁ : List ℕ) (m : ℕ) (b : m ≡ needed_above (count_of (page_at s pg)) above) where
+    came : (r : Code.Option Grown) → Tried (n - 1) s s₁ way.page u m e r → Outcome (n - 1) s s₁ q u below e r
+    came r w = subst (λ a. Outcome (n - 1) s s₁ q u a e r) b w.outcome
 
-    room : (v : ℕ) (x : P.Child) → Outcome (n - 1) s s₁ q u below e (Split v x) → InnerRoom s₁ n pg v (way.slot + 1) x
-    room v x o = go n z g o
-      where
-        go : (n : ℕ) → (n ≡ 0 → ⊥) → GrowIn s n pg u e → Outcome (n - 1) s s₁ q u below e (Split v x) → InnerRoom s₁ n pg v (way.slot + 1) x
-        go zero z g o = absurd (z refl)
-        go (suc m) z g o =
-            let k : suc m - 1 ≡ m = omega arith in
-            let o' = subst (λ j. Outcome j s s₁ q u below e (Split v x)) k o in
-            split_room s m pg u e g st goes.starts q goes.page s₁ (Split v x) o'.0 v x refl above o'.1
+    pub grow_short : (r : Code.Option Grown) → Tried (n - 1) s s₁ way.page u m e Code.None → r ≡ Code.None → Tried n s s₁ pg u above e r
+    grow_short r w z =
+        let o = came Code.None w in
+        subst (Tried n s s₁ pg u above e) (sym z) (record { outcome = (o.0, omega (arith, o.1, needs_same)) })
 
-    pub grow_rises : Rises s₁ n pg (way.slot + 1) r₁
-    grow_rises = record { room = go r₁ came }
-      where
-        go : (r : Grown) → Outcome (n - 1) s s₁ q u below e r → Rising s₁ n pg (way.slot + 1) r
-        go Short o = tt
-        go (Same v) o = tt
-        go (Split v x) o = room v x o
+    module _ (r₁ : Grown) (w : Tried (n - 1) s s₁ way.page u m e (Code.Some r₁)) where
+      fits : u + needed_in (n - 1) e.key s q below ≤ pages_most
+      fits = (came (Code.Some r₁) w).1
 
-    same : (v : ℕ) → Grew (n - 1) s s₁ q u e (Same v) → Grew n s s₁ pg u e (Same v)
-    same v d = go n z g d
-      where
-        go : (n : ℕ) → (n ≡ 0 → ⊥) → GrowIn s n pg u e → Grew (n - 1) s s₁ q u e (Same v) → Grew n s s₁ pg u e (Same v)
-        go zero z g w = absurd (z refl)
-        go (suc m) z g w =
-            let k : suc m - 1 ≡ m = omega arith in
-            same_grew s m pg u e g st goes.starts q goes.page s₁ (Same v) (subst (λ j. Grew j s s₁ q u e (Same v)) k w) v refl
+      room : (v : ℕ) (x : P.Child) → Grew (n - 1) s s₁ q u e (two_trees v x) → InnerRoom s₁ n pg v (way.slot + 1) x
+      room v x o = go n z g o fits
+        where
+          go : (n : ℕ) → (n ≡ 0 → ⊥) → GrowIn s n pg u e → Grew (n - 1) s s₁ q u e (two_trees v x) → u + needed_in (n - 1) e.key s q below ≤ pages_most
+              → InnerRoom s₁ n pg v (way.slot + 1) x
+          go zero z g o f = absurd (z refl)
+          go (suc m) z g o f =
+              let k : suc m - 1 ≡ m = omega arith in
+              let P : ℕ → Type 0 = λ j. u + needed_in j e.key s q below ≤ pages_most in
+              split_room s m pg u e g st goes.starts q goes.page s₁ (two_trees v x) (subst (λ j. Grew j s s₁ q u e (two_trees v x)) k o) v x refl above (subst P k f)
 
-    more : (v : ℕ) (x : P.Child) (s₂ : List ℕ) (r : Grown) → Outcome (n - 1) s s₁ q u below e (Split v x)
-        → Widened s₁ s₂ n pg v (way.slot + 1) x r → Grew n s s₂ pg u e r
-    more v x s₂ r o d = go n z g o d
-      where
-        go : (n : ℕ) → (n ≡ 0 → ⊥) → GrowIn s n pg u e → Outcome (n - 1) s s₁ q u below e (Split v x)
-            → Widened s₁ s₂ n pg v (way.slot + 1) x r → Grew n s s₂ pg u e r
-        go zero z g o d = absurd (z refl)
-        go (suc m) z g o d =
-            let k : suc m - 1 ≡ m = omega arith in
-            let o' = subst (λ j. Outcome j s s₁ q u below e (Split v x)) k o in
-            widened_grew s m pg u e g st goes.starts q goes.page s₁ (Split v x) o'.0 v x refl above o'.1 s₂ r d
+      pub grow_rises : Rises s₁ n pg (way.slot + 1) r₁
+      grow_rises = record { room = go r₁.used r₁.beside (came (Code.Some r₁) w).0 }
+        where
+          go : (v : ℕ) (b : Code.Option P.Child) → Grew (n - 1) s s₁ q u e (record { used = v; beside = b }) → Rising s₁ n pg (way.slot + 1) v b
+          go v Code.None o = tt
+          go v (Code.Some x) o = room v x o
 
-    pub grow_risen : (s₂ : List ℕ) (r : Grown) → Risen s₁ s₂ n pg (way.slot + 1) r₁ r → Tried n s s₂ pg u above e r
-    grow_risen s₂ r d = go r₁ came d.how
-      where
-        go : (r₀ : Grown) → Outcome (n - 1) s s₁ q u below e r₀ → Rose s₁ s₂ n pg (way.slot + 1) r₀ r → Tried n s s₂ pg u above e r
-        go Short o d =
-            subst (Tried n s s₂ pg u above e) (sym d.1) (record { outcome = (d.0 ∙ o.0, omega (arith, o.1, needs_same)) })
-        go (Same v) o d =
-            subst (Tried n s s₂ pg u above e) (sym d.1) (subst (λ s₂. Tried n s s₂ pg u above e (Same v)) (sym d.0)
-            (grew_tried n s s₁ pg u above e (Same v) (same v o.0) (omega (arith, o.1, needs_same))))
-        go (Split v x) o d = grew_tried n s s₂ pg u above e r (more v x s₂ r o d) (omega (arith, o.1, needs_same))
+      same : (v : ℕ) → Grew (n - 1) s s₁ q u e (one_tree v) → Grew n s s₁ pg u e (one_tree v)
+      same v d = go n z g d
+        where
+          go : (n : ℕ) → (n ≡ 0 → ⊥) → GrowIn s n pg u e → Grew (n - 1) s s₁ q u e (one_tree v) → Grew n s s₁ pg u e (one_tree v)
+          go zero z g w = absurd (z refl)
+          go (suc m) z g w =
+              let k : suc m - 1 ≡ m = omega arith in
+              same_grew s m pg u e g st goes.starts q goes.page s₁ (one_tree v) (subst (λ j. Grew j s s₁ q u e (one_tree v)) k w) v refl
+
+      more : (v : ℕ) (x : P.Child) (s₂ : List ℕ) (r : Grown) → Grew (n - 1) s s₁ q u e (two_trees v x)
+          → Widened s₁ s₂ n pg v (way.slot + 1) x r → Grew n s s₂ pg u e r
+      more v x s₂ r o d = go n z g o fits d
+        where
+          go : (n : ℕ) → (n ≡ 0 → ⊥) → GrowIn s n pg u e → Grew (n - 1) s s₁ q u e (two_trees v x) → u + needed_in (n - 1) e.key s q below ≤ pages_most
+              → Widened s₁ s₂ n pg v (way.slot + 1) x r → Grew n s s₂ pg u e r
+          go zero z g o f d = absurd (z refl)
+          go (suc m) z g o f d =
+              let k : suc m - 1 ≡ m = omega arith in
+              let P : ℕ → Type 0 = λ j. u + needed_in j e.key s q below ≤ pages_most in
+              widened_grew s m pg u e g st goes.starts q goes.page s₁ (two_trees v x) (subst (λ j. Grew j s s₁ q u e (two_trees v x)) k o) v x refl above (subst P k f) s₂ r d
+
+      pub grow_risen : (s₂ : List ℕ) (r : Grown) → Risen s₁ s₂ n pg (way.slot + 1) r₁ r → Tried n s s₂ pg u above e (Code.Some r)
+      grow_risen s₂ r d = record { outcome = (go r₁.used r₁.beside (came (Code.Some r₁) w).0 d.how, omega (arith, fits, needs_same)) }
+        where
+          go : (v : ℕ) (b : Code.Option P.Child) → Grew (n - 1) s s₁ q u e (record { used = v; beside = b }) → Rose s₁ s₂ n pg (way.slot + 1) v b r
+              → Grew n s s₂ pg u e r
+          go v Code.None o d =
+              subst (Grew n s s₂ pg u e) (sym d.1) (subst (λ s₂. Grew n s s₂ pg u e (one_tree v)) (sym d.0) (same v o))
+          go v (Code.Some x) o d = more v x s₂ r o d
 
 -- ---- a page above a child that has grown
 module _ (s : List ℕ) (n pg i : ℕ) (g : Grown) where
-  pub risen_short : g ≡ Short → Risen s s n pg i g Short
-  risen_short z = subst (λ h. Risen s s n pg i h Short) (sym z) (record { how = (refl, refl) })
+  pub risen_same : g.beside ≡ Code.None → Risen s s n pg i g g
+  risen_same z =
+      record { how = subst (λ b. Rose s s n pg i g.used b g) (sym z) (refl, ap (λ b. record { used = g.used; beside = b }) z) }
 
-  pub risen_same : (v : ℕ) → g ≡ Same v → Risen s s n pg i g (Same v)
-  risen_same v z = subst (λ h. Risen s s n pg i h (Same v)) (sym z) (record { how = (refl, refl) })
+  pub rises_room : (c : P.Child) → Rises s n pg i g → g.beside ≡ Code.Some c → InnerRoom s n pg g.used i c
+  rises_room c h z = subst (Rising s n pg i g.used) z h.room
 
-  pub rises_room : (v : ℕ) (c : P.Child) → Rises s n pg i g → g ≡ Split v c → InnerRoom s n pg v i c
-  rises_room v c h z = (subst (Rises s n pg i) z h).room
-
-  pub risen_wider : (v : ℕ) (c : P.Child) (s' : List ℕ) (r : Grown) → g ≡ Split v c → Widened s s' n pg v i c r → Risen s s' n pg i g r
-  risen_wider v c s' r z d = subst (λ h. Risen s s' n pg i h r) (sym z) (record { how = d })
+  pub risen_wider : (c : P.Child) (s' : List ℕ) (r : Grown) → g.beside ≡ Code.Some c → Widened s s' n pg g.used i c r → Risen s s' n pg i g r
+  risen_wider c s' r z d = record { how = subst (λ b. Rose s s' n pg i g.used b r) (sym z) d }
 
 pub grow_leaf_lem : (s : List ℕ) (n pg u : ℕ) (e : Item) → GrowIn s n pg u e → n ≡ 0 → GrowIn s 0 pg u e
 grow_leaf_lem s n pg u e g z = subst (λ m. GrowIn s m pg u e) z g
 
-pub leaf_tried : (s s' : List ℕ) (n pg u above : ℕ) (e : Item) (r : Grown) → n ≡ 0 → Tried 0 s s' pg u above e r → Tried n s s' pg u above e r
+pub leaf_tried : (s s' : List ℕ) (n pg u above : ℕ) (e : Item) (r : Code.Option Grown) → n ≡ 0 → Tried 0 s s' pg u above e r → Tried n s s' pg u above e r
 leaf_tried s s' n pg u above e r z w = subst (λ m. Tried m s s' pg u above e r) (sym z) w

@@ -1,13 +1,12 @@
 -- Numbers 13 to 15 on a whole picture: who runs and who waits is read from the desk's bytes, and the rest is the rule book's refusal, by the
 -- kind of request. Assumes nothing.
 use Prim.Native.Nat.{ℕ, ◌≤◌}
-use mathlib.Core.Path.{◌≡◌, refl, sym, ap, ◌∙◌}
-use mathlib.Core.Bool.{Bool, true, false, not}
+use Rattle.std.specs.Prelude as Code
+use mathlib.Core.Path.{◌≡◌, sym, ap, ◌∙◌}
+use mathlib.Core.Bool.{Bool, false}
 use mathlib.Core.List.{List}
-use mathlib.Core.Option.{none, some}
-use borrow.Author.Tests.{not-true, not-false}
 use Rattle.limits.specs.Limits.{transactions_most}
-use Rattle.rules.specs.Runs.{runs_already, runs_not, waits_already}
+use Rattle.rules.specs.Runs.{runs_already, waits_already}
 use Rattle.rules.specs.Desk.{runs, waits_now, if_so, unless_runs, refusal}
 use Rattle.requests.specs.declared.Ask.{Ask}
 use Rattle.requests.specs.declared.Request.{Request}
@@ -20,29 +19,8 @@ use Rattle.states.specs.States.{book, state_of}
 use Rattle.states.proofs.Reading.{desk_waiting}
 use Rattle.states.specs.Whole.{Whole}
 use Rattle.states.proofs.TablesSay.{whole_fits}
-use Rattle.answering.specs.declared.Refusal.{Refusal}
 use Rattle.answering.specs.Answering.{book_refusal}
-
--- ---- by what is known of the transaction
-module _ (b : Bool) where
-  pub idle_runs : b ≡ true → some runs_already ≡ if_so book b runs_already
-  idle_runs h = ap (λ x. if_so book x runs_already) (sym h)
-
-  pub idle_not : b ≡ false → none ≡ if_so book b runs_already
-  idle_not h = ap (λ x. if_so book x runs_already) (sym h)
-
-  module _ (e : Bool) where
-    free_by : (c f : Bool) → b ≡ c → e ≡ f → unless_runs book c (if_so book f waits_already) ≡ unless_runs book b (if_so book e waits_already)
-    free_by c f h k = ap (λ x. unless_runs book c (if_so book x waits_already)) (sym k) ∙ ap (λ x. unless_runs book x (if_so book e waits_already)) (sym h)
-
-    pub free_idle : not b ≡ true → some runs_not ≡ unless_runs book b (if_so book e waits_already)
-    free_idle h = free_by false e (not-true b h) refl
-
-    pub free_waits : not b ≡ false → e ≡ true → some waits_already ≡ unless_runs book b (if_so book e waits_already)
-    free_waits h k = free_by true true (not-false b h) k
-
-    pub free_not : not b ≡ false → e ≡ false → none ≡ unless_runs book b (if_so book e waits_already)
-    free_not h k = free_by true false (not-false b h) k
+use Rattle.answers.specs.declared.Says as CodeSays
 
 module _ (p d : List ℕ) (w : Whole p d) (t : ℕ) (low : 1 ≤ t) (high : t ≤ transactions_most) where
   pub runs_is : is_running d t ≡ runs book (state_of p d) t
@@ -53,7 +31,7 @@ module _ (p d : List ℕ) (w : Whole p d) (t : ℕ) (low : 1 ≤ t) (high : t �
   unfolding state_of
   waits_is = ap (λ x. is_waiting x t) w.desk ∙ desk_waiting (slots_of d) (queue_of d) (marks_of d) (whole_fits p d w) t low high
 
-  module _ (b e : Bool) (r : b ≡ is_running d t) (f : e ≡ is_waiting d t) (q : Request) (x : Refusal) where
+  module _ (b e : Bool) (r : b ≡ is_running d t) (f : e ≡ is_waiting d t) (q : Request) (x : Code.Option CodeSays.Says) where
     pub begin_refusal : q ≡ Begin → book_refusal x ≡ if_so book b runs_already → book_refusal x ≡ refusal book (state_of p d) t (book_request q)
     unfolding refusal
     begin_refusal h k =

@@ -1,6 +1,9 @@
 -- One request answered on a whole picture: the acts of document 01 from the moves and the queue worked. The queue has room for the answers
 -- since whoever is answered first is not in it, and whoever is told last that it waits still is. Assumes nothing.
 use Prim.Native.Nat.{ℕ, ◌+◌, ◌*◌, ◌≤◌}
+use Rattle.std.specs.Prelude as Code
+use Rattle.circles.specs.declared.Blocker.{Blocker}
+use Rattle.circles.specs.declared.Blocker.TheVariants as CV
 use mathlib.Core.Path.{◌≡◌, refl, sym, ap, subst, ◌∙◌}
 use mathlib.Core.Bool.{Bool, true, false, cond, not, true≢false}
 use mathlib.Core.List.{List, [], ◌∷◌, ◌++◌}
@@ -19,8 +22,6 @@ use Rattle.rules.specs.Runs.{En, done, waiting, runs_already, runs_not, waits_al
 use Rattle.rules.specs.Desk.{runs, waits_now, says, if_so, unless_runs, refusal, begun, ended, joined, after_done, waiting_at, waiting_last, acts, unless, step, is_transaction, legal_ask, legal_request, legal_call}
 use Rattle.rules.proofs.Waits.{transaction_low, transaction_high, queued_runs}
 use Rattle.rules.proofs.Chains.{rest_told}
-use Rattle.circles.specs.declared.Blocker.{Blocker}
-use Rattle.circles.specs.declared.Blocker.TheVariants as CV
 use Rattle.circles.specs.InTheWay.{book_blocker, NextIn}
 use Rattle.circles.proofs.RowBlockers.{row_blocker}
 use Rattle.requests.specs.declared.Ask.{Ask}
@@ -44,8 +45,6 @@ use Rattle.states.proofs.TablesSay.{whole_few}
 use Rattle.states.proofs.MovesSay.{begin_says, join_room, join_says}
 use Rattle.turns.specs.Working.{Rested, RoomLeft, Wrote, worked_of}
 use Rattle.calls.specs.Promise.{Answered, lent}
-use Rattle.answering.specs.declared.Refusal.{Refusal}
-use Rattle.answering.specs.declared.Refusal.TheVariants.{By, Nothing}
 use Rattle.answering.specs.Answering.{last_of, book_refusal}
 
 -- ---- done first, and then the queue
@@ -65,7 +64,7 @@ module _ (p d o : List ℕ) (t : ℕ) (o₁ : List ℕ) (e : o₁ ≡ put_answer
       }
 
 -- from a picture that says s the same is written as from s
-pub said_wrote : (o p₁ d₁ : List ℕ) (t : ℕ) (s : St book) → Says p₁ d₁ s → (p' d' o' : List ℕ) (r : ℕ)
+said_wrote : (o p₁ d₁ : List ℕ) (t : ℕ) (s : St book) → Says p₁ d₁ s → (p' d' o' : List ℕ) (r : ℕ)
     → Wrote o 0 (after_done book t (worked_of p₁ d₁)) p' d' o' r → Wrote o 0 (after_done book t (worked book s)) p' d' o' r
 said_wrote o p₁ d₁ t s is p' d' o' r = subst (λ x. Wrote o 0 (after_done book t (worked book x)) p' d' o' r) is.state
 
@@ -183,12 +182,6 @@ module _ (p d : List ℕ) (t : ℕ) (o : List ℕ) where
           ends = omega (arith, more);
         }
 
--- ---- with t's request in the queue
-module _ (p d : List ℕ) (t : ℕ) (a : Ask) (d₁ : List ℕ) (is : Says p d₁ (joined book (state_of p d) t (book_ask a))) where
-  pub joined_wrote : (o p' d' o' : List ℕ) (r : ℕ) → Wrote o 0 (waiting_last book t (worked_of p d₁)) p' d' o' r
-      → Wrote o 0 (waiting_last book t (worked book (joined book (state_of p d) t (book_ask a)))) p' d' o' r
-  joined_wrote o p' d' o' r = subst (λ s. Wrote o 0 (waiting_last book t (worked book s)) p' d' o' r) is.state
-
 -- ---- the call taken apart
 module _ (call : Call) (h : legal_call book (book_call call) ≡ true) where
   known : is_transaction book call.asker ≡ true
@@ -206,7 +199,7 @@ module _ (call : Call) (h : legal_call book (book_call call) ≡ true) where
       ap (λ x. legal_request book (book_request x)) (sym e)
       ∙ and_right (is_transaction book call.asker) (legal_request book (book_request call.request)) h
 
-module _ (p d o : List ℕ) (call : Call) (x : Refusal) (r : book_refusal x ≡ refusal book (state_of p d) call.asker (book_request call.request)) where
+module _ (p d o : List ℕ) (call : Call) (x : Code.Option D.Says) (r : book_refusal x ≡ refusal book (state_of p d) call.asker (book_request call.request)) where
   abbrev s : St book
   s = state_of p d
 
@@ -214,7 +207,7 @@ module _ (p d o : List ℕ) (call : Call) (x : Refusal) (r : book_refusal x ≡ 
   t = call.asker
 
   module _ (w : Whole p d) where
-    pub refused_answered : (m : D.Says) → x ≡ By m → (o' : List ℕ) → o' ≡ put_answer o 0 (book_answer (record { asker = call.asker; says = m }))
+    pub refused_answered : (m : D.Says) → x ≡ Code.Some m → (o' : List ℕ) → o' ≡ put_answer o 0 (book_answer (record { asker = call.asker; says = m }))
         → Answered (book_call call) (lent p d o) (lent p d o') answer_size
     unfolding step written
     refused_answered m e o' k =
@@ -227,7 +220,7 @@ module _ (p d o : List ℕ) (call : Call) (x : Refusal) (r : book_refusal x ≡ 
           bytes = ap (λ (y : Worked book). answer_size * length y.answers) (sym is);
         }
 
-  module _ (e : x ≡ Nothing) where
+  module _ (e : x ≡ Code.None) where
     not_refused_by : (q : Request) → call.request ≡ q → refusal book s t (book_request q) ≡ none
     not_refused_by q k = ap (λ y. refusal book s t (book_request y)) (sym k) ∙ sym r ∙ ap book_refusal e
 

@@ -2,12 +2,12 @@
 -- the promises. Assumes nothing.
 use Rattle.std.specs.Prelude.{ℕ, cond, List, [], ◌∷◌}
 use Rattle.std.proofs.Math.Option.{Option, none, some}
+use Rattle.std.specs.Prelude as Code
 use Rattle.rules.specs.Desk.{waits_now, waiting_at}
 use Rattle.rules.specs.Runs.{Sy, Worked}
 use Rattle.answers.specs.AnswerMeaning.{book_says}
 use Rattle.states.specs.States.{book, state_of}
-use Rattle.answering.specs.declared.Refusal.{Refusal}
-use Rattle.answering.specs.declared.Refusal.TheVariants as RV
+use Rattle.answers.specs.declared.Says as CodeSays
 
 -- "If the new request is still queued at rest, its answer 3 comes last.": nothing moves
 unfoldable pub last_of : List ℕ → List ℕ → ℕ → Worked book
@@ -15,6 +15,6 @@ last_of p d t =
     record { state = state_of p d; answers = cond (waits_now book (state_of p d) t) (waiting_at book (state_of p d) t ∷ []) [] }
 
 -- 13 to 15, or no refusal
-abbrev pub book_refusal : Refusal → Option (Sy book)
-book_refusal (RV.By m) = some (book_says m)
-book_refusal RV.Nothing = none
+abbrev pub book_refusal : Code.Option CodeSays.Says → Option (Sy book)
+book_refusal (Code.Some m) = some (book_says m)
+book_refusal Code.None = none

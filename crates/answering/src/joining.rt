@@ -7,7 +7,7 @@ ghost use Rattle.states.specs.States.{book, state_of};
 ghost use Rattle.states.specs.Fitting.{AskFits};
 ghost use Rattle.states.specs.Whole.{Whole, Says};
 
-use entries::Value;
+use limits::{Desk, Pages};
 use requests::Ask;
 
 // The record that is asked for; what is learnt is that the request's numbers fit the fields that will hold them.
@@ -17,13 +17,13 @@ fn asked_record(ask: Ask) -> u32
 {
     match ask {
         Ask::Read(_, _) => 0,
-        Ask::Insert(_, rec) => Value::Present(rec).record(),
+        Ask::Insert(_, rec) => entries::record(Some(rec)),
         Ask::Delete(_) => 0,
     }
 }
 
 // t's request joins the queue.
-pub fn join(pages: &[u8], desk: &mut [u8], t: u16, ask: Ask)
+pub fn join(pages: &Pages, desk: &mut Desk, t: u16, ask: Ask)
     requires whole { Whole pages.now desk.old }
     requires le_t { 1 ≤ t }
     requires t_le_transactions_most { t ≤ transactions_most }

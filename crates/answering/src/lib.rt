@@ -4,7 +4,7 @@
 mod joining;
 mod refusing;
 
-ghost use Rattle.std.specs.Prelude.{◌≡◌, true, false, ◌+◌, ◌≤◌, length};
+ghost use Rattle.std.specs.Prelude.{◌≡◌, true, false, ◌≤◌, length};
 ghost use Rattle.limits.specs.Limits.{transactions_most, space_least};
 ghost use Rattle.rules.specs.Queue.{blocker_of};
 ghost use Rattle.rules.specs.Runs.{worked};
@@ -20,19 +20,13 @@ ghost use Rattle.answering.specs.Answering.{last_of};
 
 use answers::{Answer, Says};
 use circles::Blocker;
-use limits::TRANSACTIONS;
+use limits::{Desk, Pages, TRANSACTIONS};
 use queue::transactions;
 use requests::{Ask, Call, Request};
-
-// What stands against a request, 13 to 15, or nothing.
-#[derive(Clone, Copy)]
-pub enum Refusal {
-    By(Says),
-    Nothing,
-}
+use waits::Row;
 
 // Says done to t, who is not in the queue, and then works the queue.
-fn done_first(pages: &mut [u8], desk: &mut [u8], answers: &mut [u8], t: u16) -> usize
+fn done_first(pages: &mut Pages, desk: &mut Desk, answers: &mut [u8], t: u16) -> usize
     requires whole { Whole pages.old desk.old }
     requires space_least_in_bounds { space_least ≤ length answers.old }
     requires le_t { 1 ≤ t }
@@ -48,12 +42,12 @@ fn done_first(pages: &mut [u8], desk: &mut [u8], answers: &mut [u8], t: u16) -> 
             says: Says::Done,
         },
     );
-    let mut row: [u64; TRANSACTIONS + 1] = [0; TRANSACTIONS + 1];
+    let mut row: Row = [0; TRANSACTIONS + 1];
     turns::work(pages, desk, answers, limits::ANSWER_SIZE, &mut row)
 }
 
 // t, which does not run, begins.
-fn begin(pages: &mut [u8], desk: &mut [u8], answers: &mut [u8], t: u16) -> usize
+fn begin(pages: &mut Pages, desk: &mut Desk, answers: &mut [u8], t: u16) -> usize
     requires whole { Whole pages.old desk.old }
     requires space_least_in_bounds { space_least ≤ length answers.old }
     requires le_t { 1 ≤ t }
@@ -66,7 +60,7 @@ fn begin(pages: &mut [u8], desk: &mut [u8], answers: &mut [u8], t: u16) -> usize
 }
 
 // t ends, by commit or by rollback.
-fn end(pages: &mut [u8], desk: &mut [u8], answers: &mut [u8], t: u16, commits: bool) -> usize
+fn end(pages: &mut Pages, desk: &mut Desk, answers: &mut [u8], t: u16, commits: bool) -> usize
     requires whole { Whole pages.old desk.old }
     requires space_least_in_bounds { space_least ≤ length answers.old }
     requires le_t { 1 ≤ t }
@@ -78,25 +72,24 @@ fn end(pages: &mut [u8], desk: &mut [u8], answers: &mut [u8], t: u16, commits: b
 }
 
 // Who is in the way of t's request, on a desk at rest; the row has all who block each request.
-fn blocker_of(pages: &[u8], desk: &[u8], row: &[u64], t: u16) -> Blocker
+fn blocker_of(pages: &Pages, desk: &Desk, row: &Row, t: u16) -> Blocker
     requires whole { Whole pages.now desk.now }
     requires le_t { 1 ≤ t }
     requires t_le_transactions_most { t ≤ transactions_most }
     requires rested { Rested pages.now desk.now row.now }
     ensures { book_blocker result ≡ blocker_of book (state_of pages.now desk.now) t }
 {
-    let at = t as usize;
-    circles::next_in(row[at], 1, TRANSACTIONS + 1)
+    circles::next_in(row[usize::from(t)], 1, TRANSACTIONS + 1)
 }
 
 // Says to t that it waits, if it does, and who is in the way. It gives the place where the answers end then.
 fn say_waiting(
-    pages: &[u8],
-    desk: &[u8],
+    pages: &Pages,
+    desk: &Desk,
     answers: &mut [u8],
     t: u16,
     end: usize,
-    row: &[u64],
+    row: &Row,
 ) -> usize
     requires whole { Whole pages.now desk.now }
     requires le_t { 1 ≤ t }
@@ -105,8 +98,7 @@ fn say_waiting(
     requires rested { Rested pages.now desk.now row.now }
     ensures { Wrote answers.old end (last_of pages.now desk.now t) pages.now desk.now answers.new result }
 {
-    let blocker = blocker_of(pages, desk, row, t);
-    let Blocker::By(by) = blocker else {
+    let Blocker::By(by) = blocker_of(pages, desk, row, t) else {
         return end;
     };
     answers::put_answer(
@@ -120,39 +112,21 @@ fn say_waiting(
     end + limits::ANSWER_SIZE
 }
 
-// Works the queue; if t still waits then, that is said last. There is room for all who block each request.
-fn work_with(
-    pages: &mut [u8],
-    desk: &mut [u8],
-    answers: &mut [u8],
-    t: u16,
-    row: &mut [u64],
-) -> usize
-    requires whole { Whole pages.old desk.old }
-    requires le_t { 1 ≤ t }
-    requires t_le_transactions_most { t ≤ transactions_most }
-    requires space_least_in_bounds { space_least ≤ length answers.old }
-    requires row_len { length row.old ≡ transactions_most + 1 }
-    ensures { Wrote answers.old 0 (waiting_last book t (worked_of pages.old desk.old)) pages.new desk.new answers.new result }
-{
-    let end = turns::work(pages, desk, answers, 0, row);
-    say_waiting(pages, desk, answers, t, end, row)
-}
-
-// The same, with the room.
-fn work_for(pages: &mut [u8], desk: &mut [u8], answers: &mut [u8], t: u16) -> usize
+// Works the queue; if t still waits then, that is said last.
+fn work_for(pages: &mut Pages, desk: &mut Desk, answers: &mut [u8], t: u16) -> usize
     requires whole { Whole pages.old desk.old }
     requires le_t { 1 ≤ t }
     requires t_le_transactions_most { t ≤ transactions_most }
     requires space_least_in_bounds { space_least ≤ length answers.old }
     ensures { Wrote answers.old 0 (waiting_last book t (worked_of pages.old desk.old)) pages.new desk.new answers.new result }
 {
-    let mut row: [u64; TRANSACTIONS + 1] = [0; TRANSACTIONS + 1];
-    work_with(pages, desk, answers, t, &mut row)
+    let mut row: Row = [0; TRANSACTIONS + 1];
+    let end = turns::work(pages, desk, answers, 0, &mut row);
+    say_waiting(pages, desk, answers, t, end, &row)
 }
 
 // t's request joins the queue, and the queue is worked.
-fn queue_up(pages: &mut [u8], desk: &mut [u8], answers: &mut [u8], t: u16, ask: Ask) -> usize
+fn queue_up(pages: &mut Pages, desk: &mut Desk, answers: &mut [u8], t: u16, ask: Ask) -> usize
     requires whole { Whole pages.old desk.old }
     requires space_least_in_bounds { space_least ≤ length answers.old }
     requires le_t { 1 ≤ t }
@@ -167,24 +141,15 @@ fn queue_up(pages: &mut [u8], desk: &mut [u8], answers: &mut [u8], t: u16, ask: 
 }
 
 // Answers one legal request on a whole picture, and gives how many bytes the answers take: refused with 13 to 15, or as the request asks.
-pub fn answer(pages: &mut [u8], desk: &mut [u8], answers: &mut [u8], call: Call) -> usize
+pub fn answer(pages: &mut Pages, desk: &mut Desk, answers: &mut [u8], call: Call) -> usize
     requires whole { Whole pages.old desk.old }
     requires space_least_in_bounds { space_least ≤ length answers.old }
     requires call_value { legal_call book (book_call call) ≡ true }
     ensures { Answered (book_call call) (lent pages.old desk.old answers.old) (lent pages.new desk.new answers.new) result }
 {
-    let t = call.asker;
-    let request = call.request;
-    let refusal = refusing::refusal_of(pages, desk, t, request);
-    if let Refusal::By(says) = refusal {
-        answers::put_answer(
-            answers,
-            0,
-            Answer {
-                asker: t,
-                says: says,
-            },
-        );
+    let Call { asker: t, request } = call;
+    if let Some(says) = refusing::refusal_of(pages, desk, t, request) {
+        answers::put_answer(answers, 0, Answer { asker: t, says });
         return limits::ANSWER_SIZE;
     }
     match request {

@@ -8,38 +8,30 @@ ghost use Rattle.states.specs.States.{book, state_of};
 ghost use Rattle.states.specs.Whole.{Whole};
 ghost use Rattle.answering.specs.Answering.{book_refusal};
 
-use super::Refusal;
 use answers::Says;
+use limits::{Desk, Pages};
 use queue::transactions;
 use requests::Request;
 
 // 13 where the transaction runs.
-fn unless_idle(runs: bool) -> Refusal
+fn unless_idle(runs: bool) -> Option<Says>
     ensures { book_refusal result ≡ if_so book runs runs_already }
 {
-    if runs {
-        Refusal::By(Says::RunsAlready)
-    } else {
-        Refusal::Nothing
-    }
+    runs.then_some(Says::RunsAlready)
 }
 
 // 14 where it does not run, and otherwise 15 where it waits.
-fn unless_free(runs: bool, waits: bool) -> Refusal
+fn unless_free(runs: bool, waits: bool) -> Option<Says>
     ensures { book_refusal result ≡ unless_runs book runs (if_so book waits waits_already) }
 {
     if !runs {
-        return Refusal::By(Says::RunsNot);
+        return Some(Says::RunsNot);
     }
-    if waits {
-        Refusal::By(Says::WaitsAlready)
-    } else {
-        Refusal::Nothing
-    }
+    waits.then_some(Says::WaitsAlready)
 }
 
 // What stands against t's request, whatever the pages hold.
-pub fn refusal_of(pages: &[u8], desk: &[u8], t: u16, request: Request) -> Refusal
+pub fn refusal_of(pages: &Pages, desk: &Desk, t: u16, request: Request) -> Option<Says>
     requires whole { Whole pages.now desk.now }
     requires le_t { 1 ≤ t }
     requires t_le_transactions_most { t ≤ transactions_most }

@@ -7,20 +7,19 @@ ghost use Rattle.rules.specs.Runs.{paper, numbered};
 ghost use Rattle.answers.specs.AnswerMeaning.{book_says, book_answer, OnPaper};
 ghost use Rattle.answers.specs.AnswerRecord.{put_answer};
 
-use entries::Value;
 use keys::Key;
 
 // What the desk says. Who waits is told the number of the one who is in the way.
 #[derive(Clone, Copy)]
 pub enum Says {
     Done,
-    Found(Key, Value),
+    Found(Key, Option<u32>),
     Nothing,
     Waiting(u16),
     RunsAlready,
     RunsNot,
     WaitsAlready,
-    IsPresent(Key, Value),
+    IsPresent(Key, Option<u32>),
     LocksShort,
     PagesShort,
     Circle,
@@ -39,7 +38,7 @@ fn numbered(number: u16) -> Paper
     ensures { OnPaper (numbered number) result }
 {
     Paper {
-        number: number,
+        number,
         key: Key::LOWEST,
         rec: 0,
     }
@@ -54,22 +53,22 @@ impl Says {
             Says::Done => numbered(0),
             Says::Found(key, now) => Paper {
                 number: 1,
-                key: key,
-                rec: now.record(),
+                key,
+                rec: entries::record(now),
             },
             Says::Nothing => numbered(2),
             Says::Waiting(by) => Paper {
                 number: 3,
                 key: Key::LOWEST,
-                rec: by as u32,
+                rec: u32::from(by),
             },
             Says::RunsAlready => numbered(13),
             Says::RunsNot => numbered(14),
             Says::WaitsAlready => numbered(15),
             Says::IsPresent(key, now) => Paper {
                 number: 16,
-                key: key,
-                rec: now.record(),
+                key,
+                rec: entries::record(now),
             },
             Says::LocksShort => numbered(17),
             Says::PagesShort => numbered(18),
@@ -95,13 +94,11 @@ pub fn put_answer(out: &mut [u8], at: usize, a: Answer)
     requires { at + answer_size ≤ length out.old }
     ensures { out.new ≡ put_answer out.old at (book_answer a) }
 {
-    let says = a.says;
-    let p = says.paper();
-    let key = p.key;
+    let paper = a.says.paper();
     numbers::write_u16(out, at, LENGTH);
     numbers::write_u16(out, at + 2, 7);
     numbers::write_u16(out, at + 4, a.asker);
-    numbers::write_u16(out, at + 6, p.number);
-    key.write(out, at + 8);
-    numbers::write_u32(out, at + REC, p.rec);
+    numbers::write_u16(out, at + 6, paper.number);
+    paper.key.write(out, at + 8);
+    numbers::write_u32(out, at + REC, paper.rec);
 }

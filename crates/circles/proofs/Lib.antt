@@ -1,5 +1,4 @@
 pub mod Bits
-pub mod Clearing
 pub mod CircleTurns
 pub mod Nexts
 pub mod WaitsKnown

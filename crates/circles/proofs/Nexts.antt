@@ -1,8 +1,7 @@
--- The lowest of a set: the search for it, turn by turn; one link further, from one of the set to the next; and it is the lowest of the
--- list whose set it is. Assumes nothing.
+-- The lowest of a set: one link further, from one of the set to the next; and it is the lowest of the list whose set it is. Assumes nothing.
 use Prim.Native.Nat.{ℕ, zero, suc, ◌+◌, ◌-◌, ◌≤◌, ◌<◌}
 use mathlib.Core.Path.{◌≡◌, refl, sym, subst, ◌∙◌}
-use mathlib.Core.Bool.{Bool, true, false, true≢false}
+use mathlib.Core.Bool.{Bool, true, true≢false}
 use mathlib.Core.List.{List}
 use mathlib.Core.Option.{Option, none, some}
 use native.Mathlib.Omega.{arith}
@@ -12,41 +11,18 @@ use lib.ListN.{length, get_or}
 use Rattle.lists.specs.Lists.{In, lowest}
 use Rattle.lists.proofs.Elements.{in_member, member_in}
 use Rattle.lists.proofs.Lowest.{lowest_is, lowest_of}
-use Rattle.circles.specs.declared.Blocker.{Blocker}
-use Rattle.circles.specs.declared.Blocker.TheVariants.{By, Nobody}
 use Rattle.circles.specs.CircleSets.{has, SetOf}
 use Rattle.circles.specs.Search.{gathered, further_on}
+use Rattle.circles.specs.declared.Blocker.{Blocker}
+use Rattle.circles.specs.declared.Blocker.TheVariants.{By, Nobody}
 use Rattle.circles.specs.InTheWay.{book_blocker, NoneIn, NextIs, NextIn}
 use Rattle.circles.proofs.CircleTurns.{gather_in, gather_out, gather_end}
 
--- ---- the search: none of those passed is in the set
+-- ---- the search: the first that is in the set is the lowest
 module _ (m from : ℕ) where
-  pub none_start : NoneIn m from from
-  none_start = record { none = λ u a b. absurd (omega arith) }
-
   module _ (t : ℕ) (i : NoneIn m from t) (b : Bool) (e : b ≡ has m t) where
-    pub none_on : b ≡ false → NoneIn m from (t + 1)
-    none_on y = record { none = λ u a l. go u a l (dec_lt u t) }
-      where
-        go : (u : ℕ) → from ≤ u → u < t + 1 → Dec (u < t) → has m u ≡ false
-        go u a l (yes h) = i.none u a h
-        go u a l (no h) = let s : u ≡ t = omega arith in rw s (sym e ∙ y)
-
     pub next_here : (to : ℕ) → from ≤ t → t < to → b ≡ true → NextIs m from to t
     next_here to a l y = record { low = a; high = l; is_in = sym e ∙ y; lowest = i }
-
-  pub none_end : (t to : ℕ) → NoneIn m from t → to ≤ t → NoneIn m from to
-  none_end t to i h = record { none = λ u a l. i.none u a (omega arith) }
-
-module _ (m from to t : ℕ) (b : Blocker) (x : NextIn m from to b) (e : b ≡ By t) where
-  found : NextIs m from to t
-  found = subst (NextIn m from to) e x
-
-  pub next_below : t < to
-  next_below = found.high
-
-  pub next_less : to - (t + 1) < to - from
-  next_less = omega (arith, found.low, found.high)
 
 -- ---- one link further: those between two of the set add nothing
 module _ (row : List ℕ) (m r : ℕ) where

@@ -1,6 +1,7 @@
 -- Who is in the way of a transaction's queued request is the lowest of its set in the row. An asker has one wait, so the set has just those who
 -- block it. Assumes the invariants of rules/specs/Good.
 use Prim.Native.Nat.{ℕ, ◌<◌}
+use Rattle.circles.specs.declared.Blocker.{Blocker}
 use mathlib.Core.Path.{◌≡◌, refl, sym, subst, ◌∙◌}
 use mathlib.Core.Bool.{Bool, true, false, true≢false}
 use mathlib.Core.List.{List, []}
@@ -16,7 +17,6 @@ use Rattle.rules.specs.Kinds.{Book}
 use Rattle.rules.specs.Queue.{St, Wait, waits, blocker_in, blocker_of}
 use Rattle.rules.specs.Good.{Good}
 use Rattle.rules.proofs.Waits.{same_wait, transaction_low, transaction_high, runs_known, blocker_runs}
-use Rattle.circles.specs.declared.Blocker.{Blocker}
 use Rattle.circles.specs.CircleSets.{is_link, RowOf}
 use Rattle.circles.specs.InTheWay.{book_blocker, NextIn}
 use Rattle.circles.proofs.Nexts.{lowest_next}

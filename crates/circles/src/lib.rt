@@ -10,7 +10,7 @@ ghost use Rattle.circles.specs.InTheWay.{NextIn};
 
 use sets::word;
 
-// Who is in the way: a transaction, by its number, or nobody. (Document 02, [4].)
+// Who is in the way: a transaction, by its number, or nobody. (Document 02, [4]. An enum of its own and no Option: document 01 names this form.)
 #[derive(Clone, Copy)]
 pub enum Blocker {
     By(u16),
@@ -21,12 +21,7 @@ pub enum Blocker {
 pub fn clear(row: &mut [u64])
     ensures { row.new ≡ replicate (length row.old) 0 }
 {
-    let n = row.len();
-    let mut t: usize = 0;
-    while t < n {
-        row[t] = 0;
-        t += 1;
-    }
+    row.fill(0);
 }
 
 // The set with t in it.
@@ -53,12 +48,10 @@ pub fn next_in(m: u64, from: usize, to: usize) -> Blocker
     requires to_bound { to ≤ 65 }
     ensures { NextIn m from to result }
 {
-    let mut t = from;
-    while t < to {
+    for t in from..to {
         if is_in(m, t) {
             return Blocker::By(t as u16);
         }
-        t += 1;
     }
     Blocker::Nobody
 }
@@ -69,33 +62,29 @@ pub fn further(row: &[u64], m: u64) -> u64
     ensures { result ≡ further_on row.now m }
 {
     let mut r = m;
-    let mut from: usize = 1;
+    let mut from = 1;
     loop {
-        let next = next_in(m, from, row.len());
-        let Blocker::By(t) = next else {
+        let Blocker::By(t) = next_in(m, from, row.len()) else {
             return r;
         };
-        let at = t as usize;
-        r = r | row[at];
+        let at = usize::from(t);
+        r |= row[at];
         from = at + 1;
     }
 }
 
-// Whom a chain from the set reaches with at most so many links. The number of links left falls; a link that adds nobody
-// is the last that could.
+// Whom a chain from the set reaches with at most so many links. A link that adds nobody is the last that could.
 pub fn reached(row: &[u64], links: usize, m: u64) -> u64
     requires { length row.now ≤ 65 }
     ensures { result ≡ reached_on row.now links m }
 {
-    let mut left = links;
     let mut set = m;
-    while 0 < left {
+    for _ in 0..links {
         let next = further(row, set);
         if next == set {
             return set;
         }
         set = next;
-        left -= 1;
     }
     set
 }

@@ -1,27 +1,17 @@
 -- A fresh picture: zeros with length and kind in front are the desk of an empty queue, since a zero written over a zero changes nothing.
 -- By induction on the width. Assumes nothing.
-use Prim.Native.Nat.{ℕ, zero, suc, ◌+◌, ◌≤◌, ◌<◌}
-use mathlib.Core.Path.{◌≡◌, refl, sym, ap, subst, ◌∙◌}
-use mathlib.Core.Bool.{true, false}
+use Prim.Native.Nat.{ℕ, zero, suc, ◌+◌, ◌≤◌}
+use mathlib.Core.Path.{◌≡◌, refl, sym, ap, ◌∙◌}
 use mathlib.Core.List.{List, [], ◌∷◌}
-use native.Mathlib.Nat.{zero-add}
 use native.Mathlib.Omega.{arith}
-use native.Mathlib.Decide.{dec_lt}
-use lib.ListN.{length, get_or, set, get_or-eq_default}
+use lib.ListN.{length, get_or, set, replicate, length-replicate}
 use Rattle.limits.specs.Limits.{desk_size}
-use Rattle.numbers.specs.Numbers.{put_number, put_fields, zeroed}
+use Rattle.numbers.specs.Numbers.{put_number, put_fields}
 use Rattle.numbers.proofs.Numbers.{get_d_put_number_out}
-use Rattle.numbers.proofs.ByteMoves.{length_zeroed, get_d_zeroed_in}
-use Rattle.trees.specs.Shapes.{bare}
 use Rattle.queue.specs.QueueLayout.{head_widths}
-use Rattle.index.specs.Changes.{Becomes}
-use Rattle.states.specs.States.{state_of}
 use Rattle.states.proofs.DeskSays.{head_fields}
 use Rattle.states.proofs.FreshDesk.{fresh_desk_lem}
-use Rattle.states.specs.Whole.{Whole}
 use Rattle.states.specs.Fresh.{fresh_desk}
-use Rattle.states.proofs.FreshPicture.{fresh_whole, fresh_says}
-use Rattle.calls.specs.Promise.{wrong_picture, returned, Freshened, sizes, made}
 
 set_zero : (s : List ℕ) (i : ℕ) → get_or s i 0 ≡ 0 → set s i 0 ≡ s
 set_zero [] i h = refl
@@ -34,20 +24,21 @@ put_zero zero s at h = refl
 put_zero (suc w) s at h =
     ap (λ x. put_number w x (at + 1) 0) (set_zero s at (h at (omega arith))) ∙ put_zero w s (at + 1) (λ k l. h k (omega arith))
 
+all_zero : (n k : ℕ) → get_or (replicate {A = ℕ} n 0) k 0 ≡ 0
+all_zero zero k = refl
+all_zero (suc n) zero = refl
+all_zero (suc n) (suc k) = all_zero n k
+
 -- ---- the desk
 module _ (d : List ℕ) (size : length d ≡ desk_size) where
   abbrev z : List ℕ
-  z = zeroed desk_size 0 d
+  z = replicate (length d) 0
 
   long : length z ≡ desk_size
-  long = length_zeroed desk_size 0 d (omega arith) ∙ size
+  long = length-replicate {A = ℕ} (length d) 0 ∙ size
 
   zeros : (k : ℕ) → get_or z k 0 ≡ 0
-  zeros k = go (dec_lt k desk_size)
-    where
-      go : Dec (k < desk_size) → get_or z k 0 ≡ 0
-      go (yes l) = subst (λ i. get_or z i 0 ≡ 0) (zero-add k) (get_d_zeroed_in desk_size 0 d (omega arith) k l)
-      go (no l) = get_or-eq_default z 0 {n = k} (omega (arith, long))
+  zeros k = all_zero (length d) k
 
   abbrev headed : List ℕ
   headed = put_number 2 (put_number 2 z 0 desk_size) 2 8
@@ -65,16 +56,7 @@ module _ (d : List ℕ) (size : length d ≡ desk_size) where
       ∙ ap (λ x. put_number 8 x 24 0) (put_zero 8 headed 16 (λ k l. behind k (omega arith)))
       ∙ put_zero 8 headed 24 (λ k l. behind k (omega arith)))
 
-  pub desk_fresh : (d₁ d₂ d₃ : List ℕ) → d₁ ≡ zeroed desk_size 0 d → d₂ ≡ put_number 2 d₁ 0 desk_size → d₃ ≡ put_number 2 d₂ 2 8 → d₃ ≡ fresh_desk
+  pub desk_fresh : (d₁ d₂ d₃ : List ℕ) → d₁ ≡ replicate (length d) 0 → d₂ ≡ put_number 2 d₁ 0 desk_size → d₃ ≡ put_number 2 d₂ 2 8 → d₃ ≡ fresh_desk
   unfolding fresh_desk
   desk_fresh d₁ d₂ d₃ a b c =
       c ∙ ap (λ x. put_number 2 x 2 8) b ∙ ap (λ x. put_number 2 (put_number 2 x 0 desk_size) 2 8) a ∙ headed_fields ∙ fresh_desk_lem z long zeros
-
--- ---- the picture
-pub freshened_sizes : (p d : List ℕ) → wrong_picture p d ≡ true → Freshened p d p d (returned 10 0)
-freshened_sizes p d h = sizes h refl refl refl
-
-pub freshened_made : (p d p' d' : List ℕ) → wrong_picture p d ≡ false → Becomes p' bare → d' ≡ fresh_desk → Freshened p d p' d' 0
-unfolding fresh_desk
-freshened_made p d p' d' h b e =
-    made h (subst (Whole p') (sym e) (fresh_whole p' b)) (ap (state_of p') e ∙ fresh_says p' b) refl

@@ -1,5 +1,5 @@
 // The desk for callers that are not written in Rattle: the two functions of the crate `desk`, exported from a static library with the same
-// contracts. (include/keydesk.h declares them.)
+// contracts: what C calls stands once in a static library, and once in a library of Rattle. (include/keydesk.h declares them.)
 #![tactic(auto)]
 
 ghost use Rattle.calls.specs.Promise.{Freshened, Served, lent};

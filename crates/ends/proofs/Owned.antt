@@ -2,6 +2,9 @@
 -- in a slot not yet passed, and settling all would give what it gave at first. After the last slot nothing is left to settle.
 -- Assumes nothing.
 use Prim.Native.Nat.{ℕ, ◌+◌, ◌≤◌, ◌<◌}
+use Rattle.std.specs.Prelude as Code
+use Rattle.std.specs.Bool.{then_some}
+use Rattle.std.specs.Option.{MatchOption}
 use mathlib.Core.Path.{◌≡◌, refl, sym, ap, subst, ◌∙◌}
 use mathlib.Core.Logic.{◌≢◌, inl, inr, ⊎_elim}
 use mathlib.Core.Bool.{Bool, true, false, cond, ◌&&◌}
@@ -21,8 +24,6 @@ use Rattle.rules.proofs.LockTable.{Held, x_conflicts}
 use Rattle.rules.proofs.Unblocked.{good_sound}
 use Rattle.trees.specs.Trees.{Index, flat}
 use Rattle.locks.specs.declared.Lock as L
-use Rattle.locks.specs.declared.Slot as Sl
-use Rattle.locks.specs.declared.Slot.TheVariants as SV
 use Rattle.locks.specs.SlotLayout.{name_number, slot_at, slots_of, book_mode, book_slot}
 use Rattle.locks.proofs.LockValues.{name_back}
 use Rattle.index.specs.Pictures.{Item, index_of, entries_in, WholePages}
@@ -33,27 +34,22 @@ use Rattle.states.specs.Whole.{Whole}
 use Rattle.ends.specs.Endings.{exclusive, settled_under}
 
 -- ---- a slot
-module _ (t : ℕ) (x : Option (Lock ℕ)) (s : Sl.Slot) (e : book_slot s ≡ x) where
-  pub not_held : s ≡ SV.Free → book_slot SV.Free ≡ exclusive t x
-  not_held h = ap (exclusive t) (sym (ap book_slot h) ∙ e)
-
-  module _ (l : L.Lock) (h : s ≡ SV.Held l) (c : Bool) (m : c ≡ conflict (book_mode l.mode) S) where
-    tested : exclusive t x ≡ cond (eqb l.holder t && c) (book_slot (SV.Held l)) none
-    tested =
-        ap (exclusive t) (sym e ∙ ap book_slot h) ∙ ap (λ b. cond (eqb l.holder t && b) (book_slot (SV.Held l)) none) (sym m)
-
-    pub held_x : (eqb l.holder t && c) ≡ true → book_slot (SV.Held l) ≡ exclusive t x
-    held_x y = sym (tested ∙ ap (λ b. cond b (book_slot (SV.Held l)) none) y)
-
-    pub held_other : (eqb l.holder t && c) ≡ false → book_slot SV.Free ≡ exclusive t x
-    held_other n = sym (tested ∙ ap (λ b. cond b (book_slot (SV.Held l)) none) n)
+pub lock_kept : {P : L.Lock → Bool → Type 0} (t : ℕ) (x : Option (Lock ℕ)) (s r : Code.Option L.Lock) → book_slot s ≡ x
+    → MatchOption s (r ≡ Code.None) (λ l. (b : Bool) × P l b × (r ≡ then_some b l))
+    → ((l : L.Lock) (b : Bool) → P l b → b ≡ (eqb l.holder t && conflict (book_mode l.mode) S)) → book_slot r ≡ exclusive t x
+lock_kept t x Code.None r e m says = ap book_slot m ∙ ap (exclusive t) e
+lock_kept t x (Code.Some l) r e (b, p, z) says = ap book_slot z ∙ go b ∙ ap (λ b. cond b (book_slot (Code.Some l)) none) (says l b p) ∙ ap (exclusive t) e
+  where
+    go : (b : Bool) → book_slot (then_some b l) ≡ cond b (book_slot (Code.Some l)) none
+    go true = refl
+    go false = refl
 
 -- ---- what it settles
-module _ (commits : Bool) (t : ℕ) (x : Option (Lock ℕ)) (s : Sl.Slot) (e : book_slot s ≡ x) (p : List ℕ) where
-  pub under_none : s ≡ SV.Free → WholePages p → Becomes p (settled_under commits t x (index_of p))
+module _ (commits : Bool) (t : ℕ) (x : Option (Lock ℕ)) (s : Code.Option L.Lock) (e : book_slot s ≡ x) (p : List ℕ) where
+  pub under_none : s ≡ Code.None → WholePages p → Becomes p (settled_under commits t x (index_of p))
   under_none h w = record { whole = w; index = ap (λ y. settled_under commits t y (index_of p)) (sym (ap book_slot h) ∙ e) }
 
-  pub under_one : (l : L.Lock) → s ≡ SV.Held l → (p' : List ℕ) → Becomes p' (settled_at commits t l.name.0 (index_of p))
+  pub under_one : (l : L.Lock) → s ≡ Code.Some l → (p' : List ℕ) → Becomes p' (settled_at commits t l.name.0 (index_of p))
       → Becomes p' (settled_under commits t x (index_of p))
   under_one l h p' b =
       record {

@@ -1,8 +1,8 @@
 // The end of a transaction. (Document 01, "Keys and entries", "Locks".)
 #![tactic(auto)]
 
-ghost use Rattle.std.specs.Prelude.{◌≡◌, cond, false, ◌≤◌, ◌<◌, ltb, length};
-ghost use Rattle.limits.specs.Limits.{transactions_most, locks_most, desk_size};
+ghost use Rattle.std.specs.Prelude.{◌≡◌, cond, false, ◌≤◌, ◌<◌, ltb};
+ghost use Rattle.limits.specs.Limits.{transactions_most, locks_most};
 ghost use Rattle.rules.specs.Desk.{ended};
 ghost use Rattle.pages.specs.PageChanges.{end_of};
 ghost use Rattle.queue.specs.QueueLayout.{queued};
@@ -15,27 +15,24 @@ ghost use Rattle.states.specs.States.{book, state_of};
 ghost use Rattle.states.specs.Whole.{Whole, Says};
 ghost use Rattle.ends.specs.Endings.{exclusive, settled_under};
 
-use limits::LOCKS;
-use locks::{Mode, Slot};
+use limits::{Desk, LOCKS, Pages};
+use locks::{Lock, Mode};
 use queue::transactions;
 
 // Drops t's request from the queue, if it has one there.
-fn drop_request(desk: &mut [u8], t: u16)
-    requires desk_len { length desk.old ≡ desk_size }
+fn drop_request(desk: &mut Desk, t: u16)
     requires desk_bound { queued desk.old ≤ transactions_most }
     requires t_le_transactions_most { t ≤ transactions_most }
     ensures { desk.new ≡ cond (ltb (waits_in desk.old t) (queued desk.old)) (queue_left desk.old (waits_in desk.old t)) desk.old }
 {
     let q = queue::place_in_queue(desk, t);
-    let n = queue::queued(desk);
-    if q < n {
+    if q < queue::queued(desk) {
         queue::leave_queue(desk, q);
     }
 }
 
 // Releases t's locks, and marks that it runs no more.
-fn stop(desk: &mut [u8], t: u16)
-    requires desk_len { length desk.old ≡ desk_size }
+fn stop(desk: &mut Desk, t: u16)
     requires t_le_transactions_most { t ≤ transactions_most }
     ensures { desk.new ≡ mark_put (locks_released t desk.old) t false }
 {
@@ -46,66 +43,36 @@ fn stop(desk: &mut [u8], t: u16)
 // From how many X locks on settling every leaf is quicker than looking each entry up.
 const MANY: usize = 9;
 
-// Slot i, if it is t's lock in X; otherwise as if it were free.
-fn exclusive_at(desk: &[u8], i: usize, t: u16) -> Slot
-    requires desk_len { length desk.now ≡ desk_size }
+// The lock in slot i, if it is t's lock in X.
+fn exclusive_at(desk: &Desk, i: usize, t: u16) -> Option<Lock>
     requires i_lt_locks_most { i < locks_most }
     ensures { book_slot result ≡ exclusive t (slot_at desk.now i) }
 {
-    let Slot::Held(l) = locks::slot_at(desk, i) else {
-        return Slot::Free;
-    };
-    let mode = l.mode;
-    if (l.holder == t) & mode.conflicts(Mode::S) {
-        return Slot::Held(l);
-    }
-    Slot::Free
-}
-
-// 1 for t's lock in X.
-fn count_at(desk: &[u8], i: usize, t: u16) -> usize
-    requires desk_len { length desk.now ≡ desk_size }
-    requires i_lt_locks_most { i < locks_most }
-    ensures { result ≤ 1 }
-{
-    if exclusive_at(desk, i, t).is_free() {
-        return 0;
-    }
-    1
+    locks::slot_at(desk, i).filter(|lock| (lock.holder == t) & lock.mode.conflicts(Mode::S))
 }
 
 // Whether t has many X locks. What an end does never depends on it, only how long it takes.
-fn has_many(desk: &[u8], t: u16) -> bool
-    requires { length desk.now ≡ desk_size }
-{
-    let mut i: usize = 0;
-    let mut n: usize = 0;
-    while i < LOCKS {
-        n += count_at(desk, i, t);
-        if n == MANY {
-            return true;
-        }
-        i += 1;
-    }
-    false
+fn has_many(desk: &Desk, t: u16) -> bool {
+    (0..LOCKS)
+        .filter(|i| exclusive_at(desk, *i, t).is_some())
+        .take(MANY)
+        .count()
+        == MANY
 }
 
 // Settles t's entry of the key in slot i, if that is t's lock in X.
-fn settle_under(pages: &mut [u8], desk: &[u8], i: usize, t: u16, commits: bool)
+fn settle_under(pages: &mut Pages, desk: &Desk, i: usize, t: u16, commits: bool)
     requires whole_pages { WholePages pages.old }
-    requires desk_len { length desk.now ≡ desk_size }
     requires i_lt_locks_most { i < locks_most }
     ensures { Becomes pages.new (settled_under commits t (exclusive t (slot_at desk.now i)) (index_of pages.old)) }
 {
-    let Slot::Held(l) = exclusive_at(desk, i, t) else {
-        return;
-    };
-    let key = l.name;
-    settling::settle_key(pages, key, t, commits);
+    if let Some(lock) = exclusive_at(desk, i, t) {
+        settling::settle_key(pages, lock.name, t, commits);
+    }
 }
 
 // Settles all entries of t. Each stands under an X lock of t, so few locks are looked up one by one.
-fn settle_entries(pages: &mut [u8], desk: &[u8], t: u16, commits: bool)
+fn settle_entries(pages: &mut Pages, desk: &Desk, t: u16, commits: bool)
     requires whole { Whole pages.old desk.now }
     requires le_t { 1 ≤ t }
     ensures { Becomes pages.new (settled_in commits t (index_of pages.old)) }
@@ -114,15 +81,13 @@ fn settle_entries(pages: &mut [u8], desk: &[u8], t: u16, commits: bool)
         settling::settle(pages, t, commits);
         return;
     }
-    let mut i: usize = 0;
-    while i < LOCKS {
+    for i in 0..LOCKS {
         settle_under(pages, desk, i, t, commits);
-        i += 1;
     }
 }
 
 // Ends t: its entries are settled, its request is dropped, its locks are released, and it runs no more.
-pub fn end(pages: &mut [u8], desk: &mut [u8], t: u16, commits: bool)
+pub fn end(pages: &mut Pages, desk: &mut Desk, t: u16, commits: bool)
     requires whole { Whole pages.old desk.old }
     requires le_t { 1 ≤ t }
     requires t_le_transactions_most { t ≤ transactions_most }

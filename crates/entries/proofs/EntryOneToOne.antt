@@ -1,11 +1,10 @@
 -- The maps from the code's values to the rule book's are one to one: two values that mean the same are the same. Here records and entries.
 -- By a map back. Assumes nothing.
 use Prim.Native.Nat.{ℕ}
+use Rattle.std.specs.Prelude as Code
 use mathlib.Core.Path.{◌≡◌, refl, sym, ap, ap₂, ◌∙◌}
 use mathlib.Core.Option.{Option, none, some}
 use Rattle.rules.specs.Kinds as K
-use Rattle.entries.specs.declared.Value.{Value}
-use Rattle.entries.specs.declared.Value.TheVariants.{Present, Absent}
 use Rattle.entries.specs.declared.Entry.{Entry}
 use Rattle.entries.specs.EntryMeaning.{book_value, book_entry}
 
@@ -13,15 +12,15 @@ pub one_to_one : {A B : Type 0} (f : A → B) (g : B → A) → ((x : A) → g (
 one_to_one f g back x y e = sym (back x) ∙ ap g e ∙ back y
 
 -- ---- entries
-abbrev pub value_of : Option ℕ → Value
-value_of (some r) = Present r
-value_of none = Absent
+abbrev pub value_of : Option ℕ → Code.Option ℕ
+value_of (some r) = Code.Some r
+value_of none = Code.None
 
-pub value_back : (v : Value) → value_of (book_value v) ≡ v
-value_back (Present r) = refl
-value_back Absent = refl
+pub value_back : (v : Code.Option ℕ) → value_of (book_value v) ≡ v
+value_back (Code.Some r) = refl
+value_back Code.None = refl
 
-pub value_inj : (a b : Value) → book_value a ≡ book_value b → a ≡ b
+pub value_inj : (a b : Code.Option ℕ) → book_value a ≡ book_value b → a ≡ b
 value_inj = one_to_one book_value value_of value_back
 
 abbrev entry_of : K.Entry ℕ ℕ → Entry

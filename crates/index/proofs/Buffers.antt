@@ -1,7 +1,7 @@
 -- A page of the buffer, and the buffer with another page there: what is read of it then, and how the part that is lent to the page code is
 -- that page. Pages lie 512 bytes apart. Assumes nothing.
 use Prim.Native.Nat.{ℕ, ◌+◌, ◌*◌, ◌-◌, ◌≤◌, ◌<◌}
-use mathlib.Core.Path.{◌≡◌, refl, sym, ap, ◌∙◌}
+use mathlib.Core.Path.{◌≡◌, refl, sym, ◌∙◌}
 use mathlib.Core.Logic.{◌≢◌}
 use mathlib.Core.List.{List, [], ◌∷◌}
 use native.Mathlib.Decide.{dec_lt}
@@ -9,7 +9,7 @@ use native.Mathlib.Omega.{arith}
 use lib.ListN.{length, take, drop, length-take, length-drop}
 use borrow.Rule.Slice.PartMut.{put_mid}
 use Rattle.limits.specs.Limits.{pages_most, page_size, pages_size}
-use Rattle.numbers.specs.Numbers.{number_at, part}
+use Rattle.numbers.specs.Numbers.{part}
 use Rattle.numbers.proofs.Parts.{length_part, length_put_part, part_same, part_other, lent, back}
 use Rattle.index.specs.Pictures.{page_at, put_page}
 
@@ -52,9 +52,6 @@ page_kept s size q h g l r d = go (dec_lt r pages_most)
 pub page_lent : (s : List ℕ) (q : ℕ) → take (page_size * q + page_size - page_size * q) (drop (page_size * q) s) ≡ page_at s q
 unfolding page_at
 page_lent s q = lent (page_size * q) page_size s
-
-pub number_lent : (s : List ℕ) (q at n : ℕ) → n ≡ number_at 2 (take (page_size * q + page_size - page_size * q) (drop (page_size * q) s)) at → n ≡ number_at 2 (page_at s q) at
-number_lent s q at n e = e ∙ ap (λ p. number_at 2 p at) (page_lent s q)
 
 pub page_back : (s : List ℕ) (q : ℕ) (t u : List ℕ) → length t ≡ length (take (page_size * q + page_size - page_size * q) (drop (page_size * q) s)) → t ≡ u
     → put_mid (page_size * q) (page_size * q + page_size - page_size * q) s t ≡ put_page s q u

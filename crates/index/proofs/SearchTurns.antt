@@ -1,6 +1,7 @@
 -- The turns of the search: what each step of its code leaves of the first entry sought. In a leaf those before the place of lo are not
 -- sought; in an inner page the search goes on child by child. Assumes nothing.
-use Prim.Native.Nat.{ℕ, zero, suc, ◌+◌, ◌*◌, ◌-◌, ◌≤◌, ◌<◌, compare}
+use Prim.Native.Nat.{ℕ, zero, suc, ◌+◌, ◌-◌, ◌≤◌, ◌<◌, compare}
+use Rattle.std.specs.Prelude as Code
 use mathlib.Core.Path.{◌≡◌, refl, sym, ap, subst, ◌∙◌}
 use mathlib.Core.Bool.{Bool, true, false, cond, not, ◌&&◌, ◌||◌}
 use mathlib.Core.List.{List, [], ◌∷◌, map}
@@ -8,9 +9,9 @@ use mathlib.Core.Option.{Option, none, some}
 use native.Mathlib.Nat.{zero-add}
 use native.Mathlib.Omega.{arith}
 use lib.Dec.{leb, eqb}
-use lib.ListN.{take, drop}
+use lib.ListN.{drop}
 use borrow.Author.Tests.{not-true}
-use Rattle.limits.specs.Limits.{pages_most, page_size, leaf_most, inner_most}
+use Rattle.limits.specs.Limits.{pages_most, leaf_most, inner_most}
 use Rattle.lists.specs.Lists.{tab, place, first, first_some, or_else}
 use Rattle.lists.proofs.Tables.{tab_next, tab_done, drop_tab, first_next, first_found}
 use Rattle.lists.proofs.Joins.{map_drop}
@@ -29,12 +30,9 @@ use Rattle.trees.proofs.TreeSearch.{first_child_by_child}
 use Rattle.index.specs.declared.Top.{Top}
 use Rattle.index.specs.declared.Step.{Step}
 use Rattle.index.specs.declared.Sought.{Sought}
-use Rattle.index.specs.declared.Found.{Found}
-use Rattle.index.specs.declared.Found.TheVariants.{Here, Nothing}
 use Rattle.index.specs.Pictures.{Item, key_of, page_at, tree_of, index_of, entries_in, WholePages}
 use Rattle.index.specs.Searches.{seeks, book_found}
 use Rattle.index.specs.Descents.{Subtree, InnerIn, Starts, TopOf}
-use Rattle.index.proofs.Buffers.{page_lent}
 use Rattle.index.proofs.Frame.{kid}
 use Rattle.index.proofs.Subtrees.{keys_ascend_lem, leaf_few, child_place, subtree_root, subtree_wider}
 
@@ -50,23 +48,15 @@ module _ (s : List ℕ) (w : WholePages s) (height : ℕ) (e : height ≡ height
       record { root = r; used = u; level = ap (λ n. n - 1) e; low = omega (arith, w.tall); few = omega (arith, w.index.room) }
 
 -- ---- an inner page
-pub lent_some : (s : List ℕ) (pg : ℕ) → InnerIn s pg → 1 ≤ count_of (take (page_size * pg + page_size - page_size * pg) (drop (page_size * pg) s))
-lent_some s pg h = subst (λ p. 1 ≤ count_of p) (sym (page_lent s pg)) h.some
+module _ (s : List ℕ) (pg : ℕ) (h : InnerIn s pg) (p : List ℕ) (e : p ≡ page_at s pg) where
+  pub inner_some : 1 ≤ count_of p
+  inner_some = subst (λ x. 1 ≤ count_of x) (sym e) h.some
 
-pub lent_many : (s : List ℕ) (pg : ℕ) → InnerIn s pg → count_of (take (page_size * pg + page_size - page_size * pg) (drop (page_size * pg) s)) ≤ inner_most
-lent_many s pg h = subst (λ p. count_of p ≤ inner_most) (sym (page_lent s pg)) h.few
+  pub inner_few : count_of p ≤ inner_most
+  inner_few = subst (λ x. count_of x ≤ inner_most) (sym e) h.few
 
-pub step_for : (s : List ℕ) (pg k n i : ℕ) → InnerIn s pg → n ≡ count_of (page_at s pg)
-    → ChildPlace (take (page_size * pg + page_size - page_size * pg) (drop (page_size * pg) s)) k i → Starts s pg k (record { slot = i; count = n })
-step_for s pg k n i h e p =
-    record { place = subst (λ x. ChildPlace x k i) (page_lent s pg) p; count = e; few = omega (arith, h.few) }
-
-pub low_lent : (s : List ℕ) (q i k : ℕ) → k ≡ (child_at (take (page_size * q + page_size - page_size * q) (drop (page_size * q) s)) i).low.0 → k ≡ (child_at (page_at s q) i).low.0
-low_lent s q i k e = e ∙ ap (λ p. (child_at p i).low.0) (page_lent s q)
-
-pub child_lent : (s : List ℕ) (pg i : ℕ) (c : P.Child) → c ≡ child_at (take (page_size * pg + page_size - page_size * pg) (drop (page_size * pg) s)) i
-    → c.page ≡ (child_at (page_at s pg) i).page
-child_lent s pg i c e = ap (λ x. x.page) e ∙ ap (λ p. (child_at p i).page) (page_lent s pg)
+  pub step_for : (k n i : ℕ) → n ≡ count_of (page_at s pg) → ChildPlace p k i → Starts s pg k (record { slot = i; count = n })
+  step_for k n i a c = record { place = subst (λ x. ChildPlace x k i) e c; count = a; few = omega (arith, h.few) }
 
 -- ---- a leaf
 not_sought : (w : Sought) (x : Item) → leb w.lo.0 x.key ≡ false → seeks w x ≡ false
@@ -94,7 +84,7 @@ module _ (p : List ℕ) (w : Sought) (n i : ℕ) where
 
   module _ (f : first (seeks w) (entries_of p) ≡ first (seeks w) (tab (n - i) i (entry_at p))) where
     pub leaf_here : (e : E.Entry) (b : Bool) → book_entry e ≡ entry_at p i → b ≡ seeks w (book_entry e) → b ≡ true → i < n
-        → book_found (Here e) ≡ first (seeks w) (entries_of p)
+        → book_found (Code.Some e) ≡ first (seeks w) (entries_of p)
     leaf_here e b c d t l =
         ap some c ∙ sym (f ∙ first_found (seeks w) n i (entry_at p) l (ap (seeks w) (sym c) ∙ sym d ∙ t))
 
@@ -102,21 +92,21 @@ module _ (p : List ℕ) (w : Sought) (n i : ℕ) where
         → first (seeks w) (entries_of p) ≡ first (seeks w) (tab (n - (i + 1)) (i + 1) (entry_at p))
     leaf_on e b c d t l = f ∙ first_next (seeks w) n i (entry_at p) l (ap (seeks w) (sym c) ∙ sym d ∙ t)
 
-    pub leaf_none : n ≤ i → book_found Nothing ≡ first (seeks w) (entries_of p)
+    pub leaf_none : n ≤ i → book_found Code.None ≡ first (seeks w) (entries_of p)
     unfolding first
     leaf_none l = sym (f ∙ ap (first (seeks w)) (tab_done n i (entry_at p) l))
 
-module _ (s : List ℕ) (pg : ℕ) (t : Subtree s 0 pg pages_most) where
-  pub lent_few : count_of (take (page_size * pg + page_size - page_size * pg) (drop (page_size * pg) s)) ≤ leaf_most
-  lent_few = subst (λ p. count_of p ≤ leaf_most) (sym (page_lent s pg)) (omega (arith, leaf_few s pg pages_most t, length_entries (page_at s pg)))
+module _ (s : List ℕ) (pg : ℕ) (t : Subtree s 0 pg pages_most) (p : List ℕ) (e : p ≡ page_at s pg) where
+  pub leaf_count : count_of p ≤ leaf_most
+  leaf_count = subst (λ x. count_of x ≤ leaf_most) (sym e) (omega (arith, leaf_few s pg pages_most t, length_entries (page_at s pg)))
 
-  pub lent_ascends : keys_ascend (entries_of (take (page_size * pg + page_size - page_size * pg) (drop (page_size * pg) s))) ≡ true
-  lent_ascends = subst (λ p. keys_ascend (entries_of p) ≡ true) (sym (page_lent s pg)) (keys_ascend_lem s pg pages_most t)
+  pub leaf_ascends : keys_ascend (entries_of p) ≡ true
+  leaf_ascends = subst (λ x. keys_ascend (entries_of x) ≡ true) (sym e) (keys_ascend_lem s pg pages_most t)
 
-  pub leaf_found : (w : Sought) (r : Found) → book_found r ≡ first (seeks w) (entries_of (take (page_size * pg + page_size - page_size * pg) (drop (page_size * pg) s)))
+  pub leaf_found : (w : Sought) (r : Code.Option E.Entry) → book_found r ≡ first (seeks w) (entries_of p)
       → book_found r ≡ first (seeks w) (flat ℕ Item 0 (tree_of 0 s pg))
   unfolding flat tree_of
-  leaf_found w r e = e ∙ ap (λ p. first (seeks w) (entries_of p)) (page_lent s pg)
+  leaf_found w r a = a ∙ ap (λ x. first (seeks w) (entries_of x)) e
 
 -- ---- the children from place i on
 abbrev pub found_in : ℕ → List ℕ → Sought → P.Child → Option Item
@@ -166,18 +156,18 @@ module _ (s : List ℕ) (level pg : ℕ) (w : Sought) where
           ∙ ap (λ x. or_else (first (seeks w) (flat ℕ Item m (tree_of m s x))) (found_from (suc m) s pg w n (i + 1))) (sym c)
           ∙ ap (λ j. or_else (first (seeks w) (flat ℕ Item j (tree_of j s q))) (found_from (suc m) s pg w n (i + 1))) k
 
-  module _ (n i q : ℕ) (f : Found) (h : level ≡ 0 → ⊥)
+  module _ (n i q : ℕ) (f : Code.Option E.Entry) (h : level ≡ 0 → ⊥)
       (k : first (seeks w) (flat ℕ Item level (tree_of level s pg)) ≡ found_from level s pg w n i) (l : i < n)
       (c : q ≡ (child_at (page_at s pg) i).page) (r : book_found f ≡ first (seeks w) (flat ℕ Item (level - 1) (tree_of (level - 1) s q))) where
-    pub seek_here : (e : E.Entry) → f ≡ Here e → book_found (Here e) ≡ first (seeks w) (flat ℕ Item level (tree_of level s pg))
+    pub seek_here : (e : E.Entry) → f ≡ Code.Some e → book_found (Code.Some e) ≡ first (seeks w) (flat ℕ Item level (tree_of level s pg))
     seek_here e d =
         sym (k ∙ turn n i q h l c ∙ ap (λ o. or_else o (found_from level s pg w n (i + 1))) (sym r ∙ ap book_found d))
 
-    pub seek_on : f ≡ Nothing → first (seeks w) (flat ℕ Item level (tree_of level s pg)) ≡ found_from level s pg w n (i + 1)
+    pub seek_on : f ≡ Code.None → first (seeks w) (flat ℕ Item level (tree_of level s pg)) ≡ found_from level s pg w n (i + 1)
     seek_on d = k ∙ turn n i q h l c ∙ ap (λ o. or_else o (found_from level s pg w n (i + 1))) (sym r ∙ ap book_found d)
 
   pub seek_none : (n i : ℕ) → first (seeks w) (flat ℕ Item level (tree_of level s pg)) ≡ found_from level s pg w n i → n ≤ i
-      → book_found Nothing ≡ first (seeks w) (flat ℕ Item level (tree_of level s pg))
+      → book_found Code.None ≡ first (seeks w) (flat ℕ Item level (tree_of level s pg))
   unfolding first_some
   seek_none n i k l = sym (k ∙ go level)
     where
@@ -192,7 +182,7 @@ find_from s t w h =
     let u = subst (λ x. Subtree s x (root_of (page_at s 0)) pages_most) (sym h.level) (subtree_wider s (height_of (page_at s 0) - 1) (root_of (page_at s 0)) (used_of (page_at s 0)) r) in
     subst (λ q. Subtree s t.level q pages_most) (sym h.root) u
 
-pub found_all : (s : List ℕ) (t : Top) (w : Sought) (r : Found) → TopOf s t
+pub found_all : (s : List ℕ) (t : Top) (w : Sought) (r : Code.Option E.Entry) → TopOf s t
     → book_found r ≡ first (seeks w) (flat ℕ Item t.level (tree_of t.level s t.root)) → book_found r ≡ first (seeks w) (entries_in s)
 unfolding entries_in index_of
 found_all s t w r h e =
@@ -200,7 +190,7 @@ found_all s t w r h e =
     ∙ ap (λ n. first (seeks w) (flat ℕ Item n (tree_of n s (root_of (page_at s 0))))) h.level
 
 -- two trees with the same list answer every search alike
-pub same_list_same_search : (p q : List ℕ) → entries_in p ≡ entries_in q → (w : Sought) (a b : Found) → book_found a ≡ first (seeks w) (entries_in p)
+pub same_list_same_search : (p q : List ℕ) → entries_in p ≡ entries_in q → (w : Sought) (a b : Code.Option E.Entry) → book_found a ≡ first (seeks w) (entries_in p)
     → book_found b ≡ first (seeks w) (entries_in q) → book_found a ≡ book_found b
 same_list_same_search p q e w a b f g = f ∙ ap (first (seeks w)) e ∙ sym g
 
@@ -208,6 +198,6 @@ same_list_same_search p q e w a b f g = f ∙ ap (first (seeks w)) e ∙ sym g
 pub at_leaf : (s : List ℕ) (n pg u : ℕ) → Subtree s n pg u → n ≡ 0 → Subtree s 0 pg u
 at_leaf s n pg u t e = subst (λ m. Subtree s m pg u) e t
 
-pub found_leaf : (s : List ℕ) (n pg : ℕ) (w : Sought) (r : Found) → n ≡ 0 → book_found r ≡ first (seeks w) (flat ℕ Item 0 (tree_of 0 s pg))
+pub found_leaf : (s : List ℕ) (n pg : ℕ) (w : Sought) (r : Code.Option E.Entry) → n ≡ 0 → book_found r ≡ first (seeks w) (flat ℕ Item 0 (tree_of 0 s pg))
     → book_found r ≡ first (seeks w) (flat ℕ Item n (tree_of n s pg))
 found_leaf s n pg w r e h = h ∙ ap (λ m. first (seeks w) (flat ℕ Item m (tree_of m s pg))) (sym e)

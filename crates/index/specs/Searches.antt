@@ -2,12 +2,12 @@
 -- Assumes nothing.
 use Rattle.std.specs.Prelude.{ℕ, Bool, not, ◌&&◌, ◌||◌, leb, eqb}
 use Rattle.std.proofs.Math.Option.{Option, none, some}
+use Rattle.std.specs.Prelude as Code
 use Rattle.rules.specs.Kinds.{Entry}
 use Rattle.rules.specs.Entries.{ghost}
 use Rattle.entries.specs.EntryMeaning.{book_entry}
 use Rattle.index.specs.declared.Sought.{Sought}
-use Rattle.index.specs.declared.Found.{Found}
-use Rattle.index.specs.declared.Found.TheVariants.{Here, Nothing}
+use Rattle.entries.specs.declared.Entry as CodeEntry
 
 -- "first entry at or above lo that is above hi or isn't the asker's own ghost"; asker 0 is nobody and has no ghosts: then it is the first
 -- entry at or above lo
@@ -16,6 +16,6 @@ seeks w e =
     leb w.lo.0 e.key
     && (not (leb e.key w.hi.0) || not ((not (eqb w.asker 0) && eqb e.owner w.asker) && ghost e))
 
-abbrev pub book_found : Found → Option (Entry ℕ ℕ)
-book_found (Here e) = some (book_entry e)
-book_found Nothing = none
+abbrev pub book_found : Code.Option CodeEntry.Entry → Option (Entry ℕ ℕ)
+book_found (Code.Some e) = some (book_entry e)
+book_found Code.None = none

@@ -5,8 +5,7 @@ pub mod descent;
 mod fresh;
 mod search;
 
-pub use descent::{child_page, count_at, height_of, low_at, root_of, used_of};
-use entries::Entry;
+pub use descent::{child_page, count_at, height_of, low_at, page, root_of, used_of};
 pub use fresh::fresh_pages;
 use keys::Key;
 pub use search::find;
@@ -17,12 +16,6 @@ pub struct Sought {
     pub lo: Key,
     pub hi: Key,
     pub asker: u16,
-}
-
-#[derive(Clone, Copy)]
-pub enum Found {
-    Here(Entry),
-    Nothing,
 }
 
 // Page 0: the root's page, its level, and how many pages are used.

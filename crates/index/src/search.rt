@@ -11,14 +11,14 @@ ghost use Rattle.index.specs.Pictures.{Item, tree_of, entries_in, WholePages};
 ghost use Rattle.index.specs.Searches.{seeks, book_found};
 ghost use Rattle.index.specs.Descents.{Subtree};
 
-use super::{Found, Sought, descent};
+use super::{Sought, descent};
 use entries::Entry;
-use limits::PAGE_SIZE;
+use limits::Pages;
 use pages::leaf;
 use rows::head;
 
 // The first entry of the index that is sought.
-pub fn find(pages: &[u8], w: Sought) -> Found
+pub fn find(pages: &Pages, w: Sought) -> Option<Entry>
     requires { WholePages pages.now }
     ensures { book_found result ≡ first (seeks w) (entries_in pages.now) }
 {
@@ -27,66 +27,52 @@ pub fn find(pages: &[u8], w: Sought) -> Found
 }
 
 // The first entry that is sought in the tree of this level at this page.
-fn seek(pages: &[u8], level: usize, pg: usize, w: Sought) -> Found
+fn seek(pages: &Pages, level: usize, pg: usize, w: Sought) -> Option<Entry>
     requires { Subtree pages.now level pg pages_most }
     ensures { book_found result ≡ first (seeks w) (flat ℕ Item level (tree_of level pages.now pg)) }
 {
     if level == 0 {
         return seek_leaf(pages, pg, w);
     }
-    let lo = w.lo;
-    let s = descent::step_to(pages, pg, lo);
+    let s = descent::step_to(pages, pg, w.lo);
     let n = s.count;
-    let mut i = s.slot;
-    while i < n {
+    for i in s.slot..n {
         let f = seek(pages, level - 1, descent::child_page(pages, pg, i), w);
-        match f {
-            Found::Here(e) => {
-                return Found::Here(e);
-            }
-            Found::Nothing => {
-                i += 1;
-            }
+        if let Some(e) = f {
+            return Some(e);
         }
     }
-    Found::Nothing
+    None
 }
 
 // The first entry that is sought in a leaf of the buffer.
-fn seek_leaf(pages: &[u8], pg: usize, w: Sought) -> Found
+fn seek_leaf(pages: &Pages, pg: usize, w: Sought) -> Option<Entry>
     requires { Subtree pages.now 0 pg pages_most }
     ensures { book_found result ≡ first (seeks w) (flat ℕ Item 0 (tree_of 0 pages.now pg)) }
 {
-    let a = PAGE_SIZE * pg;
-    find_in(&pages[a..a + PAGE_SIZE], w)
+    find_in(descent::page(pages, pg), w)
 }
 
 // The first entry that is sought in a leaf.
-fn find_in(p: &[u8], w: Sought) -> Found
+fn find_in(p: &[u8], w: Sought) -> Option<Entry>
     requires p_len { length p.now ≡ page_size }
     requires p_bound { count_of p.now ≤ leaf_most }
     requires p_value { keys_ascend (entries_of p.now) ≡ true }
     ensures { book_found result ≡ first (seeks w) (entries_of p.now) }
 {
     let n = head::count_of(p);
-    let lo = w.lo;
-    let mut i = leaf::first_at_or_above(p, lo);
-    while i < n {
+    for i in leaf::first_at_or_above(p, w.lo)..n {
         let e = leaf::entry_at(p, i);
         if is_sought(w, e) {
-            return Found::Here(e);
+            return Some(e);
         }
-        i += 1;
     }
-    Found::Nothing
+    None
 }
 
 // Whether an entry is sought.
 fn is_sought(w: Sought, e: Entry) -> bool
     ensures { result ≡ seeks w (book_entry e) }
 {
-    let key = e.key;
-    let lo = w.lo;
-    let hi = w.hi;
-    lo.at_most(key) & (!key.at_most(hi) | !((w.asker != 0) & (e.owner == w.asker) & e.is_ghost()))
+    (w.lo <= e.key) & (!(e.key <= w.hi) | !((w.asker != 0) & (e.owner == w.asker) & e.is_ghost()))
 }

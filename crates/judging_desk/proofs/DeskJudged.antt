@@ -1,6 +1,7 @@
 -- The desk passes its own test exactly where its bytes are those that its tables write, the queue is without repeats and of running ones
 -- with legal requests, and every lock is held by one that runs. The askers are counted by the set that the code makes. Assumes nothing.
 use mathlib.Core.Path.{◌≡◌, refl, sym, ap, subst, ◌∙◌}
+use Rattle.std.specs.Prelude as Code
 use mathlib.Core.Logic.{◌⊎◌, inl, inr}
 use mathlib.Core.Bool.{Bool, true, false, not, ◌&&◌, false≢true}
 use mathlib.Core.List.{List, [], ◌∷◌}
@@ -31,8 +32,6 @@ use Rattle.queue.specs.QueueLayout.{head_widths, is_running, ask_at, queued, in_
 use Rattle.locks.specs.SlotLayout.{slot_at, slots_of}
 use Rattle.queue.proofs.MarkBytes.{running_is}
 use Rattle.queue.proofs.QueueBytes.{length_queue}
-use Rattle.judging_pages.specs.declared.Trail.{Trail}
-use Rattle.judging_pages.specs.declared.Trail.TheVariants.{Went, Bad}
 use Rattle.judging_pages.specs.Walks.{only_zero, marks}
 use Rattle.judging_pages.proofs.PagesMarked.{marks_went, marks_used, marks_go}
 use Rattle.states.specs.States.{book, desk_with}
@@ -103,9 +102,9 @@ module _ (d : List ℕ) (g : Bytes d) (size : length d ≡ desk_size) where
   abbrev queue : List ℕ
   queue = tab (queued d) 0 (in_place d)
 
-  went : (w : Trail) → records_ok d w ≡ true → (m : Set) × (w ≡ Went m) × (all (record_ok d m) (tab transactions_most 1 (λ t. t)) ≡ true)
-  went (Went m) h = (m, refl, h)
-  went Bad h = absurd (false≢true h)
+  went : (w : Code.Option Set) → records_ok d w ≡ true → (m : Set) × (w ≡ Code.Some m) × (all (record_ok d m) (tab transactions_most 1 (λ t. t)) ≡ true)
+  went (Code.Some m) h = (m, refl, h)
+  went Code.None h = absurd (false≢true h)
 
   head_fields : number_at 2 d 0 ≡ desk_size → number_at 2 d 2 ≡ 8 → Agree (desk_head_size - 6) d 6 [] 0 → fields_at head_widths d 0 ≡ desk_size ∷ 8 ∷ queued d ∷ 0 ∷ 0 ∷ 0 ∷ 0 ∷ []
   unfolding fields_at
@@ -117,7 +116,7 @@ module _ (d : List ℕ) (g : Bytes d) (size : length d ≡ desk_size) where
   stands_at i a b = and_both (D.is_running (get_or (marks_of d) (in_place d i) idle)) (D.legal_ask book (ask_at d (in_place d i))) a b
 
   -- whoever is in the set is a transaction in the queue
-  module _ (m : Set) (w : marks (transactions_most + 1) (tab (queued d) 0 (in_place d)) only_zero ≡ Went m) where
+  module _ (m : Set) (w : marks (transactions_most + 1) (tab (queued d) 0 (in_place d)) only_zero ≡ Code.Some m) where
     set_times : (t : ℕ) → 1 ≤ t → times_in t m ≡ times t queue
     set_times t h = let a = marks_went (transactions_most + 1) queue only_zero m w t in let b = alone_none 0 t (λ e. omega arith) in omega arith
 
@@ -175,14 +174,14 @@ module _ (d : List ℕ) (g : Bytes d) (size : length d ≡ desk_size) where
           → fields_at head_widths d 0 ≡ desk_size ∷ 8 ∷ queued d ∷ 0 ∷ 0 ∷ 0 ∷ 0 ∷ []
       fields f z = head_fields f.0 f.1 z
 
-      one : (i : ℕ) → 0 ≤ i → i < 0 + queued d → (m : Set) → marks (transactions_most + 1) (tab (queued d) 0 (in_place d)) only_zero ≡ Went m → ((t : ℕ) → 1 ≤ t → t ≤ transactions_most → record_ok d m t ≡ true) → stands d (queued_at d i) ≡ true
+      one : (i : ℕ) → 0 ≤ i → i < 0 + queued d → (m : Set) → marks (transactions_most + 1) (tab (queued d) 0 (in_place d)) only_zero ≡ Code.Some m → ((t : ℕ) → 1 ≤ t → t ≤ transactions_most → record_ok d m t ≡ true) → stands d (queued_at d i) ≡ true
       one i a b m w each =
           let c = there_counts d (queued d) 0 i a b in
           let r = asker_range m w (in_place d i) c in
           let e = record_stands d (in_place d i) r.0 r.1 m (each (in_place d i) r.0 r.1) (there_listed m w (in_place d i) r.0 c) in
           stands_at i (running_is d (in_place d i) r.0 r.1 ∙ e.0) (legal_same (ask_at d (in_place d i)) ∙ e.1)
 
-      once : (m : Set) → marks (transactions_most + 1) (tab (queued d) 0 (in_place d)) only_zero ≡ Went m → (q : ℕ) → Dec (q ≡ 0) → times q (tab (queued d) 0 (in_place d)) ≤ 1
+      once : (m : Set) → marks (transactions_most + 1) (tab (queued d) 0 (in_place d)) only_zero ≡ Code.Some m → (q : ℕ) → Dec (q ≡ 0) → times q (tab (queued d) 0 (in_place d)) ≤ 1
       once m w q (yes e) = let z : times q queue ≡ 0 = subst (λ x. times x queue ≡ 0) (sym e) (nobody_waits m w) in omega arith
       once m w q (no e) = let a = set_times m w q (omega arith) in omega (arith, in_once m q)
 
@@ -224,7 +223,7 @@ module _ (d : List ℕ) (g : Bytes d) (size : length d ≡ desk_size) where
       let m = mark_only d l.holder r in
       (m.1, sym (running_is d l.holder m.0 m.1) ∙ r))))
     where
-      way : (m : Set) → marks (transactions_most + 1) (tab (queued d) 0 (in_place d)) only_zero ≡ Went m → (t : ℕ) → 1 ≤ t → t ≤ transactions_most
+      way : (m : Set) → marks (transactions_most + 1) (tab (queued d) 0 (in_place d)) only_zero ≡ Code.Some m → (t : ℕ) → 1 ≤ t → t ≤ transactions_most
           → ((t : ℕ) → 0 < times t (tab (queued d) 0 (in_place d)) → (D.is_running (get_or (marks_of d) t idle) ≡ true) × (D.legal_ask book (ask_at d t) ≡ true))
           → (n : ℕ) → times t (tab (queued d) 0 (in_place d)) ≡ n
           → ((listed m t ≡ true) × (0 < times t (tab (queued d) 0 (in_place d))) × (is_running d t ≡ true) × (D.legal_ask (document endless) (ask_at d t) ≡ true))

@@ -1,11 +1,11 @@
 -- What one way through the tests of the desk comes to, in the very facts that the code has there.
 -- Each unfolds the test and rewrites what is known of its parts. Assumes nothing.
 use mathlib.Core.Path.{◌≡◌, refl, sym, ap, ap₂, ◌∙◌}
+use Rattle.std.specs.Prelude as Code
 use mathlib.Core.Bool.{Bool, true, false, not, cond, ◌&&◌, ◌||◌}
 use mathlib.Core.List.{List}
 use Prim.Native.Nat.{ℕ, ◌+◌, ◌*◌, ◌-◌, ◌≤◌, ◌<◌}
 use native.Mathlib.Nat.{sub-zero}
-use native.Mathlib.Omega.{arith}
 use borrow.Author.Tests.{leb-true, not-true, not-false, eq-eqb, ne_eqb, le-leb, lt-leb}
 use lib.Dec.{eqb, leb}
 use Rattle.limits.specs.Limits.{transactions_most, locks_most, key_size, desk_head_size, queue_size, desk_size}
@@ -16,8 +16,6 @@ use Rattle.numbers.specs.Numbers.{number_at, fields_at, zero_at}
 use Rattle.sets.specs.declared.Set.{Set}
 use Rattle.queue.specs.QueueLayout.{queued, in_place, is_running}
 use Rattle.locks.specs.SlotLayout.{lock_place}
-use Rattle.judging_pages.specs.declared.Trail.{Trail}
-use Rattle.judging_pages.specs.declared.Trail.TheVariants.{Went, Bad}
 use Rattle.judging_pages.specs.Walks.{only_zero, mark_at, marks, after}
 use Rattle.judging_desk.specs.DeskChecks.{head_ok, askers_in, record_ok, records_ok, fields_ok, slot_ok, desk_ok}
 
@@ -32,10 +30,6 @@ module _ (d : List ℕ) (size kind n : ℕ) (z : Bool) (e : size ≡ number_at 2
       sym (ap (λ b. b && zero_at (queue_size - 2 * queued d) (desk_head_size + 2 * queued d) d) (sym front_is ∙ not-true (((eqb size desk_size && eqb kind 8) && leb n transactions_most) && z) t))
 
   module _ (t : not (((eqb size desk_size && eqb kind 8) && leb n transactions_most) && z) ≡ false) where
-    pub head_few : n ≤ transactions_most
-    head_few =
-        leb-true n transactions_most (and_right (eqb size desk_size && eqb kind 8) (leb n transactions_most) (and_left ((eqb size desk_size && eqb kind 8) && leb n transactions_most) z (not-false (((eqb size desk_size && eqb kind 8) && leb n transactions_most) && z) t)))
-
     pub head_done : (y : Bool) → y ≡ zero_at (queue_size - 2 * n) (desk_head_size + 2 * n) d → y ≡ head_ok d
     unfolding head_ok
     head_done y k =
@@ -52,14 +46,11 @@ head_queue d h =
 
 -- ---- the askers
 module _ (d : List ℕ) (n : ℕ) (c : n ≡ queued d) where
-  pub askers_few : queued d ≤ transactions_most → n ≤ transactions_most
-  askers_few h = omega arith
-
   pub askers_start : (m : Set) → m ≡ only_zero → askers_in d ≡ marks (transactions_most + 1) (tab (n - 0) 0 (in_place d)) m
   unfolding askers_in
   askers_start m e = ap₂ (λ k o. marks (transactions_most + 1) (tab k 0 (in_place d)) o) (sym c ∙ sym (sub-zero n)) (sym e)
 
-  module _ (m : Set) (i t : ℕ) (w : Trail) (inv : askers_in d ≡ marks (transactions_most + 1) (tab (n - i) i (in_place d)) m) (l : i < n) (e : t ≡ in_place d i) (f : w ≡ mark_at (transactions_most + 1) m t) where
+  module _ (m : Set) (i t : ℕ) (w : Code.Option Set) (inv : askers_in d ≡ marks (transactions_most + 1) (tab (n - i) i (in_place d)) m) (l : i < n) (e : t ≡ in_place d i) (f : w ≡ mark_at (transactions_most + 1) m t) where
     step : askers_in d ≡ after w (marks (transactions_most + 1) (tab (n - (i + 1)) (i + 1) (in_place d)))
     unfolding marks
     step =
@@ -67,13 +58,13 @@ module _ (d : List ℕ) (n : ℕ) (c : n ≡ queued d) where
         ∙ ap (λ ts. marks (transactions_most + 1) ts m) (tab_next n i (in_place d) l)
         ∙ ap (λ x. after x (marks (transactions_most + 1) (tab (n - (i + 1)) (i + 1) (in_place d)))) (ap (mark_at (transactions_most + 1) m) (sym e) ∙ sym f)
 
-    pub askers_twice : w ≡ Bad → Bad ≡ askers_in d
+    pub askers_twice : w ≡ Code.None → Code.None ≡ askers_in d
     askers_twice b = sym (step ∙ ap (λ x. after x (marks (transactions_most + 1) (tab (n - (i + 1)) (i + 1) (in_place d)))) b)
 
-    pub askers_next : (more : Set) → w ≡ Went more → askers_in d ≡ marks (transactions_most + 1) (tab (n - (i + 1)) (i + 1) (in_place d)) more
+    pub askers_next : (more : Set) → w ≡ Code.Some more → askers_in d ≡ marks (transactions_most + 1) (tab (n - (i + 1)) (i + 1) (in_place d)) more
     askers_next more b = step ∙ ap (λ x. after x (marks (transactions_most + 1) (tab (n - (i + 1)) (i + 1) (in_place d)))) b
 
-  pub askers_end : (m : Set) (i : ℕ) → askers_in d ≡ marks (transactions_most + 1) (tab (n - i) i (in_place d)) m → n ≤ i → Went m ≡ askers_in d
+  pub askers_end : (m : Set) (i : ℕ) → askers_in d ≡ marks (transactions_most + 1) (tab (n - i) i (in_place d)) m → n ≤ i → Code.Some m ≡ askers_in d
   unfolding marks
   askers_end m i inv l = sym (inv ∙ ap (λ ts. marks (transactions_most + 1) ts m) (tab_done n i (in_place d) l))
 
@@ -110,12 +101,12 @@ module _ (d : List ℕ) (h : Bool) (e : h ≡ head_ok d) where
     pub desk_few : queued d ≤ transactions_most
     desk_few = head_queue d (sym e ∙ not-false h t)
 
-    module _ (w : Trail) (f : w ≡ askers_in d) where
-      pub desk_lost : w ≡ Bad → false ≡ desk_ok d
+    module _ (w : Code.Option Set) (f : w ≡ askers_in d) where
+      pub desk_lost : w ≡ Code.None → false ≡ desk_ok d
       unfolding desk_ok
       desk_lost b = sym (ap₂ (λ x y. (x && records_ok d y) && all (slot_ok d) (tab locks_most 0 (λ i. i))) (sym e ∙ not-false h t) (sym f ∙ b))
 
-      pub desk_done : (m : Set) (r s : Bool) → w ≡ Went m → r ≡ all (record_ok d m) (tab transactions_most 1 (λ t. t)) → s ≡ all (slot_ok d) (tab locks_most 0 (λ i. i)) → (r && s) ≡ desk_ok d
+      pub desk_done : (m : Set) (r s : Bool) → w ≡ Code.Some m → r ≡ all (record_ok d m) (tab transactions_most 1 (λ t. t)) → s ≡ all (slot_ok d) (tab locks_most 0 (λ i. i)) → (r && s) ≡ desk_ok d
       unfolding desk_ok
       desk_done m r s b a c =
           ap₂ (λ x y. x && y) a c

@@ -1,6 +1,7 @@
 -- The tests that the code makes of the desk's bytes, in the order in which it makes them. They are not for readers: what they come to is
 -- shown in ../proofs. Assumes nothing.
 use Rattle.std.specs.Prelude.{ℕ, ◌+◌, ◌*◌, ◌-◌, Bool, false, cond, not, ◌&&◌, ◌||◌, List, eqb, leb, get_or}
+use Rattle.std.specs.Prelude as Code
 use Rattle.limits.specs.Limits.{transactions_most, locks_most, desk_head_size, queue_size, desk_size}
 use Rattle.lists.specs.Lists.{tab, all}
 use Rattle.numbers.specs.Numbers.{number_at, fields_at, zero_at}
@@ -10,8 +11,6 @@ use Rattle.rules.specs.Desk.{legal_ask}
 use Rattle.rules.specs.Document.{document, endless}
 use Rattle.queue.specs.QueueLayout.{queued, in_place, record_at, is_running, is_waiting, ask_at}
 use Rattle.locks.specs.SlotLayout.{lock_widths, lock_place}
-use Rattle.judging_pages.specs.declared.Trail.{Trail}
-use Rattle.judging_pages.specs.declared.Trail.TheVariants.{Went, Bad}
 use Rattle.judging_pages.specs.Walks.{only_zero, marks}
 
 -- the head: length, kind, count, the 26 zeros, and nothing in the places of the queue that are not used
@@ -21,7 +20,7 @@ head_ok d =
     && zero_at (queue_size - 2 * queued d) (desk_head_size + 2 * queued d) d
 
 -- the askers, each seen once; nobody, number 0, is set down beforehand, and there is no transaction from 17 on
-unfoldable pub askers_in : List ℕ → Trail
+unfoldable pub askers_in : List ℕ → Code.Option Set
 askers_in d = marks (transactions_most + 1) (tab (queued d) 0 (in_place d)) only_zero
 
 -- a waiting request by its fields, kind, record, lo and hi: none, a read, an insert or a delete, each with what it does not use zero
@@ -51,9 +50,9 @@ unfoldable pub slot_ok : List ℕ → ℕ → Bool
 slot_ok d i =
     let vs = fields_at lock_widths d (lock_place i) in fields_ok d (get_or vs 0 0) (get_or vs 1 0) (get_or vs 2 0) (get_or vs 3 0)
 
-abbrev pub records_ok : List ℕ → Trail → Bool
-records_ok d (Went m) = all (record_ok d m) (tab transactions_most 1 (λ t. t))
-records_ok d Bad = false
+abbrev pub records_ok : List ℕ → Code.Option Set → Bool
+records_ok d (Code.Some m) = all (record_ok d m) (tab transactions_most 1 (λ t. t))
+records_ok d Code.None = false
 
 unfoldable pub desk_ok : List ℕ → Bool
 desk_ok d = (head_ok d && records_ok d (askers_in d)) && all (slot_ok d) (tab locks_most 0 (λ i. i))

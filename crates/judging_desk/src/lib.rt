@@ -2,15 +2,15 @@
 // "Records and pages": "queue without repeats, exactly the waiting ones, each legal by 12"; locks "held by running transactions".)
 #![tactic(auto)]
 
-ghost use Rattle.std.specs.Prelude.{◌≡◌, ◌<◌, ◌≤◌, length};
-ghost use Rattle.limits.specs.Limits.{transactions_most, locks_most, desk_size};
+ghost use Rattle.std.specs.Prelude.{◌≡◌, ◌<◌, ◌≤◌};
+ghost use Rattle.limits.specs.Limits.{transactions_most, locks_most};
 ghost use Rattle.lists.specs.Lists.{tab, all};
 ghost use Rattle.queue.specs.QueueLayout.{queued, record_at};
 ghost use Rattle.judging_desk.specs.DeskChecks.{head_ok, askers_in, form_ok, plain_ok, record_ok, slot_ok, desk_ok};
 
-use judging_pages::Trail;
 use keys::Key;
-use limits::LOCKS;
+use limits::{Desk, LOCKS};
+use locks::Mode;
 use queue::{head, transactions};
 use requests::Ask;
 use sets::Set;
@@ -21,15 +21,14 @@ const NUMBERS: usize = limits::TRANSACTIONS + 1;
 const END: u16 = limits::LAST_TRANSACTION + 1;
 
 // Whether the head is right: length, kind, a count that fits, zeros behind it and behind the queue.
-fn has_head(d: &[u8]) -> bool
-    requires { length d.now ≡ desk_size }
+fn has_head(d: &Desk) -> bool
     ensures { result ≡ head_ok d.now }
 {
     let n = queue::queued(d);
     let length = head::length_of(d);
     let kind = head::kind_of(d);
     if !((length == limits::DESK_SIZE)
-        & (kind == 8)
+        & (kind == head::KIND)
         & (n <= limits::TRANSACTIONS)
         & head::has_zeros(d))
     {
@@ -39,32 +38,25 @@ fn has_head(d: &[u8]) -> bool
 }
 
 // The transactions in the queue: "queue without repeats". Number 0, nobody's, is set down beforehand.
-fn askers(d: &[u8]) -> Trail
-    requires d_len { length d.now ≡ desk_size }
+fn askers(d: &Desk) -> Option<Set>
     requires d_bound { queued d.now ≤ transactions_most }
     ensures { result ≡ askers_in d.now }
 {
     let n = queue::queued(d);
     let mut m = Set::NONE.with(0);
-    let mut i: usize = 0;
-    while i < n {
-        let t = queue::in_place(d, i) as usize;
-        let marked = judging_pages::mark(m, t, NUMBERS);
-        let Trail::Went(more) = marked else {
-            return Trail::Bad;
-        };
-        m = more;
-        i += 1;
+    for i in 0..n {
+        let t = usize::from(queue::in_place(d, i));
+        m = judging_pages::mark(m, t, NUMBERS)?;
     }
-    Trail::Went(m)
+    Some(m)
 }
 
 // Whether these are the fields of a waiting request, or of none. A field not in use is zero.
 fn is_form(kind: u16, rec: u32, lo: Key, hi: Key) -> bool
     ensures { result ≡ form_ok kind rec lo.0 hi.0 }
 {
-    let no_lo = lo.same(Key::LOWEST);
-    let no_hi = hi.same(Key::LOWEST);
+    let no_lo = lo == Key::LOWEST;
+    let no_hi = hi == Key::LOWEST;
     ((kind == 0) & (rec == 0) & no_lo & no_hi)
         | ((kind == Ask::READ) & (rec == 0))
         | ((kind == Ask::INSERT) & no_hi)
@@ -72,8 +64,7 @@ fn is_form(kind: u16, rec: u32, lo: Key, hi: Key) -> bool
 }
 
 // Whether the fields of a transaction's record are in order by themselves.
-fn is_plain(d: &[u8], t: u16) -> bool
-    requires d_len { length d.now ≡ desk_size }
+fn is_plain(d: &Desk, t: u16) -> bool
     requires t_le_transactions_most { t ≤ transactions_most }
     ensures { result ≡ plain_ok (record_at d.now t) }
 {
@@ -87,12 +78,11 @@ fn is_plain(d: &[u8], t: u16) -> bool
 }
 
 // Whether a transaction's record is in order: one that is in the queue waits, runs, and its request is legal; any other does not wait.
-fn is_record(d: &[u8], seen: Set, t: u16) -> bool
-    requires d_len { length d.now ≡ desk_size }
+fn is_record(d: &Desk, seen: Set, t: u16) -> bool
     requires t_le_transactions_most { t ≤ transactions_most }
     ensures { result ≡ record_ok d.now seen t }
 {
-    let listed = seen.has(t as usize);
+    let listed = seen.has(usize::from(t));
     let waits = transactions::is_waiting(d, t);
     let ask = transactions::ask_at(d, t);
     let runs = transactions::is_running(d, t);
@@ -101,23 +91,14 @@ fn is_record(d: &[u8], seen: Set, t: u16) -> bool
 }
 
 // Whether every transaction's record is in order.
-fn are_records(d: &[u8], seen: Set) -> bool
-    requires { length d.now ≡ desk_size }
+fn are_records(d: &Desk, seen: Set) -> bool
     ensures { result ≡ all (record_ok d.now seen) (tab transactions_most 1 (λ t. t)) }
 {
-    let mut t: u16 = 1;
-    while t < END {
-        if !is_record(d, seen, t) {
-            return false;
-        }
-        t += 1;
-    }
-    true
+    (1..END).all(|t| is_record(d, seen, t))
 }
 
 // Whether slot i is free and zero, or a lock with a mode, held by one that runs.
-fn is_slot(d: &[u8], i: usize) -> bool
-    requires d_len { length d.now ≡ desk_size }
+fn is_slot(d: &Desk, i: usize) -> bool
     requires i_lt_locks_most { i < locks_most }
     ensures { result ≡ slot_ok d.now i }
 {
@@ -126,42 +107,31 @@ fn is_slot(d: &[u8], i: usize) -> bool
     let mode = locks::mode_at(d, i);
     let filler = locks::filler_at(d, i);
     if holder == 0 {
-        return name.same(Key::LOWEST) & (mode == 0) & (filler == 0);
+        return (name == Key::LOWEST) & (mode == 0) & (filler == 0);
     }
     if holder > limits::LAST_TRANSACTION {
         return false;
     }
-    transactions::is_running(d, holder) & ((mode == 1) | (mode == 2)) & (filler == 0)
+    transactions::is_running(d, holder)
+        & ((mode == Mode::S as u16) | (mode == Mode::X as u16))
+        & (filler == 0)
 }
 
 // Whether every slot is in order. Where none is in use, one wide look tells.
-fn are_slots(d: &[u8]) -> bool
-    requires { length d.now ≡ desk_size }
+fn are_slots(d: &Desk) -> bool
     ensures { result ≡ all (slot_ok d.now) (tab locks_most 0 (λ i. i)) }
 {
-    if locks::are_zero(d) {
-        return true;
-    }
-    let mut i: usize = 0;
-    while i < LOCKS {
-        if !is_slot(d, i) {
-            return false;
-        }
-        i += 1;
-    }
-    true
+    locks::are_zero(d) || (0..LOCKS).all(|i| is_slot(d, i))
 }
 
 // Whether the desk is in order by itself, the locks not yet held against one another or against the entries.
-pub fn is_desk(d: &[u8]) -> bool
-    requires { length d.now ≡ desk_size }
+pub fn is_desk(d: &Desk) -> bool
     ensures { result ≡ desk_ok d.now }
 {
     if !has_head(d) {
         return false;
     }
-    let w = askers(d);
-    let Trail::Went(seen) = w else {
+    let Some(seen) = askers(d) else {
         return false;
     };
     are_records(d, seen) & are_slots(d)

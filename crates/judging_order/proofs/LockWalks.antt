@@ -2,6 +2,7 @@
 -- holds X. Both ways by induction on the entries: those passed have the locks passed, and as long as every lock is on an entry to come or
 -- the end, the locks on the next entry are the next ones. Assumes nothing.
 use mathlib.Core.Path.{◌≡◌, refl, sym, ap, subst, ◌∙◌}
+use Rattle.std.specs.Prelude as Code
 use mathlib.Core.Logic.{◌⊎◌, inl, inr, ⊎_elim}
 use mathlib.Core.Bool.{Bool, true, false, cond, not, ◌||◌, false≢true}
 use mathlib.Core.List.{List, [], ◌∷◌, ◌++◌}
@@ -26,13 +27,11 @@ use Rattle.locks.specs.SlotMoves.{is_slot_of}
 use Rattle.locks.proofs.LockValues.{name_back}
 use Rattle.index.specs.Pictures.{Item}
 use Rattle.judging_pages.proofs.LeavesJudged.{is_under}
-use Rattle.judging_order.specs.declared.Passage.{Passage}
-use Rattle.judging_order.specs.declared.Passage.TheVariants.{To, Stuck}
 use Rattle.judging_locks.specs.LockChecks.{slot_has_x, slot_holds}
 use Rattle.judging_order.specs.LockOrders.{slot_on, after, stretch, past_entry, past}
 use Rattle.judging_order.proofs.Ascending.{name_of}
 
-stuck_to : (j : ℕ) → Stuck ≡ To j → ⊥
+stuck_to : (j : ℕ) → Code.None ≡ Code.Some j → ⊥
 stuck_to j e = never (cc)
 
 -- ---- a stretch of places
@@ -90,31 +89,31 @@ module _ (f : ℕ → Option (Lock ℕ)) (m : ℕ) where
   abbrev held_from : Item → ℕ → ℕ → Bool
   held_from e k j = eqb e.owner 0 || any (slot_holds e.owner e.key) (tab (j - k) k f)
 
-  entry_passes : (e : Item) (k : ℕ) → held_from e k (stretch f m e.key k) ≡ true → past_entry f m e k ≡ To (stretch f m e.key k)
+  entry_passes : (e : Item) (k : ℕ) → held_from e k (stretch f m e.key k) ≡ true → past_entry f m e k ≡ Code.Some (stretch f m e.key k)
   unfolding past_entry
-  entry_passes e k t = ap (λ b. cond b (To (stretch f m e.key k)) Stuck) t
+  entry_passes e k t = ap (λ b. cond b (Code.Some (stretch f m e.key k)) Code.None) t
 
   pub past_append : (es fs : List Item) (k : ℕ) → past f m (es ++ fs) k ≡ after (past f m es k) (past f m fs)
   unfolding past
   past_append [] fs k = refl
   past_append (e ∷ es) fs k = go (past_entry f m e k) (past_append es fs)
     where
-      go : (r : Passage) → ((j : ℕ) → past f m (es ++ fs) j ≡ after (past f m es j) (past f m fs))
+      go : (r : Code.Option ℕ) → ((j : ℕ) → past f m (es ++ fs) j ≡ after (past f m es j) (past f m fs))
           → after r (past f m (es ++ fs)) ≡ after (after r (past f m es)) (past f m fs)
-      go (To j) h = h j
-      go Stuck h = refl
+      go (Code.Some j) h = h j
+      go Code.None h = refl
 
-  entry_to : (e : Item) (k j : ℕ) → past_entry f m e k ≡ To j
+  entry_to : (e : Item) (k j : ℕ) → past_entry f m e k ≡ Code.Some j
       → (j ≡ stretch f m e.key k) × (held_from e k (stretch f m e.key k) ≡ true)
   unfolding past_entry
   entry_to e k j h = go (held_from e k (stretch f m e.key k)) refl h
     where
-      go : (b : Bool) → held_from e k (stretch f m e.key k) ≡ b → cond b (To (stretch f m e.key k)) Stuck ≡ To j
+      go : (b : Bool) → held_from e k (stretch f m e.key k) ≡ b → cond b (Code.Some (stretch f m e.key k)) Code.None ≡ Code.Some j
           → (j ≡ stretch f m e.key k) × (held_from e k (stretch f m e.key k) ≡ true)
       go true t u = (let z : stretch f m e.key k ≡ j = cc in sym z, t)
       go false t u = absurd (stuck_to j u)
 
-  pub entry_most : (e : Item) (k j : ℕ) → k ≤ m → past_entry f m e k ≡ To j → j ≤ m
+  pub entry_most : (e : Item) (k j : ℕ) → k ≤ m → past_entry f m e k ≡ Code.Some j → j ≤ m
   entry_most e k j h t = let s = (stretch_is f m e.key k h).most in let z = (entry_to e k j t).0 in omega arith
 
   -- ---- what is passed
@@ -131,17 +130,17 @@ module _ (f : ℕ → Option (Lock ℕ)) (m : ℕ) where
       let u : z.0 < k + (j - k) = z.2 in
       in_any p (tab m 0 f) y.0 (subst (λ v. In v (tab m 0 f)) z.3 (in_tab m 0 f z.0 (omega arith) (omega arith))) y.2
 
-  pub past_passed : (es : List Item) (k j : ℕ) → k ≤ m → past f m es k ≡ To j → Passed es k j
+  pub past_passed : (es : List Item) (k j : ℕ) → k ≤ m → past f m es k ≡ Code.Some j → Passed es k j
   unfolding past any
   past_passed [] k j h e =
       let z : k ≡ j = cc in
       record { up = omega arith; most = omega arith; names = λ a l u. absurd (omega arith); owners = λ e i. absurd i }
   past_passed (e ∷ es) k j h t = go (past_entry f m e k) refl t (λ w l u. past_passed es w j l u)
     where
-      go : (r : Passage) → past_entry f m e k ≡ r → after r (past f m es) ≡ To j → ((w : ℕ) → w ≤ m → past f m es w ≡ To j → Passed es w j)
+      go : (r : Code.Option ℕ) → past_entry f m e k ≡ r → after r (past f m es) ≡ Code.Some j → ((w : ℕ) → w ≤ m → past f m es w ≡ Code.Some j → Passed es w j)
           → Passed (e ∷ es) k j
-      go Stuck q u h = absurd (stuck_to j u)
-      go (To w) q u i =
+      go Code.None q u h = absurd (stuck_to j u)
+      go (Code.Some w) q u i =
           let x = entry_to e k w q in
           let s : Stretch f m e.key k w = subst (Stretch f m e.key k) (sym x.0) (stretch_is f m e.key k h) in
           let a = s.up in
@@ -180,7 +179,7 @@ module _ (f : ℕ → Option (Lock ℕ)) (m : ℕ) where
     pub record Arrives (es : List Item) (k : ℕ) : Type 0 where
       pub at : ℕ
       pub most : at ≤ m
-      pub is : past f m es k ≡ To at
+      pub is : past f m es k ≡ Code.Some at
       pub ends : (a : ℕ) → at ≤ a → a < m → name_of (f a) ≡ end_mark
 
     module _ (e : Item) (es : List Item) (k j : ℕ) (g : Ready (e ∷ es) k) (s : Stretch f m e.key k j) where

@@ -2,6 +2,7 @@
 -- locks go together; where neighbours clash, not every two do; where the lock table is all zero, the order of no locks is one.
 -- By what each walk over the entries shows, both ways. Assumes nothing.
 use mathlib.Core.Path.{◌≡◌, refl, sym, ap, ◌∙◌}
+use Rattle.std.specs.Prelude as Code
 use mathlib.Core.Logic.{◌⊎◌, inl, inr}
 use mathlib.Core.Bool.{Bool, true, false, cond, not, ◌&&◌, ◌||◌, false≢true}
 use mathlib.Core.List.{List, []}
@@ -26,8 +27,6 @@ use Rattle.locks.specs.SlotLayout.{lock_widths, lock_place, name_in, name_number
 use Rattle.locks.proofs.LockValues.{name_back}
 use Rattle.index.specs.Pictures.{Item, tree_of}
 use Rattle.judging_desk.proofs.Free.{zero_free}
-use Rattle.judging_order.specs.declared.Passage.{Passage}
-use Rattle.judging_order.specs.declared.Passage.TheVariants.{To, Stuck}
 use Rattle.judging_locks.specs.LockChecks.{slot_together, slot_holds, entry_held, has_key, owners_at, named, slot_named, locks_ok, Fine}
 use Rattle.judging_order.specs.LockOrders.{placed, goes_up, clashes, begins, has_place, slot_on, stretch, past, ended, walked}
 use Rattle.judging_locks.proofs.Flats.{find_is, owners_is, fine_sorted, fine_small}
@@ -123,7 +122,7 @@ module _ (n : ℕ) (s : List ℕ) (q : ℕ) (fine : Fine n s q) (d o p : List �
           in_any t (tab m 0 f) (f w.0) (in_tab m 0 f w.0 (omega arith) (omega arith)) w.2
 
   -- yes is right
-  module _ (j : ℕ) (r : past f m es 0 ≡ To j) (e : eqb (stretch f m end_mark j) m ≡ true) where
+  module _ (j : ℕ) (r : past f m es 0 ≡ Code.Some j) (e : eqb (stretch f m end_mark j) m ≡ true) where
     passed : Passed f m es 0 j
     passed = past_passed f m es 0 j (omega arith) r
 
@@ -195,9 +194,9 @@ module _ (n : ℕ) (s : List ℕ) (q : ℕ) (fine : Fine n s q) (d o p : List �
       alike (ended f m (past f m es 0)) (locks_ok n s d q) (yes_right (past f m es 0) refl)
       (λ h. let w = locks_tell h in walk_ends w.0 w.1)
     where
-      yes_right : (r : Passage) → past f m es 0 ≡ r → ended f m r ≡ true → locks_ok n s d q ≡ true
-      yes_right (To j) e h = tell_locks (walk_names j e h) (walk_owners j e h)
-      yes_right Stuck e h = absurd (false≢true h)
+      yes_right : (r : Code.Option ℕ) → past f m es 0 ≡ r → ended f m r ≡ true → locks_ok n s d q ≡ true
+      yes_right (Code.Some j) e h = tell_locks (walk_names j e h) (walk_owners j e h)
+      yes_right Code.None e h = absurd (false≢true h)
 
 -- ---- as the code finds it
 module _ (n : ℕ) (s d o : List ℕ) (m q : ℕ) where

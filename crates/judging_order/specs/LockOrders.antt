@@ -2,6 +2,7 @@
 -- It is not for readers: ../proofs shows that it comes to the tests of Checks. Assumes nothing.
 use Rattle.std.specs.Prelude.{ℕ, ◌+◌, ◌-◌, Bool, false, cond, not, ◌&&◌, ◌||◌, List, [], ◌∷◌, eqb, ltb, get_or}
 use Rattle.std.proofs.Math.Option.{Option, none, some}
+use Rattle.std.specs.Prelude as Code
 use Rattle.lists.specs.Lists.{tab, any, place}
 use Rattle.rules.specs.Kinds.{Lock, Entry}
 use Rattle.rules.specs.Entries.{is_there}
@@ -10,8 +11,6 @@ use Rattle.rules.specs.Document.{end_mark}
 use Rattle.trees.specs.Trees.{flat}
 use Rattle.locks.specs.SlotLayout.{name_number, slot_at}
 use Rattle.index.specs.Pictures.{Item, tree_of}
-use Rattle.judging_order.specs.declared.Passage.{Passage}
-use Rattle.judging_order.specs.declared.Passage.TheVariants.{To, Stuck}
 use Rattle.judging_locks.specs.LockChecks.{slot_together, slot_holds}
 
 -- the slot at a place of the order
@@ -46,9 +45,9 @@ unfoldable pub slot_on : ℕ → Option (Lock ℕ) → Bool
 slot_on k none = false
 slot_on k (some l) = eqb (name_number l.name) k
 
-abbrev pub after : Passage → (ℕ → Passage) → Passage
-after (To k) f = f k
-after Stuck f = Stuck
+abbrev pub after : Code.Option ℕ → (ℕ → Code.Option ℕ) → Code.Option ℕ
+after (Code.Some k) f = f k
+after Code.None f = Code.None
 
 -- the walk along the m places of an order
 module _ (f : ℕ → Option (Lock ℕ)) (m : ℕ) where
@@ -57,19 +56,19 @@ module _ (f : ℕ → Option (Lock ℕ)) (m : ℕ) where
   stretch x k = k + place (λ y. not (slot_on x y)) (tab (m - k) k f)
 
   -- an entry: the locks on it are passed, and its owner, if it has one, is to hold X among them
-  unfoldable pub past_entry : Entry ℕ ℕ → ℕ → Passage
+  unfoldable pub past_entry : Entry ℕ ℕ → ℕ → Code.Option ℕ
   past_entry e k =
-      cond (eqb e.owner 0 || any (slot_holds e.owner e.key) (tab (stretch e.key k - k) k f)) (To (stretch e.key k)) Stuck
+      cond (eqb e.owner 0 || any (slot_holds e.owner e.key) (tab (stretch e.key k - k) k f)) (Code.Some (stretch e.key k)) Code.None
 
   -- the entries one after the other
-  unfoldable pub past : List (Entry ℕ ℕ) → ℕ → Passage
-  past [] k = To k
+  unfoldable pub past : List (Entry ℕ ℕ) → ℕ → Code.Option ℕ
+  past [] k = Code.Some k
   past (e ∷ es) k = after (past_entry e k) (past es)
 
   -- behind them only locks on the end are left
-  abbrev pub ended : Passage → Bool
-  ended (To k) = eqb (stretch end_mark k) m
-  ended Stuck = false
+  abbrev pub ended : Code.Option ℕ → Bool
+  ended (Code.Some k) = eqb (stretch end_mark k) m
+  ended Code.None = false
 
 -- the walk over the entries of a tree
 unfoldable pub walked : ℕ → List ℕ → List ℕ → List ℕ → ℕ → ℕ → Bool

@@ -2,8 +2,8 @@
 // promised of the order (`sorting`); so it is looked at first. Where it is none, the plain tests tell (`judging_locks`).
 #![tactic(auto)]
 
-ghost use Rattle.std.specs.Prelude.{◌≡◌, true, ℕ, ◌*◌, ◌<◌, ◌≤◌, ◌+◌, ◌-◌, leb, length};
-ghost use Rattle.limits.specs.Limits.{locks_most, pages_most, pages_size, leaf_most, slot_size, slots_place, desk_size};
+ghost use Rattle.std.specs.Prelude.{◌≡◌, true, ℕ, ◌*◌, ◌<◌, ◌≤◌, ◌-◌, leb};
+ghost use Rattle.limits.specs.Limits.{locks_most, pages_most, leaf_most, slot_size, slots_place};
 ghost use Rattle.lists.specs.Lists.{tab, all, any};
 ghost use Rattle.numbers.specs.Numbers.{zero_at};
 ghost use Rattle.trees.specs.Trees.{flat};
@@ -15,21 +15,12 @@ ghost use Rattle.judging_locks.specs.LockChecks.{slot_holds, locks_ok, Fine};
 ghost use Rattle.judging_order.specs.LockOrders.{placed, comes_first, goes_up, clashes, begins, has_place, slot_on, stretch, past_entry, past, walked};
 
 use keys::Key;
-use limits::{LOCKS, PAGE_SIZE};
-use locks::{Slot, slot_at};
-use sorting::number_in;
-
-// To which place in the order of the locks the walk over the entries has come, or that it cannot go on.
-#[derive(Clone, Copy)]
-pub enum Passage {
-    To(usize),
-    Stuck,
-}
+use limits::{Desk, LOCKS, Pages};
+use locks::{Lock, slot_at};
+use sorting::{Order, number_in};
 
 // The slot at a place of the order.
-fn slot_in(d: &[u8], order: &[u8], a: usize) -> Slot
-    requires d_len { length d.now ≡ desk_size }
-    requires order_len { length order.now ≡ locks_most }
+fn slot_in(d: &Desk, order: &Order, a: usize) -> Option<Lock>
     requires a_lt_locks_most { a < locks_most }
     ensures { book_slot result ≡ placed d.now order.now a }
 {
@@ -37,46 +28,36 @@ fn slot_in(d: &[u8], order: &[u8], a: usize) -> Slot
 }
 
 // Whether one slot comes before another: its name is lower, or of one name its holder is and the modes go together.
-fn comes_first(a: Slot, b: Slot) -> bool
+fn comes_first(a: Option<Lock>, b: Option<Lock>) -> bool
     ensures { result ≡ comes_first (book_slot a) (book_slot b) }
 {
-    let Slot::Held(k) = a else {
+    let Some(k) = a else {
         return false;
     };
-    let Slot::Held(l) = b else {
+    let Some(l) = b else {
         return false;
     };
-    let name = k.name;
-    let mode = k.mode;
-    let later = l.name;
-    let other = l.mode;
-    name.is_below(later) | (name.same(later) & (k.holder < l.holder) & !mode.conflicts(other))
+    (k.name < l.name) | ((k.name == l.name) & (k.holder < l.holder) & !k.mode.conflicts(l.mode))
 }
 
 // The first place, from 1 on, whose slot does not come after the one before it; m or more where the first m places go up.
-fn climb(d: &[u8], order: &[u8], m: usize) -> usize
-    requires d_len { length d.now ≡ desk_size }
-    requires order_len { length order.now ≡ locks_most }
+fn climb(d: &Desk, order: &Order, m: usize) -> usize
     requires m_le_locks_most { m ≤ locks_most }
     ensures { (1 ≤ result) × (leb m result ≡ all (goes_up d.now order.now) (tab (m - 1) 1 (λ a. a))) }
 {
     let mut last = slot_in(d, order, 0);
-    let mut a: usize = 1;
-    while a < m {
+    for a in 1..m {
         let next = slot_in(d, order, a);
         if !comes_first(last, next) {
             return a;
         }
         last = next;
-        a += 1;
     }
-    a
+    m.max(1)
 }
 
 // Whether a place and the one before it have different slots that do not go together.
-fn is_clash(d: &[u8], order: &[u8], a: usize) -> bool
-    requires d_len { length d.now ≡ desk_size }
-    requires order_len { length order.now ≡ locks_most }
+fn is_clash(d: &Desk, order: &Order, a: usize) -> bool
     requires le_a { 1 ≤ a }
     requires a_lt_locks_most { a < locks_most }
     ensures { result ≡ clashes d.now order.now a }
@@ -87,89 +68,62 @@ fn is_clash(d: &[u8], order: &[u8], a: usize) -> bool
 }
 
 // Whether the first of m places, if there is one, has a lock.
-fn has_first(d: &[u8], order: &[u8], m: usize) -> bool
-    requires d_len { length d.now ≡ desk_size }
-    requires order_len { length order.now ≡ locks_most }
+fn has_first(d: &Desk, order: &Order, m: usize) -> bool
     ensures { result ≡ begins d.now order.now m }
 {
-    let first = slot_in(d, order, 0);
-    (m == 0) | !first.is_free()
+    (m == 0) | slot_in(d, order, 0).is_some()
 }
 
 // Whether slot i is free, or stands among the first m at the place that is noted for it.
-fn has_place(d: &[u8], order: &[u8], places: &[u8], m: usize, i: usize) -> bool
-    requires d_len { length d.now ≡ desk_size }
-    requires order_len { length order.now ≡ locks_most }
-    requires places_len { length places.now ≡ locks_most }
+fn has_place(d: &Desk, order: &Order, places: &Order, m: usize, i: usize) -> bool
     requires i_lt_locks_most { i < locks_most }
     ensures { result ≡ has_place d.now order.now places.now m i }
 {
-    let free = slot_at(d, i).is_free();
+    let free = slot_at(d, i).is_none();
     let a = number_in(places, i);
     let j = number_in(order, a);
     free | ((a < m) & (j == i))
 }
 
 // The same of every slot: none in use is left out of the order.
-fn have_places(d: &[u8], order: &[u8], places: &[u8], m: usize) -> bool
-    requires d_len { length d.now ≡ desk_size }
-    requires order_len { length order.now ≡ locks_most }
-    requires places_len { length places.now ≡ locks_most }
+fn have_places(d: &Desk, order: &Order, places: &Order, m: usize) -> bool
     ensures { result ≡ all (has_place d.now order.now places.now m) (tab locks_most 0 (λ i. i)) }
 {
-    let mut i: usize = 0;
-    while i < LOCKS {
-        if !has_place(d, order, places, m, i) {
-            return false;
-        }
-        i += 1;
-    }
-    true
+    (0..LOCKS).all(|i| has_place(d, order, places, m, i))
 }
 
 // Whether a slot has a lock on a name.
-fn is_on(a: Slot, name: Key) -> bool
+fn is_on(a: Option<Lock>, name: Key) -> bool
     ensures { result ≡ slot_on name.0 (book_slot a) }
 {
-    let Slot::Held(l) = a else {
-        return false;
-    };
-    let on = l.name;
-    on.same(name)
+    a.is_some_and(|l| l.name == name)
 }
 
 // Whether the lock at a place is on a name.
-fn is_on_at(d: &[u8], order: &[u8], a: usize, name: Key) -> bool
-    requires d_len { length d.now ≡ desk_size }
-    requires order_len { length order.now ≡ locks_most }
+fn is_on_at(d: &Desk, order: &Order, a: usize, name: Key) -> bool
     requires a_lt_locks_most { a < locks_most }
     ensures { result ≡ slot_on name.0 (placed d.now order.now a) }
 {
     is_on(slot_in(d, order, a), name)
 }
 
-// Passes the locks on a name from place k on: the first place, of m, with another.
-fn pass_name(d: &[u8], order: &[u8], m: usize, k: usize, name: Key) -> usize
-    requires d_len { length d.now ≡ desk_size }
-    requires order_len { length order.now ≡ locks_most }
+// Passes the locks on a name from place k on: the first place, of m, with another. (By `for`: with `find` a whole judgement took longer by a
+// twelfth.)
+fn pass_name(d: &Desk, order: &Order, m: usize, k: usize, name: Key) -> usize
     requires m_le_locks_most { m ≤ locks_most }
     requires k_le_m { k ≤ m }
     ensures { result ≡ stretch (placed d.now order.now) m name.0 k }
 {
-    let mut j = k;
-    while j < m {
+    for j in k..m {
         if !is_on_at(d, order, j, name) {
             return j;
         }
-        j += 1;
     }
-    j
+    m
 }
 
 // Whether the lock at a place is t's X on a key.
-fn is_x_at(d: &[u8], order: &[u8], a: usize, t: u16, key: Key) -> bool
-    requires d_len { length d.now ≡ desk_size }
-    requires order_len { length order.now ≡ locks_most }
+fn is_x_at(d: &Desk, order: &Order, a: usize, t: u16, key: Key) -> bool
     requires a_lt_locks_most { a < locks_most }
     ensures { result ≡ slot_holds t key.0 (placed d.now order.now a) }
 {
@@ -177,59 +131,38 @@ fn is_x_at(d: &[u8], order: &[u8], a: usize, t: u16, key: Key) -> bool
 }
 
 // Whether one of the locks from place k to place j is t's X on a key.
-fn holds_x_among(d: &[u8], order: &[u8], k: usize, j: usize, t: u16, key: Key) -> bool
-    requires d_len { length d.now ≡ desk_size }
-    requires order_len { length order.now ≡ locks_most }
+fn holds_x_among(d: &Desk, order: &Order, k: usize, j: usize, t: u16, key: Key) -> bool
     requires j_le_locks_most { j ≤ locks_most }
     ensures { result ≡ any (slot_holds t key.0) (tab (j - k) k (placed d.now order.now)) }
 {
-    let mut a = k;
-    while a < j {
-        if is_x_at(d, order, a, t, key) {
-            return true;
-        }
-        a += 1;
-    }
-    false
+    (k..j).any(|a| is_x_at(d, order, a, t, key))
 }
 
-// Passes the entry at a place of page q with the locks on it, from place k of the order on. Its owner, if it has one, is to hold X.
+// Passes the entry at a place of page q with the locks on it, from place k of the order on. Its owner, if it has one, is to hold X. Gives
+// the place where the walk has come to, or nothing where it cannot go on.
 fn pass_entry(
-    pages: &[u8],
-    d: &[u8],
-    order: &[u8],
+    pages: &Pages,
+    d: &Desk,
+    order: &Order,
     m: usize,
     q: usize,
     i: usize,
     k: usize,
-) -> Passage
-    requires pages_len { length pages.now ≡ pages_size }
-    requires d_len { length d.now ≡ desk_size }
-    requires order_len { length order.now ≡ locks_most }
+) -> Option<usize>
     requires m_le_locks_most { m ≤ locks_most }
     requires q_lt_pages_most { q < pages_most }
     requires i_lt_leaf_most { i < leaf_most }
     requires k_le_m { k ≤ m }
     ensures { result ≡ past_entry (placed d.now order.now) m (entry_at (page_at pages.now q) i) k }
 {
-    let a = PAGE_SIZE * q;
-    let e = pages::leaf::entry_at(&pages[a..a + PAGE_SIZE], i);
-    let key = e.key;
-    let j = pass_name(d, order, m, k, key);
-    if e.owner == 0 {
-        return Passage::To(j);
-    }
-    if holds_x_among(d, order, k, j, e.owner, key) {
-        return Passage::To(j);
-    }
-    Passage::Stuck
+    let e = pages::leaf::entry_at(index::page(pages, q), i);
+    let j = pass_name(d, order, m, k, e.key);
+    let held = (e.owner == 0) || holds_x_among(d, order, k, j, e.owner, e.key);
+    held.then_some(j)
 }
 
-// Passes the entries of leaf q, from place k of the order on.
-fn pass_leaf(pages: &[u8], d: &[u8], order: &[u8], m: usize, q: usize, k: usize) -> Passage
-    requires pages_len { length pages.now ≡ pages_size }
-    requires d_len { length d.now ≡ desk_size }
-    requires order_len { length order.now ≡ locks_most }
+// Passes the entries of leaf q, from place k of the order on. Gives the same.
+fn pass_leaf(pages: &Pages, d: &Desk, order: &Order, m: usize, q: usize, k: usize) -> Option<usize>
     requires m_le_locks_most { m ≤ locks_most }
     requires q_lt_pages_most { q < pages_most }
     requires q_bound { count_of (page_at pages.now q) ≤ leaf_most }
@@ -238,31 +171,23 @@ fn pass_leaf(pages: &[u8], d: &[u8], order: &[u8], m: usize, q: usize, k: usize)
 {
     let n = index::count_at(pages, q);
     let mut at = k;
-    let mut i: usize = 0;
-    while i < n {
-        let passage = pass_entry(pages, d, order, m, q, i, at);
-        let Passage::To(j) = passage else {
-            return Passage::Stuck;
-        };
-        at = j;
-        i += 1;
+    for i in 0..n {
+        at = pass_entry(pages, d, order, m, q, i, at)?;
     }
-    Passage::To(at)
+    Some(at)
 }
 
-// Passes the entries of the tree of a level from page q down, from place k of the order on.
+// Passes the entries of the tree of a level from page q down, from place k of the order on. Gives the same.
 fn pass_tree(
-    pages: &[u8],
-    d: &[u8],
-    order: &[u8],
+    pages: &Pages,
+    d: &Desk,
+    order: &Order,
     m: usize,
     level: usize,
     q: usize,
     k: usize,
-) -> Passage
+) -> Option<usize>
     requires fine { Fine level pages.now q }
-    requires d_len { length d.now ≡ desk_size }
-    requires order_len { length order.now ≡ locks_most }
     requires m_le_locks_most { m ≤ locks_most }
     requires k_le_m { k ≤ m }
     ensures { result ≡ past (placed d.now order.now) m (flat ℕ Item level (tree_of level pages.now q)) k }
@@ -272,53 +197,38 @@ fn pass_tree(
     }
     let n = index::count_at(pages, q);
     let mut at = k;
-    let mut i: usize = 0;
-    while i < n {
+    for i in 0..n {
         let child = index::child_page(pages, q, i);
-        let passage = pass_tree(pages, d, order, m, level - 1, child, at);
-        let Passage::To(j) = passage else {
-            return Passage::Stuck;
-        };
-        at = j;
-        i += 1;
+        at = pass_tree(pages, d, order, m, level - 1, child, at)?;
     }
-    Passage::To(at)
+    Some(at)
 }
 
 // Whether the walk over the tree passes every lock but those on the end.
-fn pass_all(pages: &[u8], d: &[u8], order: &[u8], m: usize, level: usize, root: usize) -> bool
+fn pass_all(pages: &Pages, d: &Desk, order: &Order, m: usize, level: usize, root: usize) -> bool
     requires fine { Fine level pages.now root }
-    requires d_len { length d.now ≡ desk_size }
-    requires order_len { length order.now ≡ locks_most }
     requires m_le_locks_most { m ≤ locks_most }
     ensures { result ≡ walked level pages.now d.now order.now m root }
 {
-    let passage = pass_tree(pages, d, order, m, level, root, 0);
-    let Passage::To(j) = passage else {
+    let Some(j) = pass_tree(pages, d, order, m, level, root, 0) else {
         return false;
     };
     pass_name(d, order, m, j, Key::END) == m
 }
 
 // The same as `stand_in_order`, where the order does not go up at a place: its locks clash, or it is no order.
-fn stand_apart(pages: &[u8], d: &[u8], order: &[u8], a: usize, level: usize, root: usize) -> bool
+fn stand_apart(pages: &Pages, d: &Desk, order: &Order, a: usize, level: usize, root: usize) -> bool
     requires fine { Fine level pages.now root }
-    requires d_len { length d.now ≡ desk_size }
-    requires order_len { length order.now ≡ locks_most }
     requires le_a { 1 ≤ a }
     requires a_lt_locks_most { a < locks_most }
     ensures { result ≡ locks_ok level pages.now d.now root }
 {
-    if is_clash(d, order, a) {
-        return false;
-    }
-    judging_locks::are_locks(pages, d, level, root)
+    !is_clash(d, order, a) && judging_locks::are_locks(pages, d, level, root)
 }
 
 // The same where some slot is in use.
-fn stand_sorted(pages: &[u8], d: &[u8], level: usize, root: usize) -> bool
+fn stand_sorted(pages: &Pages, d: &Desk, level: usize, root: usize) -> bool
     requires fine { Fine level pages.now root }
-    requires d_len { length d.now ≡ desk_size }
     ensures { result ≡ locks_ok level pages.now d.now root }
 {
     let mut order = [0u8; LOCKS];
@@ -335,9 +245,8 @@ fn stand_sorted(pages: &[u8], d: &[u8], level: usize, root: usize) -> bool
 }
 
 // The same where none is: only owners are left to look for.
-fn stand_free(pages: &[u8], d: &[u8], level: usize, root: usize) -> bool
+fn stand_free(pages: &Pages, d: &Desk, level: usize, root: usize) -> bool
     requires fine { Fine level pages.now root }
-    requires d_len { length d.now ≡ desk_size }
     requires d_value { zero_at (slot_size * locks_most) slots_place d.now ≡ true }
     ensures { result ≡ locks_ok level pages.now d.now root }
 {
@@ -346,9 +255,8 @@ fn stand_free(pages: &[u8], d: &[u8], level: usize, root: usize) -> bool
 }
 
 // Whether the locks are in order against one another and against the entries of the tree from its root down.
-pub fn stand_in_order(pages: &[u8], d: &[u8], level: usize, root: usize) -> bool
+pub fn stand_in_order(pages: &Pages, d: &Desk, level: usize, root: usize) -> bool
     requires fine { Fine level pages.now root }
-    requires d_len { length d.now ≡ desk_size }
     ensures { result ≡ locks_ok level pages.now d.now root }
 {
     if locks::are_zero(d) {

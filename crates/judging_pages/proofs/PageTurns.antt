@@ -5,11 +5,10 @@ use mathlib.Core.Bool.{Bool, true, false, not, ◌&&◌}
 use mathlib.Core.List.{List}
 use Prim.Native.Nat.{ℕ, ◌+◌, ◌*◌, ◌-◌, ◌≤◌, ◌<◌}
 use native.Mathlib.Omega.{arith}
-use borrow.Author.Tests.{leb-true, ne_eqb, not-true, not-false}
+use borrow.Author.Tests.{ne_eqb, not-true, not-false}
 use lib.Dec.{eqb, leb}
 use Rattle.limits.specs.Limits.{head_size, body_size, entry_size, leaf_most, child_size, inner_most}
 use Rattle.lists.specs.Lists.{tab}
-use Rattle.lists.proofs.Tests.{and_left, and_right}
 use Rattle.lists.proofs.Tables.{tab_next, tab_done}
 use Rattle.numbers.specs.Numbers.{zero_at}
 use Rattle.rows.specs.PageHead.{count_of}
@@ -21,9 +20,6 @@ and_false true = refl
 and_false false = refl
 
 -- ---- leaves
-pub leaf_few : (h : Bool) (n : ℕ) → not (h && leb n leaf_most) ≡ false → n ≤ leaf_most
-leaf_few h n e = leb-true n leaf_most (and_right h (leb n leaf_most) (not-false (h && leb n leaf_most) e))
-
 module _ (p : List ℕ) (lo hi n : ℕ) where
   pub leaf_headless : (h : Bool) → n ≡ count_of p → h ≡ head_ok 2 0 p → not (h && leb n leaf_most) ≡ true → false ≡ leaf_ok lo hi p
   unfolding leaf_ok
@@ -70,16 +66,6 @@ module _ (p : List ℕ) (lo hi n : ℕ) where
       ∙ sym (ap₂ (λ x y. (x && y) && zero_at (body_size - entry_size * count_of p) (head_size + entry_size * count_of p) p) q r)
 
 -- ---- inner pages
-module _ (h g : Bool) (least n : ℕ) (t : not ((h && (leb least n && leb n inner_most)) && g) ≡ false) where
-  both : (leb least n && leb n inner_most) ≡ true
-  both = and_right h (leb least n && leb n inner_most) (and_left (h && (leb least n && leb n inner_most)) g (not-false ((h && (leb least n && leb n inner_most)) && g) t))
-
-  pub inner_few : n ≤ inner_most
-  inner_few = leb-true n inner_most (and_right (leb least n) (leb n inner_most) both)
-
-  pub inner_some : 1 ≤ least → 1 ≤ n
-  inner_some s = let l : least ≤ n = leb-true least n (and_left (leb least n) (leb n inner_most) both) in omega arith
-
 module _ (p : List ℕ) (level least lo hi n : ℕ) where
   pub inner_headless : (h g : Bool) → n ≡ count_of p → h ≡ head_ok 3 level p → g ≡ first_ok (child_fields_at p 0)
       → not ((h && (leb least n && leb n inner_most)) && g) ≡ true → false ≡ inner_ok level least lo hi p

@@ -1,6 +1,7 @@
 -- The page buffer passes its test exactly where it is whole and every entry that has no owner is settled.
 -- The walk sets down each page of the tree as often as it stands there, and at the end just the used ones are set. Assumes nothing.
 use mathlib.Core.Path.{◌≡◌, refl, sym, ap, ap₂, ◌∙◌}
+use Rattle.std.specs.Prelude as Code
 use mathlib.Core.Bool.{Bool, true, false, cond, ◌&&◌, false≢true}
 use mathlib.Core.List.{List}
 use Prim.Native.Nat.{ℕ, zero, suc, ◌+◌, ◌*◌, ◌-◌, ◌≤◌, ◌<◌}
@@ -27,8 +28,6 @@ use Rattle.trees.proofs.PageCounts.{above_yes, above_no}
 use Rattle.rows.specs.PageHead.{root_of, used_of, height_of}
 use Rattle.index.specs.Pictures.{Item, page_at, index_of, entries_in, WholePages}
 use Rattle.judging_pages.specs.declared.Span.{Span}
-use Rattle.judging_pages.specs.declared.Trail.{Trail}
-use Rattle.judging_pages.specs.declared.Trail.TheVariants.{Went, Bad}
 use Rattle.judging_pages.specs.PageChecks.{first_page_ok}
 use Rattle.judging_pages.specs.Walks.{span_of, only_zero, guard, marks, tree_ok, seen_ok, went_ok, front_ok, tree_in, pages_ok}
 use Rattle.judging_pages.proofs.EntriesJudged.{Rests}
@@ -41,13 +40,13 @@ pub record PagesFacts (s : List ℕ) : Type 0 where
   pub whole : WholePages s
   pub rests : (e : Item) → In e (entries_in s) → e.owner ≡ 0 → Rests e
 
-pub guard_went : (b : Bool) (w : Trail) (m : Set) → guard b w ≡ Went m → (b ≡ true) × (w ≡ Went m)
+pub guard_went : (b : Bool) (w : Code.Option Set) (m : Set) → guard b w ≡ Code.Some m → (b ≡ true) × (w ≡ Code.Some m)
 guard_went true w m h = (refl, h)
 guard_went false w m h = absurd (let z : ◌≡◌ {A = ℕ} 0 1 = cc in omega arith)
 
-pub went_ok_lem : (used : ℕ) (w : Trail) → went_ok used w ≡ true → (m : Set) × (w ≡ Went m) × (seen_ok used m ≡ true)
-went_ok_lem used (Went m) h = (m, refl, h)
-went_ok_lem used Bad h = absurd (false≢true h)
+pub went_ok_lem : (used : ℕ) (w : Code.Option Set) → went_ok used w ≡ true → (m : Set) × (w ≡ Code.Some m) × (seen_ok used m ≡ true)
+went_ok_lem used (Code.Some m) h = (m, refl, h)
+went_ok_lem used Code.None h = absurd (false≢true h)
 
 -- ---- each page once
 module _ (used n : ℕ) (s : List ℕ) (root : ℕ) where
@@ -73,7 +72,7 @@ module _ (used n : ℕ) (s : List ℕ) (root : ℕ) where
   unfolding seen_ok
   at_seen m h = all_of_tab (has m) used 0 (λ k. k) (λ q a b. has_of_times m q true (h q (omega arith)))
 
-  pub once_each : (m : Set) → marks used (reached n s root) only_zero ≡ Went m → seen_ok used m ≡ true → (q : ℕ) → L.times q (reached n s root) + above used q ≡ above 1 q
+  pub once_each : (m : Set) → marks used (reached n s root) only_zero ≡ Code.Some m → seen_ok used m ≡ true → (q : ℕ) → L.times q (reached n s root) + above used q ≡ above 1 q
   once_each m w h q =
       let any : 1 ≤ used =
       elim (dec_lt root used) [
@@ -101,7 +100,7 @@ module _ (used n : ℕ) (s : List ℕ) (root : ℕ) where
     small : (q : ℕ) → above 1 q ≤ 1
     small q = elim (dec_lt q 1) [ yes l ↦ omega (arith, above_no 1 q l) | no l ↦ omega (arith, above_yes 1 q (omega arith)) ]
 
-    pub each_once : (m : Set) × (marks used (reached n s root) only_zero ≡ Went m) × (seen_ok used m ≡ true)
+    pub each_once : (m : Set) × (marks used (reached n s root) only_zero ≡ Code.Some m) × (seen_ok used m ≡ true)
     each_once =
         let w = marks_go used ps only_zero
         (λ q l. elim (dec_lt q used) [
@@ -184,7 +183,7 @@ module _ (s : List ℕ) (g : Bytes s) where
       let low : level < 65536 = (let m = number_below 2 (page_at s 0) (head_size + 4) first_bytes in omega arith) in
       let t = facts_tree s g size level 2 top low (lit≤ tt) (record { laid = k.whole.laid; counts = x.counts; keys = x.keys; rests = k.rests }) in
       let w = each_once used level s root (λ q. ap (λ y. y + above used q) (sym (times_reached level s root q)) ∙ x.pages.once q) in
-      let d : tree_in s ≡ Went w.0 = tree_is ∙ ap₂ (λ b v. guard b v) t w.1 in
+      let d : tree_in s ≡ Code.Some w.0 = tree_is ∙ ap₂ (λ b v. guard b v) t w.1 in
       let f = laid_first (page_at s 0) first_bytes k.whole.head in
       and_both (front_ok s && went_ok used (tree_in s)) (zero_at (pages_size - page_size * used) (page_size * used) s)
       (and_both (front_ok s) (went_ok used (tree_in s))

@@ -2,6 +2,7 @@
 -- The walk by induction on the level and the children; the pages by the set, which counts how often a page stands in the list.
 -- Assumes nothing.
 use mathlib.Core.Path.{◌≡◌, refl, sym, ap, ap₂, ◌∙◌}
+use Rattle.std.specs.Prelude as Code
 use mathlib.Core.Bool.{Bool, true, false, cond, not, ◌&&◌}
 use mathlib.Core.List.{List, [], ◌∷◌, ◌++◌}
 use Prim.Native.Nat.{ℕ, zero, suc, ◌+◌, ◌≤◌, ◌<◌}
@@ -18,8 +19,6 @@ use Rattle.pages.specs.PageLayout.{children_of}
 use Rattle.pages.specs.declared.Child.{Child}
 use Rattle.index.specs.Pictures.{page_at}
 use Rattle.judging_pages.specs.declared.Span.{Span}
-use Rattle.judging_pages.specs.declared.Trail.{Trail}
-use Rattle.judging_pages.specs.declared.Trail.TheVariants.{Went, Bad}
 use Rattle.judging_pages.specs.Walks.{spans, after, guard, mark_at, marks, page_ok, tree_ok, walk_over, walk_at}
 
 -- the pages of the tree, in the order of the walk
@@ -28,20 +27,20 @@ reached zero s q = q ∷ []
 reached (suc n) s q = q ∷ join (λ c. reached n s c.page) (children_of (page_at s q))
 
 -- ---- trails
-after_ext : (w : Trail) (f g : Set → Trail) → ((k : Set) → f k ≡ g k) → after w f ≡ after w g
-after_ext (Went m) f g h = h m
-after_ext Bad f g h = refl
+after_ext : (w : Code.Option Set) (f g : Set → Code.Option Set) → ((k : Set) → f k ≡ g k) → after w f ≡ after w g
+after_ext (Code.Some m) f g h = h m
+after_ext Code.None f g h = refl
 
-after_guard : (w : Trail) (b : Bool) (f : Set → Trail) → after w (λ k. guard b (f k)) ≡ guard b (after w f)
-after_guard (Went m) b f = refl
-after_guard Bad true f = refl
-after_guard Bad false f = refl
+after_guard : (w : Code.Option Set) (b : Bool) (f : Set → Code.Option Set) → after w (λ k. guard b (f k)) ≡ guard b (after w f)
+after_guard (Code.Some m) b f = refl
+after_guard Code.None true f = refl
+after_guard Code.None false f = refl
 
-guard_after : (b : Bool) (w : Trail) (f : Set → Trail) → after (guard b w) f ≡ guard b (after w f)
+guard_after : (b : Bool) (w : Code.Option Set) (f : Set → Code.Option Set) → after (guard b w) f ≡ guard b (after w f)
 guard_after true w f = refl
 guard_after false w f = refl
 
-guard_both : (a b : Bool) (w : Trail) → guard a (guard b w) ≡ guard (a && b) w
+guard_both : (a b : Bool) (w : Code.Option Set) → guard a (guard b w) ≡ guard (a && b) w
 guard_both true b w = refl
 guard_both false b w = refl
 
@@ -50,9 +49,9 @@ unfolding marks
 marks_append used [] qs m = refl
 marks_append used (p ∷ ps) qs m = go (mark_at used m p) (marks_append used ps qs)
   where
-    go : (w : Trail) → ((k : Set) → marks used (ps ++ qs) k ≡ after (marks used ps k) (marks used qs)) → after w (marks used (ps ++ qs)) ≡ after (after w (marks used ps)) (marks used qs)
-    go (Went k) more = more k
-    go Bad more = refl
+    go : (w : Code.Option Set) → ((k : Set) → marks used (ps ++ qs) k ≡ after (marks used ps k) (marks used qs)) → after w (marks used (ps ++ qs)) ≡ after (after w (marks used ps)) (marks used qs)
+    go (Code.Some k) more = more k
+    go Code.None more = refl
 
 spans_join : {B : Type 0} (g : ℕ → List B) (lo hi : ℕ) (cs : List Child) → join (λ t. g t.page) (spans lo hi cs) ≡ join (λ c. g c.page) cs
 unfolding spans join
@@ -61,7 +60,7 @@ spans_join g lo hi (c ∷ []) = refl
 spans_join g lo hi (c ∷ d ∷ cs) = ap (λ xs. g c.page ++ xs) (spans_join g d.low.0 hi (d ∷ cs))
 
 -- ---- the walk
-over_is : (used : ℕ) (f : Span → Set → Trail) (ok : Span → Bool) (r : Span → List ℕ) → ((t : Span) (m : Set) → f t m ≡ guard (ok t) (marks used (r t) m))
+over_is : (used : ℕ) (f : Span → Set → Code.Option Set) (ok : Span → Bool) (r : Span → List ℕ) → ((t : Span) (m : Set) → f t m ≡ guard (ok t) (marks used (r t) m))
     → (ts : List Span) (m : Set) → walk_over f ts m ≡ guard (all ok ts) (marks used (join r ts) m)
 unfolding walk_over all join marks
 over_is used f ok r h [] m = refl
@@ -75,7 +74,7 @@ over_is used f ok r h (t ∷ ts) m =
 
 pub walk_is : (n least : ℕ) (s : List ℕ) (used : ℕ) (t : Span) (m : Set) → walk_at n least s used t m ≡ guard (tree_ok n least s t) (marks used (reached n s t.page) m)
 unfolding walk_at tree_ok reached marks
-walk_is zero least s used t m = after_guard (mark_at used m t.page) (page_ok zero least s t) (λ k. Went k)
+walk_is zero least s used t m = after_guard (mark_at used m t.page) (page_ok zero least s t) (λ k. Code.Some k)
 walk_is (suc n) least s used t m =
     let ts = spans t.low.0 t.high.0 (children_of (page_at s t.page)) in
     let r : Span → List ℕ = (λ u. reached n s u.page) in
@@ -89,48 +88,48 @@ walk_is (suc n) least s used t m =
 
 -- ---- the pages set down
 module _ (used : ℕ) (m : Set) (q : ℕ) where
-  pub mark_is : q < used → times_in q m ≡ 0 → mark_at used m q ≡ Went (with_one m q)
+  pub mark_is : q < used → times_in q m ≡ 0 → mark_at used m q ≡ Code.Some (with_one m q)
   unfolding mark_at
-  mark_is h e = ap₂ (λ a b. cond (a && not b) (Went (with_one m q)) Bad) (lt-ltb q used h) (has_of_times m q false e)
+  mark_is h e = ap₂ (λ a b. cond (a && not b) (Code.Some (with_one m q)) Code.None) (lt-ltb q used h) (has_of_times m q false e)
 
-  pub mark_went : (k : Set) → mark_at used m q ≡ Went k → (q < used) × (times_in q m ≡ 0) × (k ≡ with_one m q)
+  pub mark_went : (k : Set) → mark_at used m q ≡ Code.Some k → (q < used) × (times_in q m ≡ 0) × (k ≡ with_one m q)
   unfolding mark_at
   mark_went k h = go (ltb q used) refl (has m q) refl h
     where
-      go : (a : Bool) → ltb q used ≡ a → (b : Bool) → has m q ≡ b → cond (a && not b) (Went (with_one m q)) Bad ≡ Went k → (q < used) × (times_in q m ≡ 0) × (k ≡ with_one m q)
+      go : (a : Bool) → ltb q used ≡ a → (b : Bool) → has m q ≡ b → cond (a && not b) (Code.Some (with_one m q)) Code.None ≡ Code.Some k → (q < used) × (times_in q m ≡ 0) × (k ≡ with_one m q)
       go true a false b h = (ltb-true q used a, times_of_has m q false b, cc)
       go true a true b h = absurd (let z : ◌≡◌ {A = ℕ} 0 1 = cc in omega arith)
       go false a b c h = absurd (let z : ◌≡◌ {A = ℕ} 0 1 = cc in omega arith)
 
-pub marks_went : (used : ℕ) (qs : List ℕ) (m k : Set) → marks used qs m ≡ Went k → (q : ℕ) → times_in q k ≡ times_in q m + times q qs
+pub marks_went : (used : ℕ) (qs : List ℕ) (m k : Set) → marks used qs m ≡ Code.Some k → (q : ℕ) → times_in q k ≡ times_in q m + times q qs
 unfolding marks times
 marks_went used [] m k h q = let e : m ≡ k = cc in ap (times_in q) (sym e) ∙ sym (add-zero (times_in q m))
 marks_went used (p ∷ ps) m k h q = go (mark_at used m p) refl h (λ j f. marks_went used ps j k f q)
   where
-    go : (w : Trail) → mark_at used m p ≡ w → after w (marks used ps) ≡ Went k → ((j : Set) → marks used ps j ≡ Went k → times_in q k ≡ times_in q j + times q ps)
+    go : (w : Code.Option Set) → mark_at used m p ≡ w → after w (marks used ps) ≡ Code.Some k → ((j : Set) → marks used ps j ≡ Code.Some k → times_in q k ≡ times_in q j + times q ps)
         → times_in q k ≡ times_in q m + (cond (eqb p q) 1 0 + times q ps)
-    go (Went j) e f more =
+    go (Code.Some j) e f more =
         let a = mark_went used m p j e in
         let b : times_in q k ≡ times_in q j + times q ps = more j f in
         let c : times_in q j ≡ times_in q m + cond (eqb p q) 1 0 = ap (times_in q) a.2 ∙ in_with m p q a.1 in
         omega arith
-    go Bad e f more = absurd (let z : ◌≡◌ {A = ℕ} 0 1 = cc in omega arith)
+    go Code.None e f more = absurd (let z : ◌≡◌ {A = ℕ} 0 1 = cc in omega arith)
 
-pub marks_used : (used : ℕ) (qs : List ℕ) (m k : Set) → marks used qs m ≡ Went k → (q : ℕ) → used ≤ q → times q qs ≡ 0
+pub marks_used : (used : ℕ) (qs : List ℕ) (m k : Set) → marks used qs m ≡ Code.Some k → (q : ℕ) → used ≤ q → times q qs ≡ 0
 unfolding marks times
 marks_used used [] m k h q l = refl
 marks_used used (p ∷ ps) m k h q l = go (mark_at used m p) refl h (λ j f. marks_used used ps j k f q l)
   where
-    go : (w : Trail) → mark_at used m p ≡ w → after w (marks used ps) ≡ Went k → ((j : Set) → marks used ps j ≡ Went k → times q ps ≡ 0)
+    go : (w : Code.Option Set) → mark_at used m p ≡ w → after w (marks used ps) ≡ Code.Some k → ((j : Set) → marks used ps j ≡ Code.Some k → times q ps ≡ 0)
         → cond (eqb p q) 1 0 + times q ps ≡ 0
-    go (Went j) e f more =
+    go (Code.Some j) e f more =
         let a : p < used = (mark_went used m p j e).0 in
         let b : times q ps ≡ 0 = more j f in
         let c : eqb p q ≡ false = ne_eqb p q (λ d. omega arith) in
         rw (c, b) refl
-    go Bad e f more = absurd (let z : ◌≡◌ {A = ℕ} 0 1 = cc in omega arith)
+    go Code.None e f more = absurd (let z : ◌≡◌ {A = ℕ} 0 1 = cc in omega arith)
 
-pub marks_go : (used : ℕ) (qs : List ℕ) (m : Set) → ((q : ℕ) → 0 < times q qs → q < used) → ((q : ℕ) → times_in q m + times q qs ≤ 1) → (k : Set) × (marks used qs m ≡ Went k)
+pub marks_go : (used : ℕ) (qs : List ℕ) (m : Set) → ((q : ℕ) → 0 < times q qs → q < used) → ((q : ℕ) → times_in q m + times q qs ≤ 1) → (k : Set) × (marks used qs m ≡ Code.Some k)
 unfolding marks times
 marks_go used [] m f g = (m, refl)
 marks_go used (p ∷ ps) m f g =

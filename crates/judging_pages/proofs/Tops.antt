@@ -1,6 +1,7 @@
 -- What the judgement of the whole page buffer comes to, in the very facts that the code has there: root, used and height are those of
 -- page 0, and the tests are made one after the other. Assumes nothing.
 use mathlib.Core.Path.{◌≡◌, sym, ap, ap₂, ◌∙◌}
+use Rattle.std.specs.Prelude as Code
 use mathlib.Core.Bool.{Bool, true, false, not, ◌&&◌}
 use mathlib.Core.List.{List}
 use Prim.Native.Nat.{ℕ, ◌+◌, ◌*◌, ◌-◌, ◌≤◌, ◌<◌}
@@ -15,8 +16,6 @@ use Rattle.sets.specs.declared.Set.{Set}
 use Rattle.rules.specs.Document.{end_mark}
 use Rattle.rows.specs.PageHead.{root_of, used_of, height_of}
 use Rattle.index.specs.Pictures.{page_at}
-use Rattle.judging_pages.specs.declared.Trail.{Trail}
-use Rattle.judging_pages.specs.declared.Trail.TheVariants.{Went, Bad}
 use Rattle.judging_pages.specs.PageChecks.{first_page_ok}
 use Rattle.judging_pages.specs.Walks.{span_of, only_zero, walk_at, seen_ok, went_ok, front_ok, tree_in, pages_ok}
 
@@ -26,7 +25,7 @@ used_few s u e h = omega arith
 pub height_some : (s : List ℕ) (h : ℕ) → h ≡ height_of (page_at s 0) → 0 < height_of (page_at s 0) → 1 ≤ h
 height_some s h e l = omega arith
 
-pub walk_top : (s : List ℕ) (r u h : ℕ) (o : Set) (w : Trail) → o ≡ only_zero → r ≡ root_of (page_at s 0) → u ≡ used_of (page_at s 0) → h ≡ height_of (page_at s 0)
+pub walk_top : (s : List ℕ) (r u h : ℕ) (o : Set) (w : Code.Option Set) → o ≡ only_zero → r ≡ root_of (page_at s 0) → u ≡ used_of (page_at s 0) → h ≡ height_of (page_at s 0)
     → w ≡ walk_at (h - 1) 2 s u (span_of r 0 end_mark) o → w ≡ tree_in s
 unfolding tree_in
 walk_top s r u h o w f x y z e =
@@ -65,13 +64,13 @@ module _ (s : List ℕ) (f : Bool) (e : f ≡ front_ok s) where
     pub spare_end : (u : ℕ) → u ≡ used_of (page_at s 0) → length s ≡ pages_size → page_size * u + (pages_size - page_size * u) ≤ length s
     spare_end u d n = let l = used_within u d in omega arith
 
-    module _ (w : Trail) (g : w ≡ tree_in s) where
-      pub lost : w ≡ Bad → false ≡ pages_ok s
+    module _ (w : Code.Option Set) (g : w ≡ tree_in s) where
+      pub lost : w ≡ Code.None → false ≡ pages_ok s
       unfolding pages_ok
       lost b =
           sym (ap₂ (λ x y. (x && went_ok (used_of (page_at s 0)) y) && zero_at (pages_size - page_size * used_of (page_at s 0)) (page_size * used_of (page_at s 0)) s) front (sym g ∙ b))
 
-      pub pages_done : (m : Set) (u : ℕ) (a z : Bool) → w ≡ Went m → u ≡ used_of (page_at s 0) → a ≡ seen_ok u m → z ≡ zero_at (pages_size - page_size * u) (page_size * u) s → (a && z) ≡ pages_ok s
+      pub pages_done : (m : Set) (u : ℕ) (a z : Bool) → w ≡ Code.Some m → u ≡ used_of (page_at s 0) → a ≡ seen_ok u m → z ≡ zero_at (pages_size - page_size * u) (page_size * u) s → (a && z) ≡ pages_ok s
       unfolding pages_ok
       pages_done m u a z b d c k =
           ap₂ (λ x v. x && v) c k

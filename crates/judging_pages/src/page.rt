@@ -1,13 +1,13 @@
 // One page: its 512 bytes are those that its entries or children write, and these are in order. (Document 01, **Whole**: "these layouts and
 // entry rules"; "keys, and separators after a page's first, strictly ascending and in that page's range".)
-ghost use Rattle.std.specs.Prelude.{◌≡◌, ◌<◌, ◌≤◌, ◌+◌, ◌*◌, length};
+ghost use Rattle.std.specs.Prelude.{◌≡◌, ◌<◌, ◌≤◌, length};
 ghost use Rattle.limits.specs.Limits.{page_size, leaf_most, inner_most};
 ghost use Rattle.judging_pages.specs.PageChecks.{head_ok, first_page_ok, in_range, between, next_ok, entry_ok, entry_fields_at, leaf_ok, fillers_ok, first_ok, child_fields_at, inner_ok};
 
 use keys::Key;
 use limits::{CHILD_SIZE, ENTRY_SIZE, HEAD_SIZE, KEY_SIZE, PAGE_SIZE};
 use pages::{inner, leaf};
-use rows::head;
+use rows::head::{self, Kind};
 
 // Whether the head has the length of a page, this kind and this level, and its eight zeros.
 fn has_head(p: &[u8], kind: usize, level: usize) -> bool
@@ -29,7 +29,9 @@ pub fn is_first_page(p: &[u8]) -> bool
     requires { length p.now ≡ page_size }
     ensures { result ≡ first_page_ok p.now }
 {
-    has_head(p, 1, 0) & (head::count_of(p) == 0) & numbers::is_zero(p, BEHIND, REST)
+    has_head(p, Kind::First as usize, 0)
+        & (head::count_of(p) == 0)
+        & numbers::is_zero(p, BEHIND, REST)
 }
 
 // Whether the entry at a place is one: what is absent is 0, and "Owner 0 means settled: present, with now and before equal".
@@ -55,14 +57,14 @@ fn is_entry(p: &[u8], i: usize) -> bool
 fn is_in(low: Key, high: Key, key: Key) -> bool
     ensures { result ≡ in_range low.0 high.0 key.0 }
 {
-    low.at_most(key) & key.is_below(high)
+    (low <= key) & (key < high)
 }
 
 // Whether a key lies above low and below high.
 fn is_between(low: Key, high: Key, key: Key) -> bool
     ensures { result ≡ between low.0 high.0 key.0 }
 {
-    low.is_below(key) & key.is_below(high)
+    (low < key) & (key < high)
 }
 
 // Whether an entry's key may come next: the first lies from low on, each other one above the last, and all below high.
@@ -81,18 +83,16 @@ pub fn is_leaf(p: &[u8], low: Key, high: Key) -> bool
     ensures { result ≡ leaf_ok low.0 high.0 p.now }
 {
     let n = head::count_of(p);
-    if !(has_head(p, 2, 0) & (n <= limits::LEAF_MOST)) {
+    if !(has_head(p, Kind::Leaf as usize, 0) & (n <= limits::LEAF_MOST)) {
         return false;
     }
     let mut last = low;
-    let mut i: usize = 0;
-    while i < n {
+    for i in 0..n {
         let key = leaf::key_at(p, i);
         if !(is_next(i == 0, last, high, key) & is_entry(p, i)) {
             return false;
         }
         last = key;
-        i += 1;
     }
     numbers::is_zero(
         p,
@@ -118,8 +118,7 @@ fn is_first_child(p: &[u8]) -> bool
     requires { length p.now ≡ page_size }
     ensures { result ≡ first_ok (child_fields_at p.now 0) }
 {
-    let low = inner::low_at(p, 0);
-    low.same(Key::LOWEST) & is_child(p, 0)
+    (inner::low_at(p, 0) == Key::LOWEST) & is_child(p, 0)
 }
 
 // Whether it is an inner page of a level, with at least so many children, and separators above low and below high.
@@ -129,18 +128,19 @@ pub fn is_inner(p: &[u8], level: usize, least: usize, low: Key, high: Key) -> bo
     ensures { result ≡ inner_ok level least low.0 high.0 p.now }
 {
     let n = head::count_of(p);
-    if !(has_head(p, 3, level) & ((least <= n) & (n <= limits::INNER_MOST)) & is_first_child(p)) {
+    if !(has_head(p, Kind::Inner as usize, level)
+        & ((least <= n) & (n <= limits::INNER_MOST))
+        & is_first_child(p))
+    {
         return false;
     }
     let mut above = low;
-    let mut i: usize = 1;
-    while i < n {
+    for i in 1..n {
         let key = inner::low_at(p, i);
         if !(is_between(above, high, key) & is_child(p, i)) {
             return false;
         }
         above = key;
-        i += 1;
     }
     numbers::is_zero(
         p,

@@ -1,1 +1,2 @@
 pub mod KeyMarks
+pub mod KeyOrder

@@ -1,13 +1,13 @@
 // Keys: their marks, their order, and how they stand in bytes. (Document 01, "Keys and entries".)
 #![tactic(auto)]
 
-ghost use Rattle.std.specs.Prelude.{◌≡◌, ◌+◌, ◌<◌, ◌≤◌, leb, eqb, ltb, length};
+ghost use Rattle.std.specs.Prelude.{◌≡◌, ◌+◌, ◌≤◌, eqb, ltb, length};
 ghost use Rattle.limits.specs.Limits.{key_size};
 ghost use Rattle.numbers.specs.Numbers.{number_at, put_number};
 ghost use Rattle.rules.specs.Document.{end_mark};
 
 // A key: its upper half is the pupil, its lower half the delivery. The marks belong to it; the end is never a key, but names a lock.
-#[derive(Clone, Copy)]
+#[derive(Clone, Copy, PartialEq, Eq, PartialOrd, Ord)]
 pub struct Key(pub u64);
 
 impl Key {
@@ -22,35 +22,21 @@ impl Key {
     pub fn is_key(self) -> bool
         ensures { result ≡ ltb self.0 end_mark }
     {
-        (Self::LOWEST.0 <= self.0) & (self.0 <= Self::HIGHEST.0)
+        (Self::LOWEST <= self) & (self <= Self::HIGHEST)
     }
 
     // Whether it is the end, and no key.
     pub fn is_end(self) -> bool
         ensures { result ≡ eqb self.0 end_mark }
     {
-        self.0 == Self::END.0
+        self == Self::END
     }
 
-    // Whether it is not above another.
-    pub fn at_most(self, other: Key) -> bool
-        ensures { result ≡ leb self.0 other.0 }
-    {
-        self.0 <= other.0
-    }
-
-    // Whether it is below another.
+    // Whether it is below another: keys are in the order of their numbers.
     pub fn is_below(self, other: Key) -> bool
         ensures { result ≡ ltb self.0 other.0 }
     {
-        self.0 < other.0
-    }
-
-    // Whether it is the same as another.
-    pub fn same(self, other: Key) -> bool
-        ensures { result ≡ eqb self.0 other.0 }
-    {
-        self.0 == other.0
+        self < other
     }
 
     // The key that stands at a place.

@@ -23,9 +23,15 @@ pub const PAGE_SIZE: usize = 512;
 
 pub const HEAD_SIZE: usize = 16;
 
+// The bytes of one page.
+pub type Page = [u8; PAGE_SIZE];
+
 pub const BODY_SIZE: usize = PAGE_SIZE - HEAD_SIZE;
 
 pub const PAGES_SIZE: usize = PAGE_SIZE * PAGES;
+
+// The bytes of all pages, as they are lent.
+pub type Pages = [u8; PAGES_SIZE];
 
 // Leaves: an entry, how many there may be, and of one more than those how many stay and how many go to a new page.
 pub const ENTRY_SIZE: usize = KEY_SIZE + 12;
@@ -61,6 +67,9 @@ pub const SLOT_SIZE: usize = KEY_SIZE + 8;
 pub const SLOTS_PLACE: usize = RECORDS_PLACE + RECORD_SIZE * TRANSACTIONS;
 
 pub const DESK_SIZE: usize = SLOTS_PLACE + SLOT_SIZE * LOCKS;
+
+// The bytes of the desk, as they are lent.
+pub type Desk = [u8; DESK_SIZE];
 
 // Requests: what they all begin with; a read, an insert, a delete.
 pub const REQUEST_HEAD_SIZE: usize = 8;

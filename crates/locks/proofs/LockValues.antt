@@ -1,5 +1,6 @@
 -- What the code's modes, names and locks are in the rule book, case by case, as they are made, read and written. Assumes nothing.
 use Prim.Native.Nat.{ℕ, ◌+◌, ◌*◌}
+use Rattle.std.specs.Prelude as Code
 use mathlib.Core.Path.{◌≡◌, refl, sym, ap, ◌∙◌}
 use mathlib.Core.Bool.{Bool, true, false, cond, not, ◌&&◌, false≢true}
 use mathlib.Core.List.{List, [], ◌∷◌}
@@ -15,8 +16,6 @@ use Rattle.keys.specs.declared.Key.{Key}
 use Rattle.locks.specs.declared.Mode as M
 use Rattle.locks.specs.declared.Mode.TheVariants as MV
 use Rattle.locks.specs.declared.Lock as L
-use Rattle.locks.specs.declared.Slot as Sl
-use Rattle.locks.specs.declared.Slot.TheVariants as SV
 use Rattle.locks.specs.SlotLayout.{lock_widths, lock_place, name_in, name_number, mode_in, mode_number, slot_in, slot_at, slot_fields, put_slot, book_mode, book_slot}
 use Rattle.locks.specs.SlotMoves.{is_slot_of, is_slot_against, strengthened}
 
@@ -66,7 +65,7 @@ same_itself P (on a) = eq-eqb a a refl
 same_itself P end = refl
 
 -- ---- a slot's tests
-module _ (s : Sl.Slot) (l : L.Lock) (e : s ≡ SV.Held l) (k : ℕ) (b : Bool) (q : b ≡ eqb l.name.0 k) where
+module _ (s : Code.Option L.Lock) (l : L.Lock) (e : s ≡ Code.Some l) (k : ℕ) (b : Bool) (q : b ≡ eqb l.name.0 k) where
   pub held_of : (t : ℕ) → (eqb l.holder t && b) ≡ is_slot_of t (name_in k) (book_slot s)
   held_of t = rw (e, q, same_name_lem endless l.name.0 k)
 
@@ -74,8 +73,8 @@ module _ (s : Sl.Slot) (l : L.Lock) (e : s ≡ SV.Held l) (k : ℕ) (b : Bool) (
       → (not (eqb l.holder t) && (b && c)) ≡ is_slot_against t (name_in k) m (book_slot s)
   held_against t m c p = rw (e, p, q, same_name_lem endless l.name.0 k)
 
-pub held_strengthened : (s : Sl.Slot) (l : L.Lock) (m : Mode) (x : M.Mode) → s ≡ SV.Held l → book_mode x ≡ stronger (book_mode l.mode) m
-    → book_slot (SV.Held (record { name = l.name; holder = l.holder; mode = x })) ≡ strengthened m (book_slot s)
+pub held_strengthened : (s : Code.Option L.Lock) (l : L.Lock) (m : Mode) (x : M.Mode) → s ≡ Code.Some l → book_mode x ≡ stronger (book_mode l.mode) m
+    → book_slot (Code.Some (record { name = l.name; holder = l.holder; mode = x })) ≡ strengthened m (book_slot s)
 held_strengthened s l m x e p = rw (e, p)
 
 -- ---- a slot read, and written
@@ -85,16 +84,16 @@ read_free d i holder e h = let z : eqb (number_at 2 d (slots_place + slot_size *
 
 pub read_held : (d : List ℕ) (i : ℕ) (k : Key) (holder number : ℕ) (x : M.Mode) → holder ≡ number_at 2 d (slots_place + slot_size * i + key_size) → (holder ≡ 0 → ⊥)
     → k.0 ≡ number_at key_size d (slots_place + slot_size * i) → number ≡ number_at 2 d (slots_place + slot_size * i + key_size + 2) → book_mode x ≡ mode_in number
-    → book_slot (SV.Held (record { name = k; holder = holder; mode = x })) ≡ slot_at d i
+    → book_slot (Code.Some (record { name = k; holder = holder; mode = x })) ≡ slot_at d i
 unfolding slot_at slot_in fields_at
 read_held d i k holder number x e h p q r =
     let z : eqb holder 0 ≡ false = ne_eqb holder 0 h in rw (r, p, q, ← e, z)
 
-pub put_free : (d u : List ℕ) (i : ℕ) (s : Sl.Slot) → s ≡ SV.Free → u ≡ put_fields lock_widths d (lock_place i) (0 ∷ 0 ∷ 0 ∷ 0 ∷ []) → u ≡ put_slot d i (book_slot s)
+pub put_free : (d u : List ℕ) (i : ℕ) (s : Code.Option L.Lock) → s ≡ Code.None → u ≡ put_fields lock_widths d (lock_place i) (0 ∷ 0 ∷ 0 ∷ 0 ∷ []) → u ≡ put_slot d i (book_slot s)
 unfolding put_slot slot_fields
 put_free d u i s e p = rw e p
 
-pub put_held : (d u : List ℕ) (i : ℕ) (s : Sl.Slot) (l : L.Lock) (number : ℕ) → s ≡ SV.Held l → number ≡ mode_number (book_mode l.mode)
+pub put_held : (d u : List ℕ) (i : ℕ) (s : Code.Option L.Lock) (l : L.Lock) (number : ℕ) → s ≡ Code.Some l → number ≡ mode_number (book_mode l.mode)
     → u ≡ put_fields lock_widths d (lock_place i) (l.name.0 ∷ l.holder ∷ number ∷ 0 ∷ []) → u ≡ put_slot d i (book_slot s)
 unfolding put_slot slot_fields
 put_held d u i s l number e q p = rw (e, name_back, ← q) p

@@ -2,6 +2,7 @@
 -- A holder has one lock on a name, so strengthening touches one slot only; a new lock takes the first free slot.
 -- Assumes for the rule book that the table's locks go together (rules/specs/Good, W2).
 use Prim.Native.Nat.{ℕ, suc, ◌^◌, ◌≤◌, ◌<◌}
+use Rattle.std.specs.Prelude as Code
 use mathlib.Core.Path.{◌≡◌, refl, sym, ap, ap₂, subst, ◌∙◌}
 use mathlib.Core.Logic.{◌≢◌}
 use mathlib.Core.Bool.{Bool, true, false, cond, not, ◌&&◌, ◌||◌, true≢false, false≢true}
@@ -19,11 +20,11 @@ use Rattle.rules.specs.Entries.{is_there}
 use Rattle.rules.specs.Locks.{Slots, in_use, stronger, same_name, is_of, holds, raised, behind, added, taken}
 use Rattle.rules.specs.Good.{together}
 use Rattle.rules.specs.Document.{document, endless}
-use Rattle.locks.specs.declared.Slot as Sl
 use Rattle.locks.specs.SlotLayout.{name_in, slot_at, put_slot, slots_of, book_slot}
 use Rattle.locks.specs.SlotMoves.{is_slot_of, strengthened, held_in, free_in, taken_at, given_at, lock_taken, lock_given}
 use Rattle.locks.proofs.LockValues.{names_any, same_is, same_itself}
 use Rattle.locks.proofs.SlotBytes.{lock, lock_fits, lock_back, slots_put, length_slots, slot_in_lem}
+use Rattle.locks.specs.declared.Lock as CodeLock
 
 -- ---- the code's cases: t has the name, a slot is free, none is
 module _ (i j : ℕ) where
@@ -37,7 +38,7 @@ module _ (i j : ℕ) where
   given_none h l = rw (le-ltb i locks_most h, le-ltb j locks_most l)
 
   module _ (d : List ℕ) (t : ℕ) (n : Name ℕ) (m : Mode) where
-    pub taken_held : (u : List ℕ) (s x : Sl.Slot) → i < locks_most → book_slot s ≡ slot_at d i → book_slot x ≡ strengthened m (book_slot s)
+    pub taken_held : (u : List ℕ) (s x : Code.Option CodeLock.Lock) → i < locks_most → book_slot s ≡ slot_at d i → book_slot x ≡ strengthened m (book_slot s)
         → u ≡ put_slot d i (book_slot x) → u ≡ taken_at d i j t n m
     taken_held u s x h p q r = rw (lt-ltb i locks_most h, r, q, p)
 

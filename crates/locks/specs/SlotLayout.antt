@@ -1,6 +1,7 @@
 -- Document 01, "Records and pages": the lock table in the bytes of the desk, read as the rule book's lock slots. Assumes nothing.
 use Rattle.std.specs.Prelude.{ℕ, ◌+◌, ◌*◌, cond, List, [], ◌∷◌, eqb, get_or}
 use Rattle.std.proofs.Math.Option.{Option, none, some}
+use Rattle.std.specs.Prelude as Code
 use Rattle.limits.specs.Limits.{locks_most, key_size, slot_size, slots_place}
 use Rattle.lists.specs.Lists.{tab}
 use Rattle.numbers.specs.Numbers.{fields_at, put_fields}
@@ -8,8 +9,7 @@ use Rattle.rules.specs.Kinds.{Mode, S, X, Name, on, end, Lock}
 use Rattle.rules.specs.Document.{end_mark}
 use Rattle.locks.specs.declared.Mode as M
 use Rattle.locks.specs.declared.Mode.TheVariants as MV
-use Rattle.locks.specs.declared.Slot as Sl
-use Rattle.locks.specs.declared.Slot.TheVariants as SV
+use Rattle.locks.specs.declared.Lock as CodeLock
 
 -- "256 locks of 16 bytes (key 8, transaction 2, mode 2: 1 S, 2 X, four zeros)"; a free slot is zero
 abbrev pub lock_widths : List ℕ
@@ -56,6 +56,6 @@ abbrev pub book_mode : M.Mode → Mode
 book_mode MV.S = S
 book_mode MV.X = X
 
-abbrev pub book_slot : Sl.Slot → Option (Lock ℕ)
-book_slot SV.Free = none
-book_slot (SV.Held l) = some (record { name = name_in l.name.0; holder = l.holder; mode = book_mode l.mode })
+abbrev pub book_slot : Code.Option CodeLock.Lock → Option (Lock ℕ)
+book_slot Code.None = none
+book_slot (Code.Some l) = some (record { name = name_in l.name.0; holder = l.holder; mode = book_mode l.mode })

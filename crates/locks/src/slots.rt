@@ -1,13 +1,13 @@
 // The lock table: its slots read and written, a lock taken, and those of a transaction released. (Document 01, "Locks".)
-ghost use Rattle.std.specs.Prelude.{◌≡◌, [], ◌∷◌, ◌+◌, ◌*◌, ◌<◌, length, get_or};
-ghost use Rattle.limits.specs.Limits.{locks_most, key_size, slot_size, desk_size};
+ghost use Rattle.std.specs.Prelude.{◌≡◌, [], ◌∷◌, ◌+◌, ◌*◌, ◌<◌, get_or};
+ghost use Rattle.limits.specs.Limits.{locks_most, key_size, slot_size};
 ghost use Rattle.numbers.specs.Numbers.{number_at, put_fields, zero_at};
 ghost use Rattle.locks.specs.SlotLayout.{lock_widths, lock_place, name_in, slot_at, put_slot, book_mode, book_slot};
 ghost use Rattle.locks.specs.SlotMoves.{taken_at, given_at, row_released, locks_released};
 
-use crate::{Lock, Mode, Slot};
+use crate::{Lock, Mode, strengthened};
 use keys::Key;
-use limits::LOCKS;
+use limits::{Desk, LOCKS};
 
 // Where the slots start.
 const SLOTS: usize = limits::SLOTS_PLACE;
@@ -27,8 +27,7 @@ fn slot_place(i: usize) -> usize
 }
 
 // The fields of slot i, one by one, as they stand, whether it is held or free: the name,
-pub fn name_at(d: &[u8], i: usize) -> Key
-    requires d_len { length d.now ≡ desk_size }
+pub fn name_at(d: &Desk, i: usize) -> Key
     requires i_lt_locks_most { i < locks_most }
     ensures { result.0 ≡ number_at key_size d.now (lock_place i) }
 {
@@ -36,8 +35,7 @@ pub fn name_at(d: &[u8], i: usize) -> Key
 }
 
 // the holder,
-pub fn holder_at(d: &[u8], i: usize) -> u16
-    requires d_len { length d.now ≡ desk_size }
+pub fn holder_at(d: &Desk, i: usize) -> u16
     requires i_lt_locks_most { i < locks_most }
     ensures { result ≡ number_at 2 d.now (lock_place i + key_size) }
 {
@@ -45,8 +43,7 @@ pub fn holder_at(d: &[u8], i: usize) -> u16
 }
 
 // the mode,
-pub fn mode_at(d: &[u8], i: usize) -> u16
-    requires d_len { length d.now ≡ desk_size }
+pub fn mode_at(d: &Desk, i: usize) -> u16
     requires i_lt_locks_most { i < locks_most }
     ensures { result ≡ number_at 2 d.now (lock_place i + key_size + 2) }
 {
@@ -54,8 +51,7 @@ pub fn mode_at(d: &[u8], i: usize) -> u16
 }
 
 // and the filler behind them.
-pub fn filler_at(d: &[u8], i: usize) -> u32
-    requires d_len { length d.now ≡ desk_size }
+pub fn filler_at(d: &Desk, i: usize) -> u32
     requires i_lt_locks_most { i < locks_most }
     ensures { result ≡ number_at 4 d.now (lock_place i + key_size + 2 + 2) }
 {
@@ -63,8 +59,7 @@ pub fn filler_at(d: &[u8], i: usize) -> u32
 }
 
 // A byte of slot i.
-pub fn byte_at(d: &[u8], i: usize, b: usize) -> u8
-    requires d_len { length d.now ≡ desk_size }
+pub fn byte_at(d: &Desk, i: usize, b: usize) -> u8
     requires i_lt_locks_most { i < locks_most }
     requires b_lt_slot_size { b < slot_size }
     ensures { result ≡ get_or d.now (lock_place i + b) 0 }
@@ -73,35 +68,30 @@ pub fn byte_at(d: &[u8], i: usize, b: usize) -> u8
 }
 
 // Whether every byte of the slots is zero: all are free. One wide look tells.
-pub fn are_zero(d: &[u8]) -> bool
-    requires { length d.now ≡ desk_size }
+pub fn are_zero(d: &Desk) -> bool
     ensures { result ≡ zero_at (slot_size * locks_most) (lock_place 0) d.now }
 {
     numbers::is_zero(d, SLOTS, WIDTH * LOCKS)
 }
 
 // What slot i holds.
-pub fn slot_at(d: &[u8], i: usize) -> Slot
-    requires d_len { length d.now ≡ desk_size }
+pub fn slot_at(d: &Desk, i: usize) -> Option<Lock>
     requires i_lt_locks_most { i < locks_most }
     ensures { book_slot result ≡ slot_at d.now i }
 {
     let holder = holder_at(d, i);
     if holder == 0 {
-        return Slot::Free;
+        return None;
     }
-    let name = name_at(d, i);
-    let mode = Mode::of(mode_at(d, i));
-    Slot::Held(Lock {
-        name: name,
-        holder: holder,
-        mode: mode,
+    Some(Lock {
+        name: name_at(d, i),
+        holder,
+        mode: Mode::of(mode_at(d, i)),
     })
 }
 
 // Writes slot i by its numbers, and nothing else.
-fn put_row(d: &mut [u8], i: usize, name: Key, holder: u16, mode: u16)
-    requires d_len { length d.old ≡ desk_size }
+fn put_row(d: &mut Desk, i: usize, name: Key, holder: u16, mode: u16)
     requires i_lt_locks_most { i < locks_most }
     ensures { d.new ≡ put_fields lock_widths d.old (lock_place i) (name.0 ∷ holder ∷ mode ∷ 0 ∷ []) }
 {
@@ -115,40 +105,34 @@ fn put_row(d: &mut [u8], i: usize, name: Key, holder: u16, mode: u16)
 }
 
 // Writes slot i, and nothing else; a free slot is zero.
-pub fn put_slot(d: &mut [u8], i: usize, s: Slot)
-    requires d_len { length d.old ≡ desk_size }
+pub fn put_slot(d: &mut Desk, i: usize, s: Option<Lock>)
     requires i_lt_locks_most { i < locks_most }
     ensures { d.new ≡ put_slot d.old i (book_slot s) }
 {
     match s {
-        Slot::Free => put_row(d, i, Key::LOWEST, 0, 0), // a field not in use is zero
-        Slot::Held(l) => {
-            let name = l.name;
-            let mode = l.mode;
-            put_row(d, i, name, l.holder, mode.number());
-        }
+        None => put_row(d, i, Key::LOWEST, 0, 0), // a field not in use is zero
+        Some(lock) => put_row(d, i, lock.name, lock.holder, lock.mode.number()),
     }
 }
 
 // Takes a lock for t: strengthens the one in slot `own`, or puts a new one into slot `free`. Where there is no such slot, each is the number
-// of slots. False, and nothing changed, where there is neither.
-pub fn take_at(d: &mut [u8], own: usize, free: usize, t: u16, name: Key, mode: Mode) -> bool
-    requires { length d.old ≡ desk_size }
+// of slots (a number and no Option, as `taken_at` and `given_at` take it). False, and nothing changed, where there is neither.
+pub fn take_at(d: &mut Desk, own: usize, free: usize, t: u16, name: Key, mode: Mode) -> bool
     ensures taken { d.new ≡ taken_at d.old own free t (name_in name.0) (book_mode mode) }
     ensures given { result ≡ given_at own free }
 {
     if own < LOCKS {
-        put_slot(d, own, slot_at(d, own).strengthened(mode));
+        put_slot(d, own, strengthened(slot_at(d, own), mode));
         return true;
     }
     if free < LOCKS {
         put_slot(
             d,
             free,
-            Slot::Held(Lock {
-                name: name,
+            Some(Lock {
+                name,
                 holder: t,
-                mode: mode,
+                mode,
             }),
         );
         return true;
@@ -157,8 +141,7 @@ pub fn take_at(d: &mut [u8], own: usize, free: usize, t: u16, name: Key, mode: M
 }
 
 // Sets slot i to zero if t is its holder.
-fn release_row(d: &mut [u8], i: usize, t: u16)
-    requires d_len { length d.old ≡ desk_size }
+fn release_row(d: &mut Desk, i: usize, t: u16)
     requires i_lt_locks_most { i < locks_most }
     ensures { d.new ≡ row_released t i d.old }
 {
@@ -168,13 +151,10 @@ fn release_row(d: &mut [u8], i: usize, t: u16)
 }
 
 // Releases all locks of t: their slots are zero, the others keep their bytes.
-pub fn release_locks(d: &mut [u8], t: u16)
-    requires { length d.old ≡ desk_size }
+pub fn release_locks(d: &mut Desk, t: u16)
     ensures { d.new ≡ locks_released t d.old }
 {
-    let mut i: usize = 0;
-    while i < LOCKS {
+    for i in 0..LOCKS {
         release_row(d, i, t);
-        i += 1;
     }
 }

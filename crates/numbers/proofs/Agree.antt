@@ -4,10 +4,10 @@ use mathlib.Core.Path.{◌≡◌, sym, ap, ◌∙◌, refl}
 use mathlib.Core.List.{List}
 use Prim.Native.Nat.{ℕ, zero, suc, ◌+◌, ◌-◌, ◌≤◌, ◌<◌}
 use native.Mathlib.Nat.{add-zero, zero-add}
-use native.Mathlib.Decide.{dec_lt, ℕ_discrete}
+use native.Mathlib.Decide.{dec_lt}
 use native.Mathlib.Omega.{arith}
 use lib.ListN.{length, get_or, set, length-set}
-use lib.Seq.{ext_get_or, get_or-set_same, get_or-set_other}
+use lib.Seq.{ext_get_or, get_or-set_other}
 use Rattle.numbers.specs.Numbers.{Apart}
 
 -- the n bytes at a in s are the n bytes at b in t
@@ -65,14 +65,6 @@ agree_join {n} {m} {s} {t} {a} {b} f g = record { byte = λ k h. at k h (dec_lt 
         let q : b + n + (k - n) ≡ b + k = omega arith in
         ap (λ x. get_or s x 0) p ∙ g.byte (k - n) (omega arith) ∙ ap (λ x. get_or t x 0) q
 
--- one byte more, written behind those that agree
-pub agree_set : {k : ℕ} {u t : List ℕ} {a c : ℕ} (v : ℕ) → Agree k u a t c → a + k < length u → v ≡ get_or t (c + k) 0 → Agree (k + 1) (set u (a + k) v) a t c
-agree_set {k} {u} {t} {a} {c} v g h e = record { byte = λ j m. at j m (ℕ_discrete j k) }
-  where
-    at : (j : ℕ) → j < k + 1 → Dec (j ≡ k) → get_or (set u (a + k) v) (a + j) 0 ≡ get_or t (c + j) 0
-    at j m (yes q) = rw q (get_or-set_same u (a + k) v 0 h ∙ e)
-    at j m (no q) = get_or-set_other u (a + k) (a + j) v 0 (omega arith) ∙ g.byte j (omega arith)
-
 -- bytes that agree throughout are the same
 pub agree_all : (s t : List ℕ) → length s ≡ length t → Agree (length s) s 0 t 0 → s ≡ t
 agree_all s t l g = ext_get_or 0 s t l (λ k h. simp zero-add at (g.byte k h))
@@ -90,7 +82,3 @@ module _ {b m : ℕ} {s t : List ℕ} where
 
 pub touches_set : (s : List ℕ) (i v : ℕ) → Touches i 1 s (set s i v)
 touches_set s i v = record { len = length-set s i v; rest = λ k h. get_or-set_other s i k v 0 (omega arith) }
-
--- and one byte more
-pub touches_one : (a n i v : ℕ) {b m : ℕ} {s u : List ℕ} → Touches b m s u → a ≤ b → b + m ≤ a + n → a ≤ i → i < a + n → Touches a n s (set u i v)
-touches_one a n i v {u = u} f p q r l = touches_then (touches_wider a n p q f) (touches_wider a n r (omega arith) (touches_set u i v))

@@ -1,18 +1,22 @@
--- Laws of bytes that are copied, moved or set to zero: what stands where, and what one byte more comes to.
+-- Laws of bytes that are copied, moved or set to zero: what stands where, and what the library's methods come to.
 -- All are a part put back, so all go through the laws of parts. Assumes nothing.
-use mathlib.Core.Path.{◌≡◌, refl, sym, ◌∙◌}
-use mathlib.Core.Bool.{true}
-use mathlib.Core.List.{List, []}
-use Prim.Native.Nat.{ℕ, ◌+◌, ◌≤◌, ◌<◌}
+use mathlib.Core.Path.{◌≡◌, sym, ap, ◌∙◌}
+use mathlib.Core.Bool.{Bool, true, ◌&&◌, and_assoc, and-true}
+use mathlib.Core.List.{List, [], ◌∷◌, map}
+use Prim.Native.Nat.{ℕ, ◌+◌, ◌-◌, ◌≤◌, ◌<◌}
+use native.Mathlib.Nat.{add-sub_cancel_left}
 use native.Mathlib.Omega.{arith}
 use lib.Dec.{eqb}
-use lib.ListN.{length, get_or, set, replicate, length-replicate, get_or-replicate}
-use lib.Seq.{get_or-set_same}
+use lib.ListN.{length, get_or, take, drop, replicate, length-drop, length-replicate, get_or-replicate}
+use lib.Seq.{length-take-le}
 use borrow.Author.Tests.{eqb-true, eq-eqb}
-use Rattle.lists.proofs.Tests.{all_at, all_each}
-use Rattle.numbers.specs.Numbers.{part, copied, zeroed, zero_at, Apart}
-use Rattle.numbers.proofs.Agree.{Agree, Touches, agree_back, agree_then, agree_front, agree_more, agree_set, untouched, touches_wider, touches_set, touches_one}
-use Rattle.numbers.proofs.Parts.{length_part, get_d_part, get_d_put_part_in, agree_part, agree_put_part, touches_put_part, put_part_ext, put_part_none}
+use borrow.Rule.Slice.PartMut.{put_mid}
+use Rattle.std.specs.List.{copy_within, fold}
+use Rattle.lists.specs.Lists.{all}
+use Rattle.lists.proofs.Tests.{all_at, all_each, all_map}
+use Rattle.numbers.specs.Numbers.{part, put_part, copied, moved, zeroed, zero_at}
+use Rattle.numbers.proofs.Agree.{Agree, Touches, agree_then, agree_front, touches_wider}
+use Rattle.numbers.proofs.Parts.{length_part, get_d_part, get_d_put_part_in, agree_part, agree_put_part, touches_put_part, lent, back}
 
 module _ (n : ℕ) (src : List ℕ) (from to : ℕ) (s : List ℕ) (h : from + n ≤ length src) (l : to + n ≤ length s) where
   pub touches_copied : Touches to n s (copied n src from to s)
@@ -30,47 +34,18 @@ module _ (n : ℕ) (src : List ℕ) (from to : ℕ) (s : List ℕ) (h : from + n
   pub length_copied : length (copied n src from to s) ≡ length s
   length_copied = touches_copied.len
 
-  pub get_d_copied_out : (k : ℕ) → Apart k 1 to n → get_or (copied n src from to s) k 0 ≡ get_or s k 0
-  get_d_copied_out k m = touches_copied.rest k m
-
-  -- bytes that agree with the source there, and are touched nowhere else, are the copied ones
-  pub copied_ext : (u : List ℕ) → Agree n u to src from → Touches to n s u → u ≡ copied n src from to s
+-- what is left where bytes were copied into a part that was lent, or moved by the library
+module _ (n from to : ℕ) where
+  pub copied_back : (src s t : List ℕ) → length t ≡ length (take (to + n - to) (drop to s)) → t ≡ take (from + n - from) (drop from src)
+      → put_mid to (to + n - to) s t ≡ copied n src from to s
   unfolding copied
-  copied_ext u g f =
-      let e = length_part from n src h in
-      put_part_ext to (part from n src) s u (omega arith) (agree_front (length (part from n src)) (omega arith) (agree_then g (agree_back (agree_part from n src))))
-      (touches_wider to (length (part from n src)) (omega arith) (omega arith) f)
+  copied_back src s t l e = back to n t (part from n src) s l (e ∙ lent from n src)
 
--- ---- one byte more, behind and in front
-pub copied_none : (src : List ℕ) (from to : ℕ) (s : List ℕ) → s ≡ copied 0 src from to s
-unfolding copied part
-copied_none src from to s = put_part_none to s
-
-module _ (src : List ℕ) (from to : ℕ) (s : List ℕ) where
-  pub copied_behind : (k : ℕ) → from + k < length src → to + k < length s
-      → set (copied k src from to s) (to + k) (get_or src (from + k) 0) ≡ copied (k + 1) src from to s
-  copied_behind k h l =
-      let f = touches_copied k src from to s (omega arith) (omega arith) in
-      copied_ext (k + 1) src from to s (omega arith) (omega arith) (set (copied k src from to s) (to + k) (get_or src (from + k) 0))
-      (agree_set (get_or src (from + k) 0) (agree_copied k src from to s (omega arith) (omega arith)) (omega (arith, f.len)) refl)
-      (touches_one to (k + 1) (to + k) (get_or src (from + k) 0) f (omega arith) (omega arith) (omega arith) (omega arith))
-
-  pub copied_before : (m : ℕ) → from + 1 + m ≤ length src → to + 1 + m ≤ length s
-      → set (copied m src (from + 1) (to + 1) s) to (get_or src from 0) ≡ copied (m + 1) src from to s
-  copied_before m h l =
-      copied_ext (m + 1) src from to s (omega arith) (omega arith) (set u to v)
-      (agree_front (m + 1) (omega arith) (agree_more (get_or-set_same u to v 0 (omega (arith, touched.len)))
-      (agree_then (untouched (to + 1) m (touches_set u to v) (omega arith)) (agree_copied m src (from + 1) (to + 1) s (omega arith) (omega arith)))))
-      (touches_one to (m + 1) to v touched (omega arith) (omega arith) (omega arith) (omega arith))
-    where
-      u : List ℕ
-      u = copied m src (from + 1) (to + 1) s
-
-      v : ℕ
-      v = get_or src from 0
-
-      touched : Touches (to + 1) m s u
-      touched = touches_copied m src (from + 1) (to + 1) s (omega arith) (omega arith)
+  pub moved_within : (s : List ℕ) → from + n ≤ length s → copy_within s from (from + n) to ≡ moved n from to s
+  unfolding copied put_part part
+  moved_within s h =
+      let e = length-take-le n (drop from s) (simp length-drop (omega arith)) in
+      rw (add-sub_cancel_left, e)
 
 -- ---- bytes set to zero: they agree with those past the end of any list
 module _ (n at : ℕ) (s : List ℕ) (h : at + n ≤ length s) where
@@ -91,24 +66,13 @@ module _ (n at : ℕ) (s : List ℕ) (h : at + n ≤ length s) where
   pub get_d_zeroed_in : (k : ℕ) → k < n → get_or (zeroed n at s) (at + k) 0 ≡ 0
   get_d_zeroed_in k l = agree_zeroed.byte k l
 
-  pub zeroed_ext : (u : List ℕ) → Agree n u at [] 0 → Touches at n s u → u ≡ zeroed n at s
-  unfolding zeroed
-  zeroed_ext u g f =
-      let e = length-replicate {A = ℕ} n 0 in
-      put_part_ext at (replicate n 0) s u (omega arith)
-      (record { byte = λ k l. g.byte k (omega arith) ∙ sym (get_or-replicate n (0 + k) 0 0 (omega arith)) })
-      (touches_wider at (length (replicate n 0)) (omega arith) (omega arith) f)
-
-pub zeroed_none : (at : ℕ) (s : List ℕ) → s ≡ zeroed 0 at s
+-- what is left where the whole of a part that was lent was set to zero
+pub zeroed_back : (n at : ℕ) (s t : List ℕ) → at + n ≤ length s → t ≡ replicate (length (take (at + n - at) (drop at s))) 0
+    → put_mid at (at + n - at) s t ≡ zeroed n at s
 unfolding zeroed
-zeroed_none at s = put_part_none at s
-
-pub zeroed_behind : (k at : ℕ) (s : List ℕ) → at + k < length s → set (zeroed k at s) (at + k) 0 ≡ zeroed (k + 1) at s
-zeroed_behind k at s h =
-    let f = touches_zeroed k at s (omega arith) in
-    zeroed_ext (k + 1) at s (omega arith) (set (zeroed k at s) (at + k) 0)
-    (agree_set 0 (agree_zeroed k at s (omega arith)) (omega (arith, f.len)) refl)
-    (touches_one at (k + 1) (at + k) 0 f (omega arith) (omega arith) (omega arith) (omega arith))
+zeroed_back n at s t h e =
+    let q : length (take (at + n - at) (drop at s)) ≡ n = rw lent (length_part at n s h) in
+    back at n t (replicate n 0) s (rw (e, length-replicate)) (rw q at e)
 
 -- ---- the test for zero bytes
 pub zero_at_true : (n at : ℕ) (s : List ℕ) → zero_at n at s ≡ true → at + n ≤ length s → Agree n s at [] 0
@@ -124,3 +88,15 @@ unfolding zero_at
 zero_at_is n at s h g =
     all_each (λ b. eqb b 0) (part at n s) 0
     (λ k l. let m : k < n = omega (arith, length_part at n s h) in eq-eqb (get_or (part at n s) k 0) 0 (get_d_part at n s k m ∙ g.byte k m))
+
+-- the test as it is folded, byte by byte
+module _ {A : Type 0} (p : A → Bool) where
+  all_along : (ok : Bool) (xs : List A) → fold (λ b x. b && p x) ok xs ≡ (ok && all p xs)
+  unfolding all
+  all_along ok [] = sym (and-true ok)
+  all_along ok (x ∷ xs) = all_along (ok && p x) xs ∙ and_assoc ok (p x) (all p xs)
+
+pub zero_along : (n at : ℕ) (s : List ℕ) {A : Type 0} (v : A → ℕ) (xs : List A) (ok : Bool) → map v xs ≡ take (at + n - at) (drop at s)
+    → ok ≡ fold (λ b x. b && eqb (v x) 0) true xs → ok ≡ zero_at n at s
+unfolding zero_at
+zero_along n at s v xs ok l e = e ∙ all_along (λ x. eqb (v x) 0) true xs ∙ sym (all_map (λ x. eqb x 0) v xs) ∙ ap (all (λ x. eqb x 0)) (l ∙ lent at n s)

@@ -3,7 +3,7 @@ pub mod Numbers
 pub mod Fields
 pub mod Parts
 pub mod ByteMoves
-pub mod ByteTurns
 pub mod RecordTables
+pub mod LittleEnd
 pub mod BytesKept
 pub mod Splices

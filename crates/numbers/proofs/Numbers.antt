@@ -90,17 +90,6 @@ number_split (suc w) u s at =
     let r = number_split w u s (at + 1) in
     rw (suc-add, e, pow-succ') (omega arith)
 
--- and a number of twice w bytes from its halves, as it is read
-pub number_halves : (w : ℕ) (s : List ℕ) (at x y : ℕ) → x ≡ number_at w s at → y ≡ number_at w s (at + w) → x + 256 ^ w * y ≡ number_at (w + w) s at
-number_halves w s at x y p q = rw (p, q) (sym (number_split w w s at))
-
-pub put_split : (w u : ℕ) (s : List ℕ) (at v : ℕ) → put_number (w + u) s at v ≡ put_number u (put_number w s at v) (at + w) (v / 256 ^ w)
-unfolding put_number
-put_split zero u s at v = rw (zero-add, add-zero, div-one)
-put_split (suc w) u s at v =
-    let e : at + suc w ≡ at + 1 + w = omega arith in
-    rw (suc-add, e, pow-succ', ← (div-div-eq-div-mul v 256 (256 ^ w))) (put_split w u (set s at (v % 256)) (at + 1) (v / 256))
-
 -- v's remainder by 256 * m is its lowest byte and the rest's remainder by m
 low_bytes : (v m : ℕ) → v % (256 * m) ≡ v % 256 + 256 * (v / 256 % m)
 low_bytes v m =
@@ -116,12 +105,6 @@ put_low (suc w) s at v =
     let p : v % 256 ^ suc w % 256 ≡ v % 256 = rw pow-succ' (omega arith) in
     let q : v % 256 ^ suc w / 256 ≡ v / 256 % 256 ^ w = rw pow-succ' (omega arith) in
     rw (p, q) (put_low w (set s at (v % 256)) (at + 1) (v / 256))
-
--- a number of twice w bytes by its halves, as it is written
-pub put_halves : (w : ℕ) (s t u : List ℕ) (at v : ℕ) → t ≡ put_number w s at (v % 256 ^ w) → u ≡ put_number w t (at + w) (v / 256 ^ w)
-    → u ≡ put_number (w + w) s at v
-put_halves w s t u at v p q =
-    q ∙ ap (λ x. put_number w x (at + w) (v / 256 ^ w)) (p ∙ put_low w s at v) ∙ sym (put_split w w s at v)
 
 -- ---- a number of bytes fits its width, and tells its bytes
 pub number_below : (w : ℕ) (s : List ℕ) (at : ℕ) → Bytes s → number_at w s at < 256 ^ w

@@ -1,5 +1,6 @@
 // Numbers in lent bytes: little-endian numbers read and written at a place, and bytes copied, moved, set to zero and
 // tested. Every place is counted in bytes from the start of the slice; the caller sees to it that it is in range.
+// Each width has its function: a trait over the widths would need an impl with these two bodies for each, and be no shorter.
 #![tactic(auto)]
 
 ghost use Rattle.std.specs.Prelude.{◌≡◌, ◌+◌, ◌≤◌, ◌<◌, length};
@@ -18,7 +19,7 @@ pub fn read_u16(s: &[u8], at: usize) -> u16
     requires { at + 2 ≤ length s.now }
     ensures { result ≡ number_at 2 s.now at }
 {
-    (read_u8(s, at) as u16) + 256 * (read_u8(s, at + 1) as u16)
+    u16::from_le_bytes([s[at], s[at + 1]])
 }
 
 // The number of four bytes at a place.
@@ -26,7 +27,9 @@ pub fn read_u32(s: &[u8], at: usize) -> u32
     requires { at + 4 ≤ length s.now }
     ensures { result ≡ number_at 4 s.now at }
 {
-    (read_u16(s, at) as u32) + 65536 * (read_u16(s, at + 2) as u32)
+    let mut bytes = [0; 4];
+    bytes.copy_from_slice(&s[at..at + 4]);
+    u32::from_le_bytes(bytes)
 }
 
 // The number of eight bytes at a place.
@@ -34,7 +37,9 @@ pub fn read_u64(s: &[u8], at: usize) -> u64
     requires { at + 8 ≤ length s.now }
     ensures { result ≡ number_at 8 s.now at }
 {
-    (read_u32(s, at) as u64) + 4294967296 * (read_u32(s, at + 4) as u64)
+    let mut bytes = [0; 8];
+    bytes.copy_from_slice(&s[at..at + 8]);
+    u64::from_le_bytes(bytes)
 }
 
 // The number of two bytes at a place, as a count or an index.
@@ -42,7 +47,7 @@ pub fn number_at(s: &[u8], at: usize) -> usize
     requires { at + 2 ≤ length s.now }
     ensures { (result ≡ number_at 2 s.now at) × (result < 65536) }
 {
-    read_u16(s, at) as usize
+    usize::from(read_u16(s, at))
 }
 
 // Writes a byte at a place, and nothing else.
@@ -58,8 +63,7 @@ pub fn write_u16(s: &mut [u8], at: usize, v: u16)
     requires { at + 2 ≤ length s.old }
     ensures { s.new ≡ put_number 2 s.old at v }
 {
-    write_u8(s, at, (v % 256) as u8);
-    write_u8(s, at + 1, (v / 256) as u8);
+    s[at..at + 2].copy_from_slice(&v.to_le_bytes());
 }
 
 // Writes a number of four bytes at a place, and nothing else.
@@ -67,8 +71,7 @@ pub fn write_u32(s: &mut [u8], at: usize, v: u32)
     requires { at + 4 ≤ length s.old }
     ensures { s.new ≡ put_number 4 s.old at v }
 {
-    write_u16(s, at, (v % 65536) as u16);
-    write_u16(s, at + 2, (v / 65536) as u16);
+    s[at..at + 4].copy_from_slice(&v.to_le_bytes());
 }
 
 // Writes a number of eight bytes at a place, and nothing else.
@@ -76,8 +79,7 @@ pub fn write_u64(s: &mut [u8], at: usize, v: u64)
     requires { at + 8 ≤ length s.old }
     ensures { s.new ≡ put_number 8 s.old at v }
 {
-    write_u32(s, at, (v % 4294967296) as u32);
-    write_u32(s, at + 4, (v / 4294967296) as u32);
+    s[at..at + 8].copy_from_slice(&v.to_le_bytes());
 }
 
 // Copies n bytes of one slice, from `start` on, into another, from `at` on.
@@ -86,38 +88,16 @@ pub fn copy_bytes(to: &mut [u8], at: usize, from: &[u8], start: usize, n: usize)
     requires n_in_bounds_2 { start + n ≤ length from.now }
     ensures { to.new ≡ copied n from.now start at to.old }
 {
-    let mut k: usize = 0;
-    while k < n {
-        to[at + k] = from[start + k];
-        k += 1;
-    }
+    to[at..at + n].copy_from_slice(&from[start..start + n]);
 }
 
-// Moves n bytes within a slice to a place at or above their own. The last byte goes first, so that none is read after
-// it has been written over.
-pub fn move_up(s: &mut [u8], from: usize, to: usize, n: usize)
-    requires from_le_to { from ≤ to }
-    requires n_in_bounds { to + n ≤ length s.old }
+// Moves n bytes within a slice to another place, as if all were read before one is written.
+pub fn move_bytes(s: &mut [u8], from: usize, to: usize, n: usize)
+    requires from_in_bounds { from + n ≤ length s.old }
+    requires to_in_bounds { to + n ≤ length s.old }
     ensures { s.new ≡ moved n from to s.old }
 {
-    let mut k = n;
-    while 0 < k {
-        k -= 1;
-        s[to + k] = s[from + k];
-    }
-}
-
-// Moves n bytes within a slice to a place at or below their own. The first byte goes first.
-pub fn move_down(s: &mut [u8], from: usize, to: usize, n: usize)
-    requires to_le_from { to ≤ from }
-    requires n_in_bounds { from + n ≤ length s.old }
-    ensures { s.new ≡ moved n from to s.old }
-{
-    let mut k: usize = 0;
-    while k < n {
-        s[to + k] = s[from + k];
-        k += 1;
-    }
+    s.copy_within(from..from + n, to);
 }
 
 // Sets n bytes from a place on to zero.
@@ -125,11 +105,7 @@ pub fn zero_bytes(s: &mut [u8], at: usize, n: usize)
     requires { at + n ≤ length s.old }
     ensures { s.new ≡ zeroed n at s.old }
 {
-    let mut k: usize = 0;
-    while k < n {
-        s[at + k] = 0;
-        k += 1;
-    }
+    s[at..at + n].fill(0);
 }
 
 // Whether n bytes from a place on are all zero. Every byte is looked at, with no early end: wide steps are cheaper.
@@ -137,11 +113,5 @@ pub fn is_zero(s: &[u8], at: usize, n: usize) -> bool
     requires { at + n ≤ length s.now }
     ensures { result ≡ zero_at n at s.now }
 {
-    let mut ok = true;
-    let mut k: usize = 0;
-    while k < n {
-        ok = ok & (s[at + k] == 0);
-        k += 1;
-    }
-    ok
+    s[at..at + n].iter().fold(true, |ok, b| ok & (*b == 0))
 }

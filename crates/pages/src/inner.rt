@@ -1,5 +1,5 @@
 // An inner page: its children, each with its separator.
-ghost use Rattle.std.specs.Prelude.{◌≡◌, ◌+◌, ◌≤◌, ◌<◌, ltb, length, drop};
+ghost use Rattle.std.specs.Prelude.{◌≡◌, ◌≤◌, ◌<◌, ltb, length, drop};
 ghost use Rattle.limits.specs.Limits.{key_size, page_size, head_size, child_size, inner_most, inner_stay};
 ghost use Rattle.lists.specs.Lists.{insert_at};
 ghost use Rattle.numbers.specs.Numbers.{number_at, put_number};
@@ -21,11 +21,9 @@ pub fn child_at(p: &[u8], i: usize) -> Child
     ensures { result ≡ child_at p.now i }
 {
     let at = HEAD_SIZE + CHILD_SIZE * i;
-    let low = Key::read(p, at);
-    let page = numbers::read_u16(p, at + KEY_SIZE);
     Child {
-        low: low,
-        page: page,
+        low: Key::read(p, at),
+        page: numbers::read_u16(p, at + KEY_SIZE),
     }
 }
 
@@ -46,14 +44,12 @@ pub fn child_for(p: &[u8], key: Key) -> usize
     ensures { ChildPlace p.now key.0 result }
 {
     let n = head::count_of(p);
-    let mut i: usize = 0;
-    while i + 1 < n {
+    for i in 0..n - 1 {
         if is_below(p, i + 1, key) {
             return i;
         }
-        i += 1;
     }
-    i
+    n - 1
 }
 
 // Whether a key is below the separator at a place.
@@ -74,8 +70,7 @@ pub fn put_child(p: &mut [u8], i: usize, c: Child)
     let low_at = HEAD_SIZE + CHILD_SIZE * i;
     let page_at = low_at + KEY_SIZE;
     let rest_at = page_at + 2;
-    let low = c.low;
-    low.write(p, low_at);
+    c.low.write(p, low_at);
     numbers::write_u16(p, page_at, c.page);
     numbers::write_u16(p, rest_at, 0);
     numbers::write_u32(p, rest_at + 2, 0);

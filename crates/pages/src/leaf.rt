@@ -10,7 +10,7 @@ ghost use Rattle.pages.specs.PageChanges.{entry_row, entry_put, entry_taken, end
 ghost use Rattle.pages.specs.LeafSteps.{RowSettled, PackedAs};
 ghost use Rattle.pages.specs.KeyPlaces.{EntryPlace};
 
-use entries::{Entry, Value};
+use entries::Entry;
 use keys::Key;
 use limits::{ENTRY_SIZE, HEAD_SIZE, KEY_SIZE, LEAF_GO, LEAF_STAY};
 use rows::head;
@@ -31,8 +31,8 @@ pub fn entry_at(p: &[u8], i: usize) -> Entry
     let owner = numbers::read_u16(p, owner_at);
     let there = numbers::read_u16(p, owner_at + 2);
     Entry {
-        key: key,
-        owner: owner,
+        key,
+        owner,
         now: value_if(there, now),
         before: value_if(there / 2, before),
     }
@@ -48,7 +48,7 @@ pub fn key_at(p: &[u8], i: usize) -> Key
 }
 
 // The place of the first entry at or above a key, or how many entries there are. The places left are halved, so that of a full leaf at most
-// five keys are looked at.
+// five keys are looked at. (A loop of its own: the library halves slices of values, and these are rows of bytes.)
 pub fn first_at_or_above(p: &[u8], key: Key) -> usize
     requires p_len { length p.now ≡ page_size }
     requires p_bound { count_of p.now ≤ leaf_most }
@@ -59,7 +59,7 @@ pub fn first_at_or_above(p: &[u8], key: Key) -> usize
     while low < high {
         let middle = low + (high - low) / 2;
         let behind = middle + 1;
-        if key.at_most(key_at(p, middle)) {
+        if key <= key_at(p, middle) {
             high = middle;
         } else {
             low = behind;
@@ -79,9 +79,8 @@ pub fn put_entry(p: &mut [u8], i: usize, e: Entry)
     let now_at = key_at + KEY_SIZE;
     let before_at = now_at + 4;
     let owner_at = before_at + 4;
-    let key = e.key;
     let row = pack(e);
-    key.write(p, key_at);
+    e.key.write(p, key_at);
     numbers::write_u32(p, now_at, row.now);
     numbers::write_u32(p, before_at, row.before);
     numbers::write_u16(p, owner_at, e.owner);
@@ -141,11 +140,9 @@ pub fn settle_leaf(p: &mut [u8], owner: u16, commits: bool)
     ensures { p.new ≡ leaf_settled commits owner p.old }
 {
     let n = head::count_of(p);
-    let mut i: usize = 0;
     let mut j: usize = 0;
-    while i < n {
+    for i in 0..n {
         j = settle_row(p, i, j, owner, commits);
-        i += 1;
     }
     rows::keep_rows(p, ENTRY_SIZE, j, n);
 }
@@ -180,7 +177,7 @@ fn settle_own(p: &mut [u8], i: usize, j: usize, owner: u16, commits: bool) -> us
     j + 1
 }
 
-// An entry as it is when its owner has ended.
+// An entry as it is when its owner has ended. (`commits` is a bool and no closure all the way up, as `end_of` of the definitions takes it.)
 pub fn settled(e: Entry, commits: bool) -> Entry
     ensures { book_entry result ≡ end_of commits (book_entry e) }
 {
@@ -200,13 +197,10 @@ fn owner_at(p: &[u8], i: usize) -> u16
 }
 
 // A record that is there if its bit, the lowest, is set.
-fn value_if(there: u16, rec: u32) -> Value
+fn value_if(there: u16, rec: u32) -> Option<u32>
     ensures { book_value result ≡ if_bit there rec }
 {
-    if there % 2 == 1 {
-        return Value::Present(rec);
-    }
-    Value::Absent
+    if there % 2 == 1 { Some(rec) } else { None }
 }
 
 // The records and the presence of an entry as its row has them.
@@ -220,31 +214,24 @@ struct Packed {
 fn pack(e: Entry) -> Packed
     ensures { PackedAs (book_entry e) result.now result.before result.there }
 {
-    let now = e.now;
-    let before = e.before;
     Packed {
-        now: now.record(),
-        before: before.record(),
-        there: bit_of(now) + 2 * bit_of(before),
+        now: entries::record(e.now),
+        before: entries::record(e.before),
+        there: bit_of(e.now) + 2 * bit_of(e.before),
     }
 }
 
 // 1 where the record is present, 0 where it is absent.
-fn bit_of(v: Value) -> u16
+fn bit_of(v: Option<u32>) -> u16
     ensures { (result ≡ bit (book_value v)) × (result < 2) }
 {
-    match v {
-        Value::Present(_) => 1,
-        Value::Absent => 0,
-    }
+    u16::from(v.is_some())
 }
 
 // What an entry's type says, as a fact for the promises: its numbers fit their places in a page. There is nothing to do.
 pub fn fits_page(e: Entry)
     ensures { EntryFits (book_entry e) }
 {
-    let now = e.now;
-    let before = e.before;
-    now.record();
-    before.record();
+    entries::record(e.now);
+    entries::record(e.before);
 }

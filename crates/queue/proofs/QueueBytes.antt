@@ -4,15 +4,19 @@
 use Prim.Native.Nat.{ℕ, zero, suc, ◌+◌, ◌-◌, ◌*◌, ◌≤◌, ◌<◌}
 use mathlib.Core.Path.{◌≡◌, refl, sym, ap, ap₂, ◌∙◌}
 use mathlib.Core.Logic.{◌≢◌}
-use mathlib.Core.Bool.{Bool, true, not}
+use mathlib.Core.Bool.{Bool, true, false, cond, not}
 use mathlib.Core.List.{List, [], ◌∷◌}
 use native.Mathlib.Nat.{not-suc-le-zero, le_of_suc-le-suc, zero-add}
 use native.Mathlib.Omega.{arith}
 use borrow.Author.Tests.{eqb-true, eqb-false, eq-eqb, ne_eqb, lt-ltb, le-ltb, not-true}
 use lib.Dec.{eqb, ltb}
 use lib.ListN.{length, get_or, set}
+use Rattle.std.specs.declared.option.Option.{Option}
+use Rattle.std.specs.declared.option.Option.TheVariants.{Some, None}
+use Rattle.std.specs.List.{find, range_with_len}
+use Rattle.std.specs.Option.{option_map, unwrap_or}
 use Rattle.limits.specs.Limits.{transactions_most, desk_head_size, records_place, desk_size}
-use Rattle.lists.specs.Lists.{all, any, keep, pairs, tab, remove_at}
+use Rattle.lists.specs.Lists.{all, any, keep, pairs, place, tab, remove_at}
 use Rattle.lists.proofs.Tests.{and_left, and_right, all_at, all_each, keep_all, not_any}
 use Rattle.lists.proofs.Tables.{length_tab, get_d_tab, tab_remove}
 use Rattle.lists.proofs.Scans.{place_any, place_passes}
@@ -234,7 +238,26 @@ module _ (d : List ℕ) (q : ℕ) (size : length d ≡ desk_size) (order : InOrd
         ∙ remove_leave P (queue_of d) q (queued_at d q) differ (omega (arith, length_queue d))
         ∙ ap (λ x. leave (document P) x.asker (queue_of d)) (at_place q there)
 
--- ---- where a transaction's request stands
+-- ---- where a transaction's request stands: the first of the places that passes a test, or how many there are
+module _ {A : Type 0} (p : A → Bool) (f : ℕ → A) where
+  place_from : (n i : ℕ) → unwrap_or (find (λ k. p (f k)) (range_with_len i n)) (i + n) ≡ i + place p (tab n i f)
+  unfolding tab place
+  place_from zero i = refl
+  place_from (suc n) i = go (p (f i)) (place_from n (i + 1))
+    where
+      later : Option ℕ
+      later = find (λ k. p (f k)) (range_with_len (i + 1) n)
+
+      go : (b : Bool) → unwrap_or later (i + 1 + n) ≡ i + 1 + place p (tab n (i + 1) f)
+          → unwrap_or (cond b (Some i) later) (i + suc n) ≡ i + cond b 0 (suc (place p (tab n (i + 1) f)))
+      go true r = omega arith
+      go false r = let e : i + suc n ≡ i + 1 + n = omega arith in rw e (omega arith)
+
+  pub place_found : (n : ℕ) (o : Option ℕ) (r : ℕ) → option_map (λ x. x) o ≡ find (λ k. p (f k)) (range_with_len 0 n) → r ≡ unwrap_or o n
+      → r ≡ place p (tab n 0 f)
+  place_found n None r e q = let h = rw (← e) at (place_from n 0) in omega arith
+  place_found n (Some k) r e q = let h = rw (← e) at (place_from n 0) in omega arith
+
 module _ (d : List ℕ) (t : ℕ) where
   pub waits_any : any (λ q. eqb q.asker t) (queue_of d) ≡ ltb (waits_in d t) (queued d)
   unfolding waits_in queue_of

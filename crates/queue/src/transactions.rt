@@ -1,13 +1,13 @@
 // The records of the transactions: who runs, who waits, and what for.
-ghost use Rattle.std.specs.Prelude.{◌≡◌, [], ◌∷◌, ◌+◌, ◌*◌, ◌≤◌, length};
-ghost use Rattle.limits.specs.Limits.{transactions_most, key_size, desk_size};
+ghost use Rattle.std.specs.Prelude.{◌≡◌, [], ◌∷◌, ◌+◌, ◌≤◌};
+ghost use Rattle.limits.specs.Limits.{transactions_most, key_size};
 ghost use Rattle.numbers.specs.Numbers.{number_at};
 ghost use Rattle.requests.specs.RequestMeaning.{book_ask};
 ghost use Rattle.queue.specs.QueueLayout.{record_place, is_running, is_waiting, ask_at, ask_fields, put_ask};
 ghost use Rattle.queue.specs.QueueMoves.{mark_number, mark_put};
 
 use keys::Key;
-use limits::KEY_SIZE;
+use limits::{Desk, KEY_SIZE};
 use requests::Ask;
 
 // Where the records start, counted from a transaction 0 that there is not.
@@ -24,8 +24,7 @@ fn record_place(t: u16) -> usize
 }
 
 // The fields of a transaction's record, one by one, as they stand: whether it runs,
-pub fn running_at(d: &[u8], t: u16) -> u16
-    requires d_len { length d.now ≡ desk_size }
+pub fn running_at(d: &Desk, t: u16) -> u16
     requires t_le_transactions_most { t ≤ transactions_most }
     ensures { result ≡ number_at 2 d.now (record_place t) }
 {
@@ -33,8 +32,7 @@ pub fn running_at(d: &[u8], t: u16) -> u16
 }
 
 // the waiting kind,
-pub fn kind_at(d: &[u8], t: u16) -> u16
-    requires d_len { length d.now ≡ desk_size }
+pub fn kind_at(d: &Desk, t: u16) -> u16
     requires t_le_transactions_most { t ≤ transactions_most }
     ensures { result ≡ number_at 2 d.now (record_place t + 2) }
 {
@@ -42,8 +40,7 @@ pub fn kind_at(d: &[u8], t: u16) -> u16
 }
 
 // the record,
-pub fn rec_at(d: &[u8], t: u16) -> u32
-    requires d_len { length d.now ≡ desk_size }
+pub fn rec_at(d: &Desk, t: u16) -> u32
     requires t_le_transactions_most { t ≤ transactions_most }
     ensures { result ≡ number_at 4 d.now (record_place t + 2 + 2) }
 {
@@ -51,8 +48,7 @@ pub fn rec_at(d: &[u8], t: u16) -> u32
 }
 
 // lo,
-pub fn lo_at(d: &[u8], t: u16) -> Key
-    requires d_len { length d.now ≡ desk_size }
+pub fn lo_at(d: &Desk, t: u16) -> Key
     requires t_le_transactions_most { t ≤ transactions_most }
     ensures { result.0 ≡ number_at key_size d.now (record_place t + 2 + 2 + 4) }
 {
@@ -60,8 +56,7 @@ pub fn lo_at(d: &[u8], t: u16) -> Key
 }
 
 // hi,
-pub fn hi_at(d: &[u8], t: u16) -> Key
-    requires d_len { length d.now ≡ desk_size }
+pub fn hi_at(d: &Desk, t: u16) -> Key
     requires t_le_transactions_most { t ≤ transactions_most }
     ensures { result.0 ≡ number_at key_size d.now (record_place t + 2 + 2 + 4 + key_size) }
 {
@@ -69,8 +64,7 @@ pub fn hi_at(d: &[u8], t: u16) -> Key
 }
 
 // and the filler behind them.
-pub fn filler_at(d: &[u8], t: u16) -> u64
-    requires d_len { length d.now ≡ desk_size }
+pub fn filler_at(d: &Desk, t: u16) -> u64
     requires t_le_transactions_most { t ≤ transactions_most }
     ensures { result ≡ number_at 8 d.now (record_place t + 2 + 2 + 4 + key_size + key_size) }
 {
@@ -78,8 +72,7 @@ pub fn filler_at(d: &[u8], t: u16) -> u64
 }
 
 // Whether t runs.
-pub fn is_running(d: &[u8], t: u16) -> bool
-    requires d_len { length d.now ≡ desk_size }
+pub fn is_running(d: &Desk, t: u16) -> bool
     requires t_le_transactions_most { t ≤ transactions_most }
     ensures { result ≡ is_running d.now t }
 {
@@ -94,8 +87,7 @@ fn mark(b: bool) -> u16
 }
 
 // Sets down that t runs, or no longer.
-pub fn put_running(d: &mut [u8], t: u16, b: bool)
-    requires d_len { length d.old ≡ desk_size }
+pub fn put_running(d: &mut Desk, t: u16, b: bool)
     requires t_le_transactions_most { t ≤ transactions_most }
     ensures { d.new ≡ mark_put d.old t b }
 {
@@ -103,8 +95,7 @@ pub fn put_running(d: &mut [u8], t: u16, b: bool)
 }
 
 // Whether t has a request in the queue.
-pub fn is_waiting(d: &[u8], t: u16) -> bool
-    requires d_len { length d.now ≡ desk_size }
+pub fn is_waiting(d: &Desk, t: u16) -> bool
     requires t_le_transactions_most { t ≤ transactions_most }
     ensures { result ≡ is_waiting d.now t }
 {
@@ -112,8 +103,7 @@ pub fn is_waiting(d: &[u8], t: u16) -> bool
 }
 
 // The request that t waits for; it means something only where t waits.
-pub fn ask_at(d: &[u8], t: u16) -> Ask
-    requires d_len { length d.now ≡ desk_size }
+pub fn ask_at(d: &Desk, t: u16) -> Ask
     requires t_le_transactions_most { t ≤ transactions_most }
     ensures { book_ask result ≡ ask_at d.now t }
 {
@@ -129,8 +119,7 @@ pub fn ask_at(d: &[u8], t: u16) -> Ask
 }
 
 // Writes t's waiting request by its fields, and nothing else. A field not in use is zero.
-fn put_request(d: &mut [u8], t: u16, kind: u16, rec: u32, lo: Key, hi: Key)
-    requires d_len { length d.old ≡ desk_size }
+fn put_request(d: &mut Desk, t: u16, kind: u16, rec: u32, lo: Key, hi: Key)
     requires t_le_transactions_most { t ≤ transactions_most }
     ensures { d.new ≡ put_ask d.old t (kind ∷ rec ∷ lo.0 ∷ hi.0 ∷ []) }
 {
@@ -144,8 +133,7 @@ fn put_request(d: &mut [u8], t: u16, kind: u16, rec: u32, lo: Key, hi: Key)
 }
 
 // Writes the request that t waits for, and nothing else.
-pub fn put_ask(d: &mut [u8], t: u16, a: Ask)
-    requires d_len { length d.old ≡ desk_size }
+pub fn put_ask(d: &mut Desk, t: u16, a: Ask)
     requires t_le_transactions_most { t ≤ transactions_most }
     ensures { d.new ≡ put_ask d.old t (ask_fields (book_ask a)) }
 {
@@ -157,8 +145,7 @@ pub fn put_ask(d: &mut [u8], t: u16, a: Ask)
 }
 
 // Sets t's waiting request to zero: t waits no longer.
-pub fn clear_ask(d: &mut [u8], t: u16)
-    requires d_len { length d.old ≡ desk_size }
+pub fn clear_ask(d: &mut Desk, t: u16)
     requires t_le_transactions_most { t ≤ transactions_most }
     ensures { d.new ≡ put_ask d.old t (0 ∷ 0 ∷ 0 ∷ 0 ∷ []) }
 {

@@ -1,5 +1,6 @@
 -- Two requests, and two slices heard, that mean the same are the same. By a map back. Assumes nothing.
 use Prim.Native.Nat.{ℕ}
+use Rattle.std.specs.Prelude as Code
 use mathlib.Core.Path.{◌≡◌, refl, ap}
 use mathlib.Core.Option.{Option, none, some}
 use Rattle.rules.specs.Kinds as K
@@ -8,8 +9,6 @@ use Rattle.requests.specs.declared.Ask.TheVariants.{Read, Insert, Delete}
 use Rattle.requests.specs.declared.Request.{Request}
 use Rattle.requests.specs.declared.Request.TheVariants.{Begin, Commit, Rollback, Asks}
 use Rattle.requests.specs.declared.Call.{Call}
-use Rattle.requests.specs.declared.Heard.{Heard}
-use Rattle.requests.specs.declared.Heard.TheVariants.{Good, Bad}
 use Rattle.requests.specs.RequestMeaning.{book_ask, book_request, book_call, book_heard}
 use Rattle.entries.proofs.EntryOneToOne.{one_to_one}
 
@@ -48,13 +47,13 @@ call_back c = ap (λ r. record { asker = c.asker; request = r }) (request_back c
 pub call_inj : (a b : Call) → book_call a ≡ book_call b → a ≡ b
 call_inj = one_to_one book_call call_of call_back
 
-abbrev heard_of : Option (K.Call ℕ ℕ) → Heard
-heard_of (some c) = Good (call_of c)
-heard_of none = Bad
+abbrev heard_of : Option (K.Call ℕ ℕ) → Code.Option Call
+heard_of (some c) = Code.Some (call_of c)
+heard_of none = Code.None
 
-heard_back : (h : Heard) → heard_of (book_heard h) ≡ h
-heard_back (Good c) = ap Good (call_back c)
-heard_back Bad = refl
+heard_back : (h : Code.Option Call) → heard_of (book_heard h) ≡ h
+heard_back (Code.Some c) = ap Code.Some (call_back c)
+heard_back Code.None = refl
 
-pub heard_inj : (a b : Heard) → book_heard a ≡ book_heard b → a ≡ b
+pub heard_inj : (a b : Code.Option Call) → book_heard a ≡ book_heard b → a ≡ b
 heard_inj = one_to_one book_heard heard_of heard_back

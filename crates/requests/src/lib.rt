@@ -1,7 +1,7 @@
 // Requests as values and as records: the call that a slice of bytes is, or number 12. (Document 01, "What the desk says", "Records and pages".)
 #![tactic(auto)]
 
-ghost use Rattle.std.specs.Prelude.{◌≡◌, true, ◌+◌, ◌<◌, ◌≤◌, length};
+ghost use Rattle.std.specs.Prelude.{◌≡◌, ◌≤◌, length};
 ghost use Rattle.limits.specs.Limits.{key_size, read_size, delete_size};
 ghost use Rattle.numbers.specs.Numbers.{number_at};
 ghost use Rattle.rules.specs.Kinds.{read, insert, delete};
@@ -29,7 +29,7 @@ pub enum Ask {
 }
 
 impl Ask {
-    // The kinds of their records.
+    // The kinds of their records. (Numbers and no enum of their own: a record's kind becomes a case of these two enums at once.)
     pub const READ: u16 = 4;
 
     pub const INSERT: u16 = 5;
@@ -41,7 +41,7 @@ impl Ask {
         ensures { result ≡ legal_ask (document endless) (book_ask self) }
     {
         match self {
-            Ask::Read(lo, hi) => lo.is_key() & hi.is_key() & lo.at_most(hi),
+            Ask::Read(lo, hi) => lo.is_key() & hi.is_key() & (lo <= hi),
             Ask::Insert(key, _) => key.is_key(),
             Ask::Delete(key) => key.is_key(),
         }
@@ -90,16 +90,8 @@ impl Call {
     pub fn is_legal(self) -> bool
         ensures { result ≡ legal_call (document endless) (book_call self) }
     {
-        let request = self.request;
-        is_transaction(self.asker) & request.is_legal()
+        is_transaction(self.asker) & self.request.is_legal()
     }
-}
-
-// What a slice of bytes is, read as a request record: a call, or number 12.
-#[derive(Clone, Copy)]
-pub enum Heard {
-    Good(Call),
-    Bad,
 }
 
 // Where the fields of a request stand behind its head: the key, or lo; then hi, or the record; then the filler of an insert.
@@ -199,16 +191,16 @@ fn call_in(s: &[u8]) -> Call
     }
 }
 
-// The call that a slice is, read as a request record, or number 12.
-pub fn read_request(s: &[u8]) -> Heard
+// The call that a slice is, read as a request record; none is number 12.
+pub fn read_request(s: &[u8]) -> Option<Call>
     ensures { book_heard result ≡ heard s.now }
 {
     if is_misshapen(s) {
-        return Heard::Bad;
+        return None;
     }
     let call = call_in(s);
     if is_filled(s) | !call.is_legal() {
-        return Heard::Bad;
+        return None;
     }
-    Heard::Good(call)
+    Some(call)
 }

@@ -6,7 +6,15 @@ ghost use Rattle.rows.specs.PageHead.{kind_of, count_of, level_of, put_head, roo
 
 use limits::{HEAD_SIZE, PAGE_SIZE};
 
-// The page's kind: 1 page 0, 2 a leaf, 3 an inner page.
+// What a page is. The number of its kind stands in its head.
+#[derive(Clone, Copy)]
+pub enum Kind {
+    First = 1,
+    Leaf = 2,
+    Inner = 3,
+}
+
+// The number of the page's kind.
 pub fn kind_of(p: &[u8]) -> usize
     requires { length p.now ≡ page_size }
     ensures { (result ≡ kind_of p.now) × (result < 65536) }

@@ -4,16 +4,18 @@ ghost use Rattle.std.specs.Prelude.{◌≡◌, ◌+◌, ◌*◌, ◌≤◌, ◌<
 ghost use Rattle.rows.specs.RowMoves.{opened, closed, row_moved, cut, rows_copied};
 
 // Moves those from i on of n rows up by one. What stands at place i stays as it is, to be written over.
+#[tactic(auto, using(crate::proofs::RowWidths::rows_halves))]
 pub fn open_row(s: &mut [u8], base: usize, width: usize, i: usize, n: usize)
     requires i_le_n { i ≤ n }
     requires n_in_bounds { base + width * (n + 1) ≤ length s.old }
     ensures { s.new ≡ opened base width i n s.old }
 {
     let at = base + width * i;
-    numbers::move_up(s, at, at + width, width * (n - i));
+    numbers::move_bytes(s, at, at + width, width * (n - i));
 }
 
 // Takes row i of n out: those behind it move down by one, and the last one's bytes become zero.
+#[tactic(auto, using(crate::proofs::RowWidths::row_behind))]
 pub fn close_row(s: &mut [u8], base: usize, width: usize, i: usize, n: usize)
     requires i_lt_n { i < n }
     requires n_in_bounds { base + width * n ≤ length s.old }
@@ -21,11 +23,12 @@ pub fn close_row(s: &mut [u8], base: usize, width: usize, i: usize, n: usize)
 {
     let last = n - 1;
     let at = base + width * i;
-    numbers::move_down(s, at + width, at, width * (last - i));
+    numbers::move_bytes(s, at + width, at, width * (last - i));
     numbers::zero_bytes(s, base + width * last, width);
 }
 
 // Moves row i down to place j.
+#[tactic(auto, using(crate::proofs::RowWidths::rows_halves, crate::proofs::RowWidths::row_stays))]
 pub fn move_row(s: &mut [u8], base: usize, width: usize, i: usize, j: usize)
     requires j_le_i { j ≤ i }
     requires i_in_bounds { base + width * (i + 1) ≤ length s.old }
@@ -34,10 +37,11 @@ pub fn move_row(s: &mut [u8], base: usize, width: usize, i: usize, j: usize)
     if i == j {
         return;
     }
-    numbers::move_down(s, base + width * i, base + width * j, width);
+    numbers::move_bytes(s, base + width * i, base + width * j, width);
 }
 
 // Sets those from `from` on of n rows to zero.
+#[tactic(auto, using(crate::proofs::RowWidths::rows_halves))]
 pub fn cut_rows(s: &mut [u8], base: usize, width: usize, from: usize, n: usize)
     requires from_le_n { from ≤ n }
     requires n_in_bounds { base + width * n ≤ length s.old }

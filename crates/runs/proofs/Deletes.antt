@@ -1,6 +1,7 @@
 -- The run of a delete: X on the entry of its key, which is deleted if it is present; S on another target, and the key is absent.
 -- By what the target is, by whether the lock is given and by whether the entry is a ghost. Assumes nothing.
 use Prim.Native.Nat.{ℕ}
+use Rattle.std.specs.Prelude as Code
 use mathlib.Core.Path.{◌≡◌, refl, sym, ap, ap₂, subst, ◌∙◌}
 use mathlib.Core.Bool.{Bool, true, cond, ◌&&◌}
 use mathlib.Core.List.{List}
@@ -18,8 +19,6 @@ use Rattle.queue.specs.QueueLayout.{in_place, queued_at}
 use Rattle.locks.specs.SlotLayout.{name_in, name_number}
 use Rattle.locks.specs.SlotMoves.{lock_taken, lock_given}
 use Rattle.queue.specs.QueueMoves.{queue_left}
-use Rattle.index.specs.declared.Found.{Found}
-use Rattle.index.specs.declared.Found.TheVariants as FV
 use Rattle.index.specs.Pictures.{entries_in}
 use Rattle.index.specs.Searches.{book_found}
 use Rattle.states.specs.States.{book, state_of}
@@ -31,7 +30,7 @@ use Rattle.runs.proofs.Looks.{target_fits, target_name}
 use Rattle.runs.proofs.EntryChanges.{one_changed, stands_in, stands_fits, stands_name}
 
 module _ (p d : List ℕ) (w : Whole p d) (q : ℕ) (c : Clear p d q) (key : Key) (k : (queued_at d q).asks ≡ delete key.0) (t : ℕ) (a : t ≡ in_place d q)
-    (found : Found) (f : book_found found ≡ target book (entries_in p) t (delete key.0)) (there : Found)
+    (found : Code.Option E.Entry) (f : book_found found ≡ target book (entries_in p) t (delete key.0)) (there : Code.Option E.Entry)
     (i : book_found there ≡ itself book key.0 (book_found found)) where
   goes : run book (state_of p d) (queued_at d q) ≡ delete_as book (state_of p d) t (named book (book_found found)) (book_found there)
   unfolding run run_on state_of queued_at
@@ -40,7 +39,7 @@ module _ (p d : List ℕ) (w : Whole p d) (q : ℕ) (c : Clear p d q) (key : Key
       ∙ ap (delete_as book (state_of p d) t (named book (book_found found))) (sym i)
 
   -- the target is of another key, or the end
-  pub delete_missing : there ≡ FV.Nothing → (name : Key) → name.0 ≡ name_number (named book (book_found found)) → (d' : List ℕ) (b : Bool)
+  pub delete_missing : there ≡ Code.None → (name : Key) → name.0 ≡ name_number (named book (book_found found)) → (d' : List ℕ) (b : Bool)
       → d' ≡ queue_left (lock_taken d t (name_in name.0) S) q → b ≡ lock_given d t (name_in name.0)
       → (x : D.Says) → book_says x ≡ cond b nothing locks_short → Ran p d p d' q (record { asker = t; says = x })
   unfolding delete_as
@@ -52,7 +51,7 @@ module _ (p d : List ℕ) (w : Whole p d) (q : ℕ) (c : Clear p d q) (key : Key
       (e₁ ∙ ap (λ y. queue_left (lock_taken d t y S) q) is) b x (g ∙ ap (lock_given d t) is) says
 
   -- the target is the entry of the key
-  pub delete_there_lem : (e : E.Entry) → there ≡ FV.Here e → (d' : List ℕ) (b : Bool) → d' ≡ queue_left (lock_taken d t (name_in key.0) X) q
+  pub delete_there_lem : (e : E.Entry) → there ≡ Code.Some e → (d' : List ℕ) (b : Bool) → d' ≡ queue_left (lock_taken d t (name_in key.0) X) q
       → b ≡ lock_given d t (name_in key.0) → (p' : List ℕ) → Exchanged p p' (b && present (book_entry e)) (deleted t (book_entry e))
       → (x : D.Says) → book_says x ≡ cond b (cond (present (book_entry e)) done nothing) locks_short
       → Ran p d p' d' q (record { asker = t; says = x })

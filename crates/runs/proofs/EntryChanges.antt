@@ -1,12 +1,13 @@
 -- The entry of a key changed where it stands, under its lock: the entries are the rule book's, the shape is as it was, and so the run is
 -- the rule book's. Keys ascend, so that no other entry has the key. Assumes nothing.
 use Prim.Native.Nat.{ℕ, ◌≤◌, ◌<◌}
-use mathlib.Core.Path.{◌≡◌, refl, sym, ap, ap₂, subst, ◌∙◌}
-use mathlib.Core.Bool.{Bool, true, false, cond, not, ◌&&◌, true≢false}
+use Rattle.std.specs.Prelude as Code
+use mathlib.Core.Path.{◌≡◌, refl, sym, ap, ◌∙◌}
+use mathlib.Core.Bool.{Bool, true, false, cond}
 use mathlib.Core.List.{List, map}
 use mathlib.Core.Option.{some}
 use native.Mathlib.Omega.{arith}
-use borrow.Author.Tests.{eqb-true, not-true, not-false}
+use borrow.Author.Tests.{eqb-true}
 use lib.Dec.{eqb}
 use Rattle.limits.specs.Limits.{transactions_most}
 use Rattle.lists.specs.Lists.{In}
@@ -14,7 +15,7 @@ use Rattle.lists.proofs.Joins.{map_same}
 use Rattle.rules.specs.Kinds.{Mode, Name, on, Ask}
 use Rattle.rules.specs.Entries.{same, changed}
 use Rattle.rules.specs.Locks.{target, named, itself}
-use Rattle.rules.specs.Runs.{Sy, locks_short}
+use Rattle.rules.specs.Runs.{Sy}
 use Rattle.rules.specs.Good.{ascending}
 use Rattle.rules.proofs.Orders.{numbers_ordered}
 use Rattle.rules.proofs.Index.{at_or_above}
@@ -23,7 +24,6 @@ use Rattle.rules.proofs.Did.{target_in, itself_is}
 use Rattle.keys.specs.declared.Key.{Key}
 use Rattle.entries.specs.declared.Entry as E
 use Rattle.answers.specs.declared.Says as D
-use Rattle.answers.specs.declared.Says.TheVariants as DV
 use Rattle.entries.specs.EntryMeaning.{book_entry}
 use Rattle.answers.specs.AnswerMeaning.{book_says}
 use Rattle.queue.specs.QueueLayout.{queued, in_place}
@@ -32,8 +32,6 @@ use Rattle.locks.specs.SlotMoves.{held_in, free_in, taken_at, lock_taken}
 use Rattle.queue.specs.QueueMoves.{queue_left}
 use Rattle.locks.proofs.Takes.{taken_there}
 use Rattle.queue.proofs.Frames.{only_taken, queued_beside, place_beside}
-use Rattle.index.specs.declared.Found.{Found}
-use Rattle.index.specs.declared.Found.TheVariants as FV
 use Rattle.index.specs.Pictures.{Item, index_of, entries_in}
 use Rattle.index.specs.Searches.{book_found}
 use Rattle.index.specs.Changes.{replaced, Becomes}
@@ -42,7 +40,6 @@ use Rattle.states.specs.States.{book, state_of}
 use Rattle.states.specs.Whole.{Whole}
 use Rattle.states.specs.Fitting.{NameFits}
 use Rattle.states.proofs.ValuesFit.{name_read}
-use Rattle.runs.specs.Exchanges.{Exchanged}
 use Rattle.runs.proofs.RunsSay.{Done}
 use Rattle.runs.proofs.Looks.{target_fits}
 
@@ -83,8 +80,8 @@ one_changed p d w m x h p' e i f g b =
     }
 
 -- ---- the entry of the key, where the target is of that key
-module _ (p d : List ℕ) (w : Whole p d) (t : ℕ) (ask : Ask ℕ ℕ) (found : Found) (f : book_found found ≡ target book (entries_in p) t ask) (key : Key)
-    (there : Found) (i : book_found there ≡ itself book key.0 (book_found found)) (e : E.Entry) (h : there ≡ FV.Here e) where
+module _ (p d : List ℕ) (w : Whole p d) (t : ℕ) (ask : Ask ℕ ℕ) (found : Code.Option E.Entry) (f : book_found found ≡ target book (entries_in p) t ask) (key : Key)
+    (there : Code.Option E.Entry) (i : book_found there ≡ itself book key.0 (book_found found)) (e : E.Entry) (h : there ≡ Code.Some e) where
   is_target : (book_found found ≡ some (book_entry e)) × (eqb e.key.0 key.0 ≡ true)
   is_target = itself_is book key.0 (book_found found) (book_entry e) (sym i ∙ ap book_found h)
 
@@ -92,51 +89,13 @@ module _ (p d : List ℕ) (w : Whole p d) (t : ℕ) (ask : Ask ℕ ℕ) (found :
   stands_in = target_in book (entries_in p) t ask (book_entry e) (sym f ∙ is_target.0)
 
   pub stands_fits : NameFits (on e.key.0)
-  stands_fits = target_fits p d w t ask (FV.Here e) (sym is_target.0 ∙ f)
+  stands_fits = target_fits p d w t ask (Code.Some e) (sym is_target.0 ∙ f)
 
   pub stands_name : name_in key.0 ≡ on e.key.0
   stands_name = ap name_in (sym (eqb-true e.key.0 key.0 is_target.1)) ∙ name_read (on e.key.0) stands_fits
 
   pub stands_named : named book (book_found found) ≡ name_in key.0
   stands_named = ap (named book) is_target.0 ∙ sym stands_name
-
--- ---- the code's answers: whether a target is of the key, and whether its entry was exchanged
-module _ (found : Found) (key : Key) (e : E.Entry) (f : found ≡ FV.Here e) (b : Bool) (s : b ≡ eqb e.key.0 key.0) where
-  pub standing_there : b ≡ true → book_found (FV.Here e) ≡ itself book key.0 (book_found found)
-  standing_there h = let z : eqb e.key.0 key.0 ≡ true = sym s ∙ h in rw (f, z)
-
-  pub standing_other : b ≡ false → book_found FV.Nothing ≡ itself book key.0 (book_found found)
-  standing_other h = let z : eqb e.key.0 key.0 ≡ false = sym s ∙ h in rw (f, z)
-
--- b: the lock is given; x: the entry is to be exchanged
-module _ (b x : Bool) (z : Item) where
-  exchange_done : (p p' : List ℕ) → (b && x) ≡ true → Becomes p' (replaced z (index_of p)) → Exchanged p p' (b && x) z
-  exchange_done p p' h w = record { changed = λ _. w; kept = λ n. absurd (true≢false (sym h ∙ n)) }
-
-  exchange_not : (p : List ℕ) → (b && x) ≡ false → Exchanged p p (b && x) z
-  exchange_not p h = record { changed = λ n. absurd (true≢false (sym n ∙ h)); kept = λ _. refl }
-
-  pub short_keeps : (p : List ℕ) → not b ≡ true → Exchanged p p (b && x) z
-  short_keeps p h = exchange_not p (ap (λ u. u && x) (not-true b h))
-
-  module _ (g : not b ≡ false) (r : Bool) (e : r ≡ x) where
-    pub other_keeps : (p : List ℕ) → not r ≡ true → Exchanged p p (b && x) z
-    other_keeps p h = exchange_not p (ap₂ (λ u v. u && v) (not-false b g) (sym e ∙ not-true r h))
-
-    pub goes_changes : (p p' : List ℕ) (y : Item) → not r ≡ false → y ≡ z → Becomes p' (replaced y (index_of p)) → Exchanged p p' (b && x) z
-    goes_changes p p' y h is w =
-        exchange_done p p' (ap₂ (λ u v. u && v) (not-false b g) (sym e ∙ not-false r h)) (subst (λ u. Becomes p' (replaced u (index_of p))) is w)
-
-module _ (b : Bool) where
-  pub short_says : (m : Sy book) → not b ≡ true → book_says DV.LocksShort ≡ cond b m locks_short
-  short_says m h = ap (λ u. cond u m locks_short) (sym (not-true b h))
-
-  module _ (x : Bool) (m n : Sy book) (g : not b ≡ false) (r : Bool) (e : r ≡ x) where
-    pub other_says : not r ≡ true → n ≡ cond b (cond x m n) locks_short
-    other_says h = ap₂ (λ u v. cond u (cond v m n) locks_short) (sym (not-false b g)) (sym (not-true r h) ∙ e)
-
-    pub goes_says : not r ≡ false → m ≡ cond b (cond x m n) locks_short
-    goes_says h = ap₂ (λ u v. cond u (cond v m n) locks_short) (sym (not-false b g)) (sym (not-false r h) ∙ e)
 
 -- ---- what the lock leaves of the queue
 module _ (d : List ℕ) (q own free t : ℕ) (n : Name ℕ) (m : Mode) (o : own ≡ held_in d t n) (f : free ≡ free_in d) (d₁ : List ℕ)

@@ -1,6 +1,7 @@
 -- The run of an insert where its key stands: S on the entry; a present one is told, and the asker's own ghost is present again.
 -- By whether the lock is given and by whether the entry is a ghost. Assumes nothing.
 use Prim.Native.Nat.{ℕ, compare}
+use Rattle.std.specs.Prelude as Code
 use mathlib.Core.Path.{◌≡◌, refl, sym, ap, ap₂, subst, ◌∙◌}
 use mathlib.Core.Bool.{Bool, true, cond, not, ◌&&◌}
 use mathlib.Core.List.{List}
@@ -19,8 +20,6 @@ use Rattle.queue.specs.QueueLayout.{in_place, queued_at}
 use Rattle.locks.specs.SlotLayout.{name_in}
 use Rattle.locks.specs.SlotMoves.{lock_taken, lock_given}
 use Rattle.queue.specs.QueueMoves.{queue_left}
-use Rattle.index.specs.declared.Found.{Found}
-use Rattle.index.specs.declared.Found.TheVariants as FV
 use Rattle.index.specs.Pictures.{key_of, entries_in}
 use Rattle.index.specs.Searches.{book_found}
 use Rattle.states.specs.States.{book, state_of}
@@ -32,7 +31,7 @@ use Rattle.runs.proofs.RunsSay.{Done, only_locked, acted}
 use Rattle.runs.proofs.EntryChanges.{one_changed, stands_in, stands_fits, stands_name}
 
 module _ (p d : List ℕ) (w : Whole p d) (q : ℕ) (c : Clear p d q) (key : Key) (rec : ℕ) (k : (queued_at d q).asks ≡ insert key.0 rec) (t : ℕ)
-    (a : t ≡ in_place d q) (found : Found) (f : book_found found ≡ target book (entries_in p) t (insert key.0 rec)) (there : Found)
+    (a : t ≡ in_place d q) (found : Code.Option E.Entry) (f : book_found found ≡ target book (entries_in p) t (insert key.0 rec)) (there : Code.Option E.Entry)
     (i : book_found there ≡ itself book key.0 (book_found found)) where
   goes : run book (state_of p d) (queued_at d q) ≡ insert_as book (state_of p d) t key.0 rec (book_found there)
   unfolding run run_on state_of queued_at
@@ -41,10 +40,10 @@ module _ (p d : List ℕ) (w : Whole p d) (q : ℕ) (c : Clear p d q) (key : Key
       ∙ ap (run_on book (state_of p d) t (insert key.0 rec)) (sym f) ∙ ap (insert_as book (state_of p d) t key.0 rec) (sym i)
 
   -- the key is missing where its entry is not found
-  pub insert_missing : there ≡ FV.Nothing → missing compare key_of key.0 (entries_in p) ≡ true
+  pub insert_missing : there ≡ Code.None → missing compare key_of key.0 (entries_in p) ≡ true
   insert_missing h = is_missing p d w key.0 t rec there (i ∙ ap (itself book key.0) f) h
 
-  pub insert_there_lem : (e : E.Entry) → there ≡ FV.Here e → (d' : List ℕ) (b : Bool) → d' ≡ queue_left (lock_taken d t (name_in key.0) S) q
+  pub insert_there_lem : (e : E.Entry) → there ≡ Code.Some e → (d' : List ℕ) (b : Bool) → d' ≡ queue_left (lock_taken d t (name_in key.0) S) q
       → b ≡ lock_given d t (name_in key.0) → (p' : List ℕ) → Exchanged p p' (b && ghost (book_entry e)) (revived t rec (book_entry e))
       → (x : D.Says) → book_says x ≡ cond b (cond (ghost (book_entry e)) done (is_present e.key.0 (book_value e.now))) locks_short
       → Ran p d p' d' q (record { asker = t; says = x })

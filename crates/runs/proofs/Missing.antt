@@ -1,6 +1,7 @@
 -- The run of an insert whose key is missing: X on the key and the entry put in, unless slots or pages are short.
 -- Locks stand only on entries or the end, so nobody has one on the key: a new slot is needed. Assumes nothing.
 use Prim.Native.Nat.{ℕ, ◌≤◌, ◌<◌, compare}
+use Rattle.std.specs.Prelude as Code
 use mathlib.Core.Path.{◌≡◌, refl, sym, ap, ap₂, subst, ◌∙◌}
 use mathlib.Core.Bool.{Bool, true, false, cond, not, true≢false}
 use mathlib.Core.List.{List}
@@ -32,8 +33,6 @@ use Rattle.locks.specs.SlotLayout.{slots_of, name_in}
 use Rattle.locks.specs.SlotMoves.{held_in, free_in, lock_taken, lock_given}
 use Rattle.queue.specs.QueueMoves.{queue_left}
 use Rattle.locks.proofs.Takes.{holds_is, none_held, refused_same}
-use Rattle.index.specs.declared.Found.{Found}
-use Rattle.index.specs.declared.Found.TheVariants as FV
 use Rattle.index.specs.Searches.{book_found}
 use Rattle.index.specs.Pictures.{Item, key_of, index_of, entries_in}
 use Rattle.index.specs.Changes.{with_entry, entry_fits, Becomes, Added}
@@ -49,7 +48,7 @@ use Rattle.runs.proofs.RunsSay.{asker_fits, ran_says, goes_if, given_if, refused
 -- ---- a missing key: no lock stands on it, and it is not its insert's target
 module _ (p d : List ℕ) (w : Whole p d) (k : ℕ) where
   -- where the target is not the key it is missing
-  pub is_missing : (t rec : ℕ) (there : Found) → book_found there ≡ itself book k (target book (entries_in p) t (insert k rec)) → there ≡ FV.Nothing
+  pub is_missing : (t rec : ℕ) (there : Code.Option E.Entry) → book_found there ≡ itself book k (target book (entries_in p) t (insert k rec)) → there ≡ Code.None
       → missing compare key_of k (entries_in p) ≡ true
   unfolding target state_of
   is_missing t rec there i h =
@@ -93,9 +92,6 @@ module _ (p d : List ℕ) (w : Whole p d) (q : ℕ) (c : A.Clear p d q) (k rec :
   module _ (t : ℕ) (e : E.Entry) (new : book_entry e ≡ inserted t k rec) where
     pub entry_fits_lem : e.key.0 < end_mark
     entry_fits_lem = subst (λ (x : Item). x.key < end_mark) (sym new) key_fits
-
-    pub entry_missing : missing compare key_of k (entries_in p) ≡ true → missing compare key_of e.key.0 (entries_in p) ≡ true
-    entry_missing m = subst (λ (x : Item). missing compare key_of x.key (entries_in p) ≡ true) (sym new) m
 
   module _ (m : missing compare key_of k (entries_in p) ≡ true) (t : ℕ) (a : t ≡ in_place d q) where
     abbrev act : Slots book → Ran book

@@ -1,6 +1,7 @@
 -- What is known of the request that runs next, in the words of its run: its target, and its asker's own slot for the lock.
 -- The asker and what it asks are read at its place; a name read from bytes is the target's. Assumes nothing.
 use Prim.Native.Nat.{ℕ}
+use Rattle.std.specs.Prelude as Code
 use mathlib.Core.Path.{◌≡◌, sym, ap, ap₂, ◌∙◌}
 use mathlib.Core.List.{List}
 use Rattle.rules.specs.Kinds.{Ask}
@@ -10,8 +11,6 @@ use Rattle.entries.specs.declared.Entry as E
 use Rattle.queue.specs.QueueLayout.{in_place, queued_at}
 use Rattle.locks.specs.SlotLayout.{name_in, name_number}
 use Rattle.locks.specs.SlotMoves.{held_in}
-use Rattle.index.specs.declared.Found.{Found}
-use Rattle.index.specs.declared.Found.TheVariants as FV
 use Rattle.index.specs.Pictures.{entries_in}
 use Rattle.index.specs.Searches.{book_found}
 use Rattle.states.specs.States.{book}
@@ -35,6 +34,6 @@ module _ (p d : List ℕ) (x : Next) (k : Known p d x) (t : ℕ) (a : t ≡ in_p
     pub own_named : Whole p d → (name : Key) → name.0 ≡ name_number (named book (book_found x.target)) → x.own ≡ held_in d t (name_in name.0)
     own_named w name e = own ∙ ap (held_in d t) (sym (target_name p d w t ask x.target next_target name e))
 
-    pub own_there : Whole p d → (key : Key) (there : Found) → book_found there ≡ itself book key.0 (book_found x.target)
-        → (e : E.Entry) → there ≡ FV.Here e → x.own ≡ held_in d t (name_in key.0)
+    pub own_there : Whole p d → (key : Key) (there : Code.Option E.Entry) → book_found there ≡ itself book key.0 (book_found x.target)
+        → (e : E.Entry) → there ≡ Code.Some e → x.own ≡ held_in d t (name_in key.0)
     own_there w key there i e h = own ∙ ap (held_in d t) (stands_named p d w t ask x.target next_target key there i e h)

@@ -17,13 +17,13 @@ use super::reading::unless_short;
 use super::standing::standing;
 use answers::{Answer, Says};
 use entries::Entry;
-use index::Found;
 use keys::Key;
+use limits::{Desk, Pages};
 use locks::Mode;
 use waits::{Next, targets};
 
 // Deletes the entry of the key for t, if it has the lock and the entry is not absent already. Gives what is said.
-fn delete_there(pages: &mut [u8], given: bool, t: u16, e: Entry) -> Says
+fn delete_there(pages: &mut Pages, given: bool, t: u16, e: Entry) -> Says
     requires { WholePages pages.old }
     ensures exchanged { Exchanged pages.old pages.new (given && present (book_entry e)) (deleted t (book_entry e)) }
     ensures says { book_says result ≡ cond given (cond (present (book_entry e)) done nothing) locks_short }
@@ -31,8 +31,7 @@ fn delete_there(pages: &mut [u8], given: bool, t: u16, e: Entry) -> Says
     if !given {
         return Says::LocksShort;
     }
-    let now = e.now;
-    if !now.is_present() {
+    if e.now.is_none() {
         return Says::Nothing;
     }
     settling::replace(pages, e.deleted(t));
@@ -40,27 +39,22 @@ fn delete_there(pages: &mut [u8], given: bool, t: u16, e: Entry) -> Says
 }
 
 // Runs the delete that is next, which nobody blocks.
-pub fn run_delete(pages: &mut [u8], desk: &mut [u8], next: Next, key: Key) -> Answer
+pub fn run_delete(pages: &mut Pages, desk: &mut Desk, next: Next, key: Key) -> Answer
     requires whole { Whole pages.old desk.old }
     requires clear { Clear pages.old desk.old next.place }
     requires known { Known pages.old desk.old next }
     requires place_value { (queued_at desk.old next.place).asks ≡ delete key.0 }
     ensures { Ran pages.old desk.old pages.new desk.new next.place result }
 {
-    let q = next.place;
-    let own = next.own;
-    let free = next.free;
-    let found = next.target;
-    let t = queue::in_place(desk, q);
-    let there = standing(found, key);
-    let Found::Here(e) = there else {
-        let given = lock_and_leave(desk, q, own, free, t, targets::name_of(found), Mode::S);
+    let t = queue::in_place(desk, next.place);
+    let Some(e) = standing(next.target, key) else {
+        let given = lock_and_leave(desk, next, t, targets::name_of(next.target), Mode::S);
         return Answer {
             asker: t,
             says: unless_short(given, Says::Nothing),
         };
     };
-    let given = lock_and_leave(desk, q, own, free, t, key, Mode::X);
+    let given = lock_and_leave(desk, next, t, key, Mode::X);
     Answer {
         asker: t,
         says: delete_there(pages, given, t, e),

@@ -12,8 +12,9 @@ ghost use Rattle.runs.specs.RunsAt.{Clear, Ran};
 
 use super::locking::lock_and_leave;
 use answers::{Answer, Says};
-use index::Found;
+use entries::Entry;
 use keys::Key;
+use limits::{Desk, Pages};
 use locks::Mode;
 use waits::{Next, targets};
 
@@ -25,37 +26,26 @@ pub fn unless_short(given: bool, says: Says) -> Says
 }
 
 // What a read says of its target.
-fn read_says(found: Found, hi: Key) -> Says
+fn read_says(found: Option<Entry>, hi: Key) -> Says
     ensures { book_says result ≡ read_says book hi.0 (book_found found) }
 {
-    let Found::Here(e) = found else {
-        return Says::Nothing;
-    };
-    let key = e.key;
-    let now = e.now;
-    if key.at_most(hi) {
-        Says::Found(key, now)
-    } else {
-        Says::Nothing
+    match found {
+        Some(e) if e.key <= hi => Says::Found(e.key, e.now),
+        _ => Says::Nothing,
     }
 }
 
 // Runs the read that is next, which nobody blocks.
-pub fn run_read(pages: &[u8], desk: &mut [u8], next: Next, lo: Key, hi: Key) -> Answer
+pub fn run_read(pages: &Pages, desk: &mut Desk, next: Next, lo: Key, hi: Key) -> Answer
     requires whole { Whole pages.now desk.old }
     requires clear { Clear pages.now desk.old next.place }
     requires known { Known pages.now desk.old next }
     requires place_value { (queued_at desk.old next.place).asks ≡ read lo.0 hi.0 }
     ensures { Ran pages.now desk.old pages.now desk.new next.place result }
 {
-    let q = next.place;
-    let found = next.target;
-    let t = queue::in_place(desk, q);
-    let name = targets::name_of(found);
-    let given = lock_and_leave(desk, q, next.own, next.free, t, name, Mode::S);
-    let says = unless_short(given, read_says(found, hi));
-    Answer {
-        asker: t,
-        says: says,
-    }
+    let t = queue::in_place(desk, next.place);
+    let name = targets::name_of(next.target);
+    let given = lock_and_leave(desk, next, t, name, Mode::S);
+    let says = unless_short(given, read_says(next.target, hi));
+    Answer { asker: t, says }
 }

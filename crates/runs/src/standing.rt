@@ -4,20 +4,12 @@ ghost use Rattle.rules.specs.Locks.{itself};
 ghost use Rattle.index.specs.Searches.{book_found};
 ghost use Rattle.states.specs.States.{book};
 
-use index::Found;
+use entries::Entry;
 use keys::Key;
 
 // The target if it is of this key.
-pub fn standing(found: Found, key: Key) -> Found
+pub fn standing(found: Option<Entry>, key: Key) -> Option<Entry>
     ensures { book_found result ≡ itself book key.0 (book_found found) }
 {
-    let Found::Here(e) = found else {
-        return Found::Nothing;
-    };
-    let at = e.key;
-    if at.same(key) {
-        Found::Here(e)
-    } else {
-        Found::Nothing
-    }
+    found.filter(|e| e.key == key)
 }

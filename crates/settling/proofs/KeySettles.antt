@@ -146,7 +146,7 @@ module _ (commits : Bool) (t k : ℕ) where
     pub key_end : (n : ℕ) → n ≡ count_of p → n ≤ i → p ≡ leaf_page (key_settled commits t k (entries_of p))
     key_end n c m = stays_as (λ j. absurd (omega (arith, length_entries p)))
 
-    module _ (n : ℕ) (c : n ≡ count_of p) (m : i < n) (e : Item) (q : e ≡ entry_at p i) (b : Bool) (same : b ≡ eqb e.key k) where
+    module _ (n : ℕ) (c : n ≡ count_of p) (m : i < n) (e : Item) (q : e ≡ entry_at p i) (b : Bool) (other : b ≡ not (eqb e.key k)) where
       within : i < length (entries_of p)
       within = omega (arith, length_entries p)
 
@@ -154,21 +154,21 @@ module _ (commits : Bool) (t k : ℕ) where
       unfolding entries_of
       is = get_d_tab (count_of p) 0 (entry_at p) i (entry_at p i) (omega arith) ∙ ap (entry_at p) (zero-add i) ∙ sym q
 
-      pub key_other : not b ≡ true → p ≡ leaf_page (key_settled commits t k (entries_of p))
-      key_other y = stays_as (λ j. ap (λ x. eqb x.key k) is ∙ sym same ∙ not-true b y)
+      pub key_other : b ≡ true → p ≡ leaf_page (key_settled commits t k (entries_of p))
+      key_other y = stays_as (λ j. ap (λ x. eqb x.key k) is ∙ not-true (eqb e.key k) (sym other ∙ y))
 
-      settles_as : not b ≡ false → key_settled commits t k (entries_of p) ≡ at (eqb e.owner t) i e (entries_of p)
+      settles_as : b ≡ false → key_settled commits t k (entries_of p) ≡ at (eqb e.owner t) i e (entries_of p)
       unfolding keys_ascend
       settles_as y =
-          place_settled (entry_at p i) (entries_of p) i within l.order (ap (λ x. eqb x.key k) is ∙ sym same ∙ not-false b y)
+          place_settled (entry_at p i) (entries_of p) i within l.order (ap (λ x. eqb x.key k) is ∙ not-false (eqb e.key k) (sym other ∙ y))
           ∙ ap (λ x. at (eqb x.owner t) i x (entries_of p)) is
 
-      pub key_anothers : not b ≡ false → (e.owner ≡ t → ⊥) → p ≡ leaf_page (key_settled commits t k (entries_of p))
+      pub key_anothers : b ≡ false → (e.owner ≡ t → ⊥) → p ≡ leaf_page (key_settled commits t k (entries_of p))
       key_anothers y o =
           l.laid
           ∙ ap leaf_page (sym (settles_as y ∙ ap (λ x. at x i e (entries_of p)) (ne_eqb e.owner t o)))
 
-      pub key_own : not b ≡ false → e.owner ≡ t → (x : Item) → x ≡ end_of commits e → (p' : List ℕ) → p' ≡ leaf_page (left_in i x (entries_of p))
+      pub key_own : b ≡ false → e.owner ≡ t → (x : Item) → x ≡ end_of commits e → (p' : List ℕ) → p' ≡ leaf_page (left_in i x (entries_of p))
           → p' ≡ leaf_page (key_settled commits t k (entries_of p))
       key_own y o x z p' u =
           u ∙ ap (λ v. leaf_page (left_in i v (entries_of p))) z

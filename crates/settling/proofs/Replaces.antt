@@ -10,7 +10,7 @@ use native.Mathlib.Omega.{arith}
 use lib.Dec.{leb, eqb, ltb}
 use lib.ListN.{length, get_or, set, take, drop, get_or-eq_default}
 use lib.Seq.{set_out}
-use borrow.Author.Tests.{leb-true, leb-false, eqb-true, eq-eqb, ne_eqb, not-true, not-false, ltb-true}
+use borrow.Author.Tests.{leb-true, leb-false, eqb-true, eq-eqb, ne_eqb, not-true, ltb-true}
 use borrow.Rule.Slice.PartMut.{put_mid}
 use Rattle.limits.specs.Limits.{page_size}
 use Rattle.lists.specs.Lists.{all, pairs, place}
@@ -109,17 +109,17 @@ module _ (e : Item) where
           ap (λ y. eqb y.key e.key) (get_d_tab (count_of p) 0 (entry_at p) i e (omega arith) ∙ ap (entry_at p) (zero-add i))
           ∙ ap (λ x. eqb x e.key) (sym r) ∙ sym same
 
-      pub over_other : not b ≡ true → p ≡ leaf_page (overwritten e (entries_of p))
+      pub over_other : b ≡ false → p ≡ leaf_page (overwritten e (entries_of p))
       unfolding overwritten
       over_other f =
-          l.laid ∙ ap leaf_page (sym (at_place ∙ ap (λ d. cond d (set (entries_of p) i e) (entries_of p)) (key_there ∙ not-true b f)))
+          l.laid ∙ ap leaf_page (sym (at_place ∙ ap (λ d. cond d (set (entries_of p) i e) (entries_of p)) (key_there ∙ f)))
 
-      pub over_same : not b ≡ false → (p' : List ℕ) → p' ≡ put_entry p i e → p' ≡ leaf_page (overwritten e (entries_of p))
+      pub over_same : b ≡ true → (p' : List ℕ) → p' ≡ put_entry p i e → p' ≡ leaf_page (overwritten e (entries_of p))
       unfolding leaf_page overwritten
       over_same f p' o =
           o
           ∙ W.leaf_set (blank_page 2 0) p (entries_of p) (blank_page_lem 2 0) (omega (arith, l.few, length_entries p)) l.laid i e (omega (arith, length_entries p))
-          ∙ ap leaf_page (sym (at_place ∙ ap (λ d. cond d (set (entries_of p) i e) (entries_of p)) (key_there ∙ not-false b f)))
+          ∙ ap leaf_page (sym (at_place ∙ ap (λ d. cond d (set (entries_of p) i e) (entries_of p)) (key_there ∙ f)))
 
   -- ---- and given back
   pub over_back : (s : List ℕ) (pg : ℕ) (p : List ℕ) → length p ≡ length (take (page_size * pg + page_size - page_size * pg) (drop (page_size * pg) s))

@@ -29,6 +29,14 @@ use Rattle.index.proofs.Subtrees.{used_page, subtree_root}
 use Rattle.index.proofs.BlankPages.{kind_head}
 use Rattle.index.proofs.Refills.{refilled, Good, leaf_good, refill_whole}
 
+-- ---- the pages used: one at least
+used_some : (s : List ℕ) (top : Top) → WholePages s → TopOf s top → 1 ≤ top.used
+used_some s top w o =
+    let p = page_at s 0 in
+    let t = subtree_root s w in
+    let r = used_page (used_of p) (root_of p) (omega (arith, t.alone (root_of p), own_page (height_of p - 1) s (root_of p))) in
+    omega (arith, o.used)
+
 -- ---- one page
 pub kind_lent : (s : List ℕ) (q k : ℕ) → k ≡ kind_of (take (page_size * q + page_size - page_size * q) (drop (page_size * q) s)) → k ≡ 2 → LeafIn s q
     → count_of (take (page_size * q + page_size - page_size * q) (drop (page_size * q) s)) ≤ leaf_most
@@ -141,11 +149,11 @@ module _ (commits : Bool) (t : ℕ) where
               subst (λ x. page_at (put_page s q (settled_page commits t (page_at s₀ q))) x ≡ settled_page commits t (page_at s₀ x)) (sym e)
               (page_same s d.size q k (settled_page commits t (page_at s₀ q)) n)
 
-      pub settled_all : q ≤ top.used → top.used ≤ q → Becomes s (settled_in commits t (index_of s₀))
+      pub settled_all : (1 ≤ top.used → q ≤ top.used) → top.used ≤ q → Becomes s (settled_in commits t (index_of s₀))
       unfolding settled_in
       settled_all a b =
           let f = settled (end_of commits) t in
-          let u : q ≡ used_of (page_at s₀ 0) = omega (arith, o.used) in
+          let u : q ≡ used_of (page_at s₀ 0) = omega (arith, o.used, a (used_some s₀ top w o)) in
           refill_whole f (settled_few commits t) (settled_small commits t) s₀ s w (settled_thins (end_of commits) (end_key commits) t) d.size
           (λ r l. at r (omega arith))
           (λ r i j. d.rest r (omega arith) j)
@@ -157,11 +165,4 @@ module _ (commits : Bool) (t : ℕ) where
               ∙ sym (ap (λ m. cond (eqb m 2) (leaf_page (settled (end_of commits) t (entries_of p))) p)
               (ap kind_of w.head ∙ kind_head (root_of p) (used_of p) (height_of p)))
           at (suc r) l =
-              d.done (suc r) (omega arith) l ∙ settled_is (page_at s₀ (suc r)) (used_good (suc r) (omega arith) (omega (arith, o.used)))
-
-pub used_some : (s : List ℕ) (top : Top) → WholePages s → TopOf s top → 1 ≤ top.used
-used_some s top w o =
-    let p = page_at s 0 in
-    let t = subtree_root s w in
-    let r = used_page (used_of p) (root_of p) (omega (arith, t.alone (root_of p), own_page (height_of p - 1) s (root_of p))) in
-    omega (arith, o.used)
+              d.done (suc r) (omega arith) l ∙ settled_is (page_at s₀ (suc r)) (used_good (suc r) (omega arith) (omega (arith, o.used, a (used_some s₀ top w o))))

@@ -10,38 +10,33 @@ ghost use Rattle.index.specs.Descents.{OwnLeaf, LeafAt, LeafIn, settled_page, le
 use entries::Entry;
 use index::descent;
 use keys::Key;
-use limits::PAGE_SIZE;
+use limits::{PAGE_SIZE, Pages};
 use pages::leaf;
-use rows::head;
+use rows::head::{self, Kind};
 
 // Settles the entries of a transaction that has committed or rolled back, in every leaf; those left absent are taken out.
-pub fn settle(pages: &mut [u8], owner: u16, commits: bool)
+pub fn settle(pages: &mut Pages, owner: u16, commits: bool)
     requires { WholePages pages.old }
     ensures { Becomes pages.new (settled_in commits owner (index_of pages.old)) }
 {
-    let t = descent::top(pages);
-    let used = t.used;
-    let mut q: usize = 1;
-    while q < used {
+    for q in 1..descent::top(pages).used {
         settle_page(pages, q, owner, commits);
-        q += 1;
     }
 }
 
 // Settles a page if it is a leaf.
-fn settle_page(pages: &mut [u8], q: usize, owner: u16, commits: bool)
+fn settle_page(pages: &mut Pages, q: usize, owner: u16, commits: bool)
     requires { LeafIn pages.old q }
     ensures { pages.new ≡ put_page pages.old q (settled_page commits owner (page_at pages.old q)) }
 {
     let a = PAGE_SIZE * q;
-    if head::kind_of(&pages[a..a + PAGE_SIZE]) != 2 {
-        return;
+    if head::kind_of(&pages[a..a + PAGE_SIZE]) == Kind::Leaf as usize {
+        leaf::settle_leaf(&mut pages[a..a + PAGE_SIZE], owner, commits);
     }
-    leaf::settle_leaf(&mut pages[a..a + PAGE_SIZE], owner, commits);
 }
 
 // Settles one entry, that of a key, if it is of the transaction that has ended; left absent it is taken out.
-pub fn settle_key(pages: &mut [u8], key: Key, owner: u16, commits: bool)
+pub fn settle_key(pages: &mut Pages, key: Key, owner: u16, commits: bool)
     requires { WholePages pages.old }
     ensures { Becomes pages.new (settled_at commits owner key.0 (index_of pages.old)) }
 {
@@ -51,7 +46,7 @@ pub fn settle_key(pages: &mut [u8], key: Key, owner: u16, commits: bool)
 }
 
 // The same, in the leaf that the key belongs to.
-fn settle_at(pages: &mut [u8], pg: usize, key: Key, owner: u16, commits: bool)
+fn settle_at(pages: &mut Pages, pg: usize, key: Key, owner: u16, commits: bool)
     requires { LeafAt pages.old pg }
     ensures { pages.new ≡ put_page pages.old pg (leaf_page (key_settled commits owner key.0 (entries_of (page_at pages.old pg)))) }
 {
@@ -65,13 +60,11 @@ fn settle_in(p: &mut [u8], key: Key, owner: u16, commits: bool)
     ensures { p.new ≡ leaf_page (key_settled commits owner key.0 (entries_of p.old)) }
 {
     let i = leaf::first_at_or_above(p, key);
-    let n = head::count_of(p);
-    if i >= n {
+    if i >= head::count_of(p) {
         return;
     }
     let e = leaf::entry_at(p, i);
-    let there = e.key;
-    if !there.same(key) {
+    if e.key != key {
         return;
     }
     if e.owner != owner {
@@ -88,7 +81,7 @@ fn put_left(p: &mut [u8], i: usize, e: Entry)
 {
     if e.is_ghost() {
         leaf::take_entry(p, i);
-        return;
+    } else {
+        leaf::put_entry(p, i, e);
     }
-    leaf::put_entry(p, i, e);
 }

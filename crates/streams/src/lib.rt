@@ -3,19 +3,22 @@
 // and written no contract can speak of, so that is tested and not proved; the desk that it calls is proved.
 #![tactic(auto)]
 
-ghost use Rattle.std.specs.Prelude.{◌≡◌, ◌≤◌, length};
+ghost use Rattle.std.specs.Prelude.{◌≤◌, length, IfOk};
 ghost use Rattle.limits.specs.Limits.{read_size};
 
-use std::io;
+use std::convert::Infallible;
+use std::fmt;
 use std::io::Read;
 
 // The longest record that there is. Of one that says to be longer nothing more is waited for: it is bad, whatever follows.
 const LONGEST: usize = limits::READ_SIZE;
 
-// Why the stream stops, if it does.
-#[derive(Drop)]
+// How many bytes of the input are held at once.
+const INPUT: usize = 65536;
+
+// Why the stream stops.
+#[derive(Clone, Copy, Debug)]
 enum Stop {
-    Not,
     // The input has ended, behind a whole record.
     Ended,
     // The input has ended within a record.
@@ -26,15 +29,22 @@ enum Stop {
     Unwritten,
     // The input could not be read.
     Unread,
+    // The turns are used up.
+    OutOfTurns,
 }
 
-// What came of a piece of the input: how many of its bytes are answered, how many are left behind them, less than a record, and whether to
-// stop. Where it stops because of a record, that one comes after the answered bytes.
-#[derive(Drop)]
-struct Piece {
-    answered: usize,
-    left: usize,
-    stop: Stop,
+// What is said of each, in front of the number of the byte.
+impl fmt::Display for Stop {
+    fn fmt<W: fmt::Write>(&self, f: &mut fmt::Formatter<W>) -> fmt::Result {
+        f.write_str(match self {
+            Stop::Ended => "keydesk: the input ended, at byte ",
+            Stop::Cut => "keydesk: cut record at byte ",
+            Stop::Bad => "keydesk: bad record at byte ",
+            Stop::Unwritten => "keydesk: a write failed, of the answers to the record at byte ",
+            Stop::Unread => "keydesk: a read failed, at byte ",
+            Stop::OutOfTurns => "keydesk: out of turns, at byte ",
+        })
+    }
 }
 
 // How many bytes the desk is to be shown next: as many as the record's first two say, at least these two. One that is too long is bad by
@@ -48,13 +58,11 @@ fn wanted(input: &[u8], at: usize, end: usize) -> usize
         return 2;
     }
     let said = numbers::number_at(input, at);
-    if said < 2 {
-        return 2;
+    if (2..=LONGEST).contains(&said) {
+        said
+    } else {
+        2
     }
-    if said > LONGEST {
-        return 2;
-    }
-    said
 }
 
 // Answers one record. A number other than 0 stands above the answers' bytes, and is so more than any space.
@@ -64,19 +72,14 @@ fn answer(
     desk: &mut [u8],
     answers: &mut [u8],
     record: &[u8],
-) -> Stop {
-    let returned = desk::keydesk_serve(pages, desk, answers, record);
-    let n = returned as usize;
-    if n > answers.len() {
-        return Stop::Bad;
-    }
-    if rt.write_all(&answers[0..n]).is_ok() {
-        return Stop::Not;
-    }
-    Stop::Unwritten
+) -> Result<(), Stop> {
+    let n = desk::keydesk_serve(pages, desk, answers, record) as usize;
+    let answered = answers.get(..n).ok_or(Stop::Bad)?;
+    rt.write_all(answered).map_err(|_| Stop::Unwritten)
 }
 
-// Answers the records that stand whole before `end`, one after the other.
+// Answers the records that stand whole before `end`, one after the other, and counts their bytes. It gives how many bytes are left behind
+// them, less than a record; where it stops because of a record, that one comes after the bytes that are counted.
 fn answer_piece(
     rt: &impl Print,
     pages: &mut [u8],
@@ -84,134 +87,67 @@ fn answer_piece(
     answers: &mut [u8],
     input: &[u8],
     end: usize,
-) -> Piece
+    answered: &mut u64,
+) -> Result<usize, Stop>
     requires { end ≤ length input.now }
-    ensures { (result.left ≤ end) × (result.left ≤ read_size) }
+    ensures { IfOk result (λ left. (left ≤ end) × (left ≤ read_size)) }
 {
     let mut at: usize = 0;
+    // A `while`: the records have lengths of their own.
     while at < end {
         let n = wanted(input, at, end);
         if end - at < n {
-            return Piece {
-                answered: at,
-                left: end - at,
-                stop: Stop::Not,
-            };
+            return Ok(end - at);
         }
-        let stop = answer(rt, pages, desk, answers, &input[at..at + n]);
-        let Stop::Not = stop else {
-            return Piece {
-                answered: at,
-                left: 0,
-                stop,
-            };
-        };
+        answer(rt, pages, desk, answers, &input[at..at + n])?;
         at += n;
+        *answered = answered.wrapping_add(n as u64);
     }
-    Piece {
-        answered: at,
-        left: 0,
-        stop: Stop::Not,
-    }
+    Ok(0)
 }
 
-// Nothing more comes: why, with what is left.
-fn no_more(got: io::Result<usize>, left: usize) -> Stop {
-    if got.is_err() {
-        return Stop::Unread;
-    }
-    if left > 0 {
-        return Stop::Cut;
-    }
-    Stop::Ended
-}
-
-// One turn: reads more behind what is left, and answers what is whole then. What is left of that goes to the front.
-fn go_on(
+// Goes on until there is a reason to stop, and counts the bytes of the records that are answered. Each turn reads more behind what is left,
+// and answers what is whole then; what is left of that goes to the front. A proved loop has to end, and nothing says that the input does:
+// it counts its turns, up to a number that no run reaches.
+fn go_through(
     rt: &impl Print,
     reader: &mut impl Read,
     pages: &mut [u8],
     desk: &mut [u8],
     answers: &mut [u8],
-    input: &mut [u8],
-    left: usize,
-) -> Piece
-    requires input_len { length input.old ≡ 65536 }
-    requires left_le_read_size { left ≤ read_size }
-    ensures { result.left ≤ read_size }
-{
-    let got = reader.read(&mut input[left..65536]);
-    let more = match got {
-        Ok(n) => n,
-        Err(_) => 0,
-    };
-    if more == 0 {
-        return Piece {
-            answered: 0,
-            left: 0,
-            stop: no_more(got, left),
-        };
-    }
-    let piece = answer_piece(rt, pages, desk, answers, input, left + more);
-    let n = piece.left;
-    numbers::move_down(input, left + more - n, 0, n);
-    piece
-}
-
-// Goes on until there is a reason to stop, which it says with the byte of the input, counted from 0, at which it stopped. A proved loop has
-// to end, and nothing says that the input does: it counts its turns down, from a number that no run uses up.
-fn go_through(
-    rt: &(impl Print + Eprint),
-    reader: &mut impl Read,
-    pages: &mut [u8],
-    desk: &mut [u8],
-    answers: &mut [u8],
-    input: &mut [u8],
-)
-    requires { length input.old ≡ 65536 }
-{
+    input: &mut [u8; INPUT],
+    answered: &mut u64,
+) -> Result<Infallible, Stop> {
     let mut left: usize = 0;
-    let mut at: u64 = 0;
-    let mut turns = u64::MAX;
-    while turns > 0 {
-        let piece = go_on(rt, reader, pages, desk, answers, input, left);
-        at = at.wrapping_add(piece.answered as u64);
-        let stop = piece.stop;
-        let Stop::Not = stop else {
-            say(rt, stop, at);
-            return;
-        };
-        left = piece.left;
-        turns -= 1;
+    for _ in 0..u64::MAX {
+        let more = reader.read(&mut input[left..]).map_err(|_| Stop::Unread)?;
+        if more == 0 {
+            return Err(if left > 0 { Stop::Cut } else { Stop::Ended });
+        }
+        let end = left + more;
+        left = answer_piece(rt, pages, desk, answers, input, end, answered)?;
+        input.copy_within(end - left..end, 0);
     }
-    say(rt, Stop::Not, at);
+    Err(Stop::OutOfTurns)
 }
 
-// Says on standard error why the stream has stopped, in one line. The exit status does not say it.
-fn say(rt: &impl Eprint, stop: Stop, at: u64) {
-    let _ = say_why(rt, stop);
-    let _ = eprintln!(rt; "{at}");
-}
-
-fn say_why(rt: &impl Eprint, stop: Stop) -> io::Result<()> {
-    match stop {
-        Stop::Not => eprint!(rt; "keydesk: out of turns, at byte "),
-        Stop::Ended => eprint!(rt; "keydesk: the input ended, at byte "),
-        Stop::Cut => eprint!(rt; "keydesk: cut record at byte "),
-        Stop::Bad => eprint!(rt; "keydesk: bad record at byte "),
-        Stop::Unwritten => eprint!(rt;
-            "keydesk: a write failed, of the answers to the record at byte "
-        ),
-        Stop::Unread => eprint!(rt; "keydesk: a read failed, at byte "),
-    }
-}
-
-// The whole stream: what is read comes from the reader, standard input in the programs.
+// The whole stream: what is read comes from the reader, standard input in the programs. At the end one line on standard error says why it
+// has stopped, with the byte of the input, counted from 0, at which it did. The exit status does not say it.
 pub fn run(rt: &(impl Print + Eprint), reader: &mut impl Read) {
     let mut pages = [0u8; limits::PAGES_SIZE];
     let mut desk = [0u8; limits::DESK_SIZE];
     let mut answers = [0u8; limits::SPACE_LEAST];
-    let mut input = [0u8; 65536];
+    let mut input = [0u8; INPUT];
     desk::keydesk_fresh(&mut pages, &mut desk);
-    go_through(rt, reader, &mut pages, &mut desk, &mut answers, &mut input);
+    let mut at: u64 = 0;
+    let Err(stop) = go_through(
+        rt,
+        reader,
+        &mut pages,
+        &mut desk,
+        &mut answers,
+        &mut input,
+        &mut at,
+    );
+    let _ = eprintln!(rt; "{stop}{at}");
 }

@@ -1,45 +1,38 @@
 // An entry as the four numbers that pass through a door. A record that is absent passes as a number above every record.
-use entries::{Entry, Value};
+ghost use Rattle.std.specs.Prelude.{◌≡◌};
+
+use entries::Entry;
 use keys::Key;
 
+// How many bytes the four numbers take, 8 each.
+pub const FIELDS_SIZE: usize = 32;
+
 // A number as a record, or absent where it is above every record.
-pub fn value_of(v: u64) -> Value {
-    if v > 4294967295 {
-        return Value::Absent;
-    }
-    Value::Present(v as u32)
+fn value_of(v: u64) -> Option<u32> {
+    u32::try_from(v).ok()
 }
 
 // A record as a number; an absent one is above every record.
-fn number_of(v: Value) -> u64 {
-    match v {
-        Value::Present(rec) => rec as u64,
-        Value::Absent => 18446744073709551615,
-    }
+fn number_of(v: Option<u32>) -> u64 {
+    v.map_or(u64::MAX, u64::from)
 }
 
-pub fn entry_of(key: Key, owner: u16, now: u64, before: u64) -> Entry {
-    let is = value_of(now);
-    let was = value_of(before);
+// The entry that four numbers say.
+pub fn entry_of(key: Key, owner: u16, now: u64, before: u64) -> Entry
+    ensures { result.key ≡ key }
+{
     Entry {
-        key: key,
-        owner: owner,
-        now: is,
-        before: was,
+        key,
+        owner,
+        now: value_of(now),
+        before: value_of(before),
     }
 }
 
 // Writes key, owner, now and before, 8 bytes each.
-pub fn put_fields(out: &mut [u8], e: Entry) -> bool {
-    if out.len() != 32 {
-        return false;
-    }
-    let key = e.key;
-    let is = e.now;
-    let was = e.before;
-    key.write(out, 0);
-    numbers::write_u64(out, 8, e.owner as u64);
-    numbers::write_u64(out, 16, number_of(is));
-    numbers::write_u64(out, 24, number_of(was));
-    true
+pub fn put_fields(out: &mut [u8; FIELDS_SIZE], e: Entry) {
+    e.key.write(out, 0);
+    numbers::write_u64(out, 8, u64::from(e.owner));
+    numbers::write_u64(out, 16, number_of(e.now));
+    numbers::write_u64(out, 24, number_of(e.before));
 }

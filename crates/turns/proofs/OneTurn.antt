@@ -1,6 +1,7 @@
 -- One turn of the queue on a whole picture is the rule book's. The place that is found has the rule book's choice; a queued request has one
 -- wait, since nobody is queued twice, so nobody blocks the oldest that was chosen. Assumes nothing.
 use Prim.Native.Nat.{ℕ, ◌≤◌, ◌<◌}
+use Rattle.std.specs.Prelude as Code
 use mathlib.Core.Path.{◌≡◌, refl, sym, ap, ap₂, subst, ◌∙◌}
 use mathlib.Core.List.{List}
 use mathlib.Core.Option.{Option, none, some, none-ne-some, some-injective}
@@ -19,49 +20,30 @@ use Rattle.queue.specs.QueueMoves.{queue_left}
 use Rattle.index.specs.Pictures.{entries_in}
 use Rattle.states.specs.States.{book, state_of}
 use Rattle.states.specs.Whole.{Whole, Says}
-use Rattle.waits.specs.declared.Place.{Place}
-use Rattle.waits.specs.declared.Place.TheVariants.{At, Nowhere}
 use Rattle.waits.proofs.QueueKnown.{asker_high}
 use Rattle.waits.specs.declared.Next.{Next}
-use Rattle.waits.specs.declared.Turn.{Turn}
-use Rattle.waits.specs.declared.Turn.TheVariants.{Runs, Nobody}
-use Rattle.waits.specs.Choices.{request_at, request_of, Inside, Chosen, LightestAt, Known, place_in, KnownIn, OldestIs}
-use Rattle.waits.specs.Blocks.{Rows, RowsIn}
+use Rattle.waits.specs.Choices.{request_at, request_of, Chosen, LightestAt, Known, place_in, KnownIn, OldestIs}
+use Rattle.waits.specs.Blocks.{Rows}
 use Rattle.runs.specs.RunsAt as A
 use Rattle.states.proofs.PlacesWait.{place_waits}
 use Rattle.states.proofs.MovesSay.{way_says}
-use Rattle.turns.specs.declared.Turned.TheVariants.{Said, Rest}
 use Rattle.turns.specs.Working.{way_at, GaveWay, Turns}
 
 -- ---- what a choice found at its place is
-module _ (d : List ℕ) (c : Option (Wait book)) (r : Place) (h : Chosen d c r) where
-  chosen_inside : (q : ℕ) → r ≡ At q → q < queued d
-  chosen_inside q e = subst (Inside d) e h.inside
-
-  chosen_is : (q : ℕ) → r ≡ At q → (v : Wait book) × (c ≡ some v) × (v.request ≡ queued_at d q)
+module _ (d : List ℕ) (c : Option (Wait book)) (r : Code.Option ℕ) (h : Chosen d c r) where
+  chosen_is : (q : ℕ) → r ≡ Code.Some q → (v : Wait book) × (c ≡ some v) × (v.request ≡ queued_at d q)
   chosen_is q e = go c refl (subst (λ x. request_at d x ≡ request_of c) e h.request)
     where
       go : (o : Option (Wait book)) → c ≡ o → some (queued_at d q) ≡ request_of o → (v : Wait book) × (c ≡ some v) × (v.request ≡ queued_at d q)
       go none m k = absurd (none-ne-some (queued_at d q) (sym k))
       go (some v) m k = (v, m, sym (some-injective (queued_at d q) v.request k))
 
-  chosen_none : r ≡ Nowhere → c ≡ none
+  chosen_none : r ≡ Code.None → c ≡ none
   chosen_none e = go c refl (subst (λ x. request_at d x ≡ request_of c) e h.request)
     where
       go : (o : Option (Wait book)) → c ≡ o → none ≡ request_of o → c ≡ none
       go none m k = m
       go (some v) m k = absurd (none-ne-some v.request k)
-
-pub lightest_inside : (p d : List ℕ) (r : Place) → LightestAt p d r → (q : ℕ) → r ≡ At q → q < queued d
-lightest_inside p d r h = chosen_inside d (yields book (state_of p d)) r h
-
--- ---- where nobody can run
-module _ (p d : List ℕ) (r : Turn) (e : r ≡ Nobody) where
-  pub nobody_runs : OldestIs p d r → oldest book (state_of p d) ≡ none
-  nobody_runs h = chosen_none d (oldest book (state_of p d)) (place_in r) h.chosen (ap place_in e)
-
-  pub nobody_rows : (row : List ℕ) → RowsIn p d row r → Rows p d row
-  nobody_rows row k = subst (RowsIn p d row) e k
 
 module _ (p d : List ℕ) (w : Whole p d) where
   -- ---- the one wait of the request at a place
@@ -72,9 +54,9 @@ module _ (p d : List ℕ) (w : Whole p d) where
       (same_wait book (state_of p d) w.values v _ i (place_waits p d q h) (ap (λ (x : Queued ℕ ℕ). x.asker) e))
 
   -- ---- the oldest that isn't blocked
-  module _ (r : Turn) (h : OldestIs p d r) where
-    module _ (x : Next) (e : r ≡ Runs x) where
-      pub next_known : Known p d x
+  module _ (r : Code.Option Next) (h : OldestIs p d r) where
+    module _ (x : Next) (e : r ≡ Code.Some x) where
+      next_known : Known p d x
       next_known = subst (KnownIn p d) e h.known
 
       picked : (v : Wait book) × (oldest book (state_of p d) ≡ some v) × (v.request ≡ queued_at d x.place)
@@ -91,7 +73,7 @@ module _ (p d : List ℕ) (w : Whole p d) where
                 ∙ oldest_free book (state_of p d) v.0 v.1;
           }
 
-      pub turned_ran : (p' d' : List ℕ) (a : Answer) → A.Ran p d p' d' x.place a → (row : List ℕ) → Turns p d p' d' row (Said a)
+      pub turned_ran : (p' d' : List ℕ) (a : Answer) → A.Ran p d p' d' x.place a → (row : List ℕ) → Turns p d p' d' row (Code.Some a)
       unfolding turn A.ran_at
       turned_ran p' d' a ran row =
           let s = state_of p d in
@@ -107,12 +89,12 @@ module _ (p d : List ℕ) (w : Whole p d) where
           }
 
   -- ---- none of them; the one on a circle that gives way
-  module _ (nobody : oldest book (state_of p d) ≡ none) (l : Place) (k : LightestAt p d l) where
+  module _ (nobody : oldest book (state_of p d) ≡ none) (l : Code.Option ℕ) (k : LightestAt p d l) where
     blocked : turn book (state_of p d) ≡ refused book (state_of p d) (yields book (state_of p d))
     unfolding turn
     blocked = ap (served book (state_of p d)) nobody
 
-    pub turned_way : (q : ℕ) → l ≡ At q → (d' : List ℕ) (a : Answer) → GaveWay p d d' q a → (row : List ℕ) → Turns p d p d' row (Said a)
+    pub turned_way : (q : ℕ) → l ≡ Code.Some q → (d' : List ℕ) (a : Answer) → GaveWay p d d' q a → (row : List ℕ) → Turns p d p d' row (Code.Some a)
     unfolding way_at
     turned_way q e d' a gave row =
         let s = state_of p d in
@@ -128,7 +110,7 @@ module _ (p d : List ℕ) (w : Whole p d) where
           rows = tt;
         }
 
-    pub turned_rest : l ≡ Nowhere → (row : List ℕ) → Rows p d row → Turns p d p d row Rest
+    pub turned_rest : l ≡ Code.None → (row : List ℕ) → Rows p d row → Turns p d p d row Code.None
     turned_rest e row r =
         record {
           whole = w;

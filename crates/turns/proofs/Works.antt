@@ -1,14 +1,15 @@
 -- The queue worked turn by turn: what is written of the whole is what is written so far and what the rest will write. Each turn takes one
 -- request off the queue, so there is room for the rest, and it ends. Assumes nothing.
 use Prim.Native.Nat.{ℕ, suc, ◌+◌, ◌*◌, ◌≤◌, ◌<◌}
-use mathlib.Core.Path.{◌≡◌, refl, sym, ap, subst, ◌∙◌}
+use Rattle.std.specs.Prelude as Code
+use mathlib.Core.Path.{◌≡◌, sym, ap, subst, ◌∙◌}
 use mathlib.Core.List.{List, ◌∷◌}
 use mathlib.Core.Option.{some}
 use native.Mathlib.Omega.{arith}
 use lib.ListN.{length}
 use Rattle.limits.specs.Limits.{answer_size}
 use Rattle.rules.specs.Queue.{St}
-use Rattle.rules.specs.Runs.{Worked, turn, AtRest}
+use Rattle.rules.specs.Runs.{Worked, turn}
 use Rattle.rules.proofs.Rest.{turn_takes_one, worked_turn, worked_done}
 use Rattle.answers.specs.declared.Answer.{Answer}
 use Rattle.answers.specs.AnswerMeaning.{book_answer}
@@ -18,12 +19,10 @@ use Rattle.queue.specs.QueueLayout.{queued}
 use Rattle.queue.proofs.QueueBytes.{length_queue}
 use Rattle.states.specs.States.{book, state_of}
 use Rattle.states.specs.Whole.{Whole}
-use Rattle.turns.specs.declared.Turned.{Turned}
-use Rattle.turns.specs.declared.Turned.TheVariants.{Said, Rest}
-use Rattle.turns.specs.Working.{Wrote, worked_of, Rested, RoomLeft, book_turn, StillAt, RowsAt, Turns}
+use Rattle.turns.specs.Working.{Wrote, worked_of, RoomLeft, book_turn, StillAt, Turns}
 
 -- ---- a turn takes one request off the queue
-module _ (p d p' d' row : List ℕ) (w : Whole p d) (x : Turned) (h : Turns p d p' d' row x) (a : Answer) (e : x ≡ Said a) where
+module _ (p d p' d' row : List ℕ) (w : Whole p d) (x : Code.Option Answer) (h : Turns p d p' d' row x) (a : Answer) (e : x ≡ Code.Some a) where
   turn_is : turn book (state_of p d) ≡ some (record { state = state_of p' d'; answer = book_answer a })
   turn_is = subst (λ y. turn book (state_of p d) ≡ book_turn (state_of p' d') y) e h.turned
 
@@ -38,19 +37,13 @@ module _ (p d p' d' row : List ℕ) (w : Whole p d) (x : Turned) (h : Turns p d 
 pub record Left (p₀ d₀ o₀ : List ℕ) (from : ℕ) (p d o : List ℕ) (end : ℕ) : Type 0 where
   pub whole : Whole p d
   pub room : end + answer_size * queued d ≤ length o
-  pub pages : length p ≡ length p₀
-  pub desk : length d ≡ length d₀
-  pub space : length o ≡ length o₀
   pub state : (worked_of p₀ d₀).state ≡ (worked_of p d).state
   pub answers : written o₀ from (worked_of p₀ d₀).answers ≡ written o end (worked_of p d).answers
   pub ends : from + answer_size * length (worked_of p₀ d₀).answers ≡ end + answer_size * length (worked_of p d).answers
 
-pub left_start : (p d o : List ℕ) (from : ℕ) → Whole p d → from + answer_size * queued d ≤ length o → Left p d o from p d o from
-left_start p d o from w h = record { whole = w; room = h; pages = refl; desk = refl; space = refl; state = refl; answers = refl; ends = refl }
-
-module _ (p₀ d₀ o₀ : List ℕ) (from : ℕ) (p d o : List ℕ) (end : ℕ) (l : Left p₀ d₀ o₀ from p d o end) (p' d' row : List ℕ) (x : Turned)
+module _ (p₀ d₀ o₀ : List ℕ) (from : ℕ) (p d o : List ℕ) (end : ℕ) (l : Left p₀ d₀ o₀ from p d o end) (p' d' row : List ℕ) (x : Code.Option Answer)
     (h : Turns p d p' d' row x) where
-  module _ (a : Answer) (e : x ≡ Said a) where
+  module _ (a : Answer) (e : x ≡ Code.Some a) where
     one : suc (queued d') ≡ queued d
     one = takes_one p d p' d' row l.whole x h a e
 
@@ -69,9 +62,6 @@ module _ (p₀ d₀ o₀ : List ℕ) (from : ℕ) (p d o : List ℕ) (end : ℕ)
         record {
           whole = h.whole;
           room = let r = l.room in omega (arith, one, z);
-          pages = h.whole.pages.size ∙ sym l.whole.pages.size ∙ l.pages;
-          desk = h.whole.size ∙ sym l.whole.size ∙ l.desk;
-          space = z ∙ l.space;
           state = l.state ∙ ap (λ (y : Worked book). y.state) on;
           answers =
               l.answers ∙ ap (λ (y : Worked book). written o end y.answers) on
@@ -79,7 +69,7 @@ module _ (p₀ d₀ o₀ : List ℕ) (from : ℕ) (p d o : List ℕ) (end : ℕ)
           ends = let m = l.ends in omega (arith, n);
         }
 
-  module _ (e : x ≡ Rest) where
+  module _ (e : x ≡ Code.None) where
     still : state_of p' d' ≡ state_of p d
     still = subst (λ y. StillAt y (state_of p d) (state_of p' d')) e h.still
 
@@ -97,20 +87,8 @@ module _ (p₀ d₀ o₀ : List ℕ) (from : ℕ) (p d o : List ℕ) (end : ℕ)
           ends = let m = l.ends in omega (arith, n);
         }
 
-    pub left_rests : Rested p' d' row
-    left_rests = record {
-      rest = subst (AtRest book) (sym still) (subst (λ y. turn book (state_of p d) ≡ book_turn (state_of p' d') y) e h.turned);
-      rows = subst (λ y. RowsAt y p' d' row) e h.rows;
-    }
-
     pub left_space : RoomLeft d' o end
     unfolding state_of
     left_space =
         let r = l.room in
         record { room = omega (arith, sym (length_queue d') ∙ ap (λ (s : St book). length s.queue) still ∙ length_queue d) }
-
-    pub left_pages : length p' ≡ length p₀
-    left_pages = h.whole.pages.size ∙ sym l.whole.pages.size ∙ l.pages
-
-    pub left_desk : length d' ≡ length d₀
-    left_desk = h.whole.size ∙ sym l.whole.size ∙ l.desk

@@ -1,6 +1,7 @@
 -- What is left, and written, where the queue is worked: a turn, and the queue at rest. Not for readers of the promises. Assumes nothing.
 use Rattle.std.specs.Prelude.{ℕ, ◌+◌, ◌*◌, ◌≤◌, ◌≡◌, List, length}
 use Rattle.std.proofs.Math.Option.{Option, none, some}
+use Rattle.std.specs.Prelude as Code
 use Rattle.limits.specs.Limits.{answer_size}
 use Rattle.rules.specs.Queue.{St}
 use Rattle.rules.specs.Runs.{circle, unmoved, left, Turn, turn, Worked, worked, AtRest}
@@ -11,8 +12,6 @@ use Rattle.queue.specs.QueueLayout.{queued, queued_at}
 use Rattle.states.specs.States.{book, state_of}
 use Rattle.states.specs.Whole.{Whole, Says}
 use Rattle.waits.specs.Blocks.{Rows}
-use Rattle.turns.specs.declared.Turned.{Turned}
-use Rattle.turns.specs.declared.Turned.TheVariants as TV
 
 -- from the picture p d, with the answers written into o from place `at` on: the picture p' d' says where w leads, and r is where they end
 pub record Wrote (o : List ℕ) (at : ℕ) (w : Worked book) (p' d' o' : List ℕ) (r : ℕ) : Type 0 where
@@ -42,21 +41,21 @@ pub record GaveWay (p d d' : List ℕ) (q : ℕ) (r : Answer) : Type 0 where
   pub answer : book_answer r ≡ (way_at p d q).answer
 
 -- one turn of the queue, to the state s
-abbrev pub book_turn : St book → Turned → Option (Turn book)
-book_turn s (TV.Said a) = some (record { state = s; answer = book_answer a })
-book_turn s TV.Rest = none
+abbrev pub book_turn : St book → Code.Option Answer → Option (Turn book)
+book_turn s (Code.Some a) = some (record { state = s; answer = book_answer a })
+book_turn s Code.None = none
 
 -- at rest nothing has moved
-abbrev pub StillAt : Turned → St book → St book → Type 0
-StillAt (TV.Said a) s s' = Unit {0}
-StillAt TV.Rest s s' = s' ≡ s
+abbrev pub StillAt : Code.Option Answer → St book → St book → Type 0
+StillAt (Code.Some a) s s' = Unit {0}
+StillAt Code.None s s' = s' ≡ s
 
 -- and the row has all who block each request
-abbrev pub RowsAt : Turned → List ℕ → List ℕ → List ℕ → Type 0
-RowsAt (TV.Said a) p d row = Unit {0}
-RowsAt TV.Rest p d row = Rows p d row
+abbrev pub RowsAt : Code.Option Answer → List ℕ → List ℕ → List ℕ → Type 0
+RowsAt (Code.Some a) p d row = Unit {0}
+RowsAt Code.None p d row = Rows p d row
 
-pub record Turns (p d p' d' row : List ℕ) (r : Turned) : Type 0 where
+pub record Turns (p d p' d' row : List ℕ) (r : Code.Option Answer) : Type 0 where
   pub whole : Whole p' d'
   pub turned : turn book (state_of p d) ≡ book_turn (state_of p' d') r
   pub still : StillAt r (state_of p d) (state_of p' d')

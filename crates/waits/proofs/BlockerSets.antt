@@ -1,23 +1,23 @@
 -- All who block a request as a set: the holders a slot at a time, the earlier ones a place at a time, and both together.
 -- Who is collected so far are the rule book's blockers of the slots, or of the places, that are passed. Assumes nothing.
 use Prim.Native.Nat.{ℕ, ◌+◌, ◌≤◌, ◌<◌}
-use mathlib.Core.Path.{◌≡◌, refl, sym, ap, ap₂, subst, ◌∙◌}
-use mathlib.Core.Bool.{Bool, true, false, cond, not, false≢true, ◌||◌}
+use Rattle.std.specs.Prelude as Code
+use mathlib.Core.Path.{◌≡◌, refl, sym, ap, subst, ◌∙◌}
+use mathlib.Core.Bool.{Bool, true, false, cond, not, ◌&&◌, ◌||◌}
 use mathlib.Core.List.{List, [], ◌∷◌, ◌++◌, map, append-nil}
 use mathlib.Core.Option.{Option, none, some}
 use native.Mathlib.Omega.{arith}
 use borrow.Author.Tests.{lt-ltb, le-ltb}
 use lib.Bits.{bit_or}
-use lib.Dec.{ltb}
-use Rattle.limits.specs.Limits.{transactions_most, locks_most}
+use lib.Dec.{eqb, ltb}
+use Rattle.limits.specs.Limits.{locks_most}
 use Rattle.lists.specs.Lists.{keep, member, tab}
 use Rattle.lists.proofs.Tests.{any_append, keep_append}
 use Rattle.lists.proofs.Joins.{map_append}
 use Rattle.lists.proofs.Tables.{tab_last}
-use Rattle.rules.specs.Kinds.{Name, Mode, Lock, Queued}
+use Rattle.rules.specs.Kinds.{Lock, Queued}
 use Rattle.rules.specs.Entries.{is_there}
 use Rattle.rules.specs.Locks as K
-use Rattle.locks.specs.declared.Slot.{Slot}
 use Rattle.queue.specs.QueueLayout.{queued, in_place, queued_at}
 use Rattle.locks.specs.SlotLayout.{slot_at, slots_of, book_slot}
 use Rattle.locks.specs.SlotMoves.{is_slot_of, is_slot_against, held_in, free_in}
@@ -32,11 +32,12 @@ use Rattle.circles.proofs.Collected.{set_none, with_last}
 use Rattle.waits.specs.declared.Want.{Want}
 use Rattle.waits.specs.declared.Collected.{Collected}
 use Rattle.waits.specs.Choices.{book_want}
-use Rattle.waits.specs.Blocks.{ahead, WantAt, blockers_at, is_rival, HolderKnown, HoldersKnown, holder_of, with_holder, with_rival}
-use Rattle.waits.specs.Slots.{first_to, collected_with, Scanned}
+use Rattle.waits.specs.Blocks.{ahead, WantAt, blockers_at, is_rival, HolderKnown, HoldersKnown, with_holder, with_rival}
+use Rattle.waits.specs.Slots.{collected_with, Scanned}
 use Rattle.waits.proofs.QueueKnown.{whole_order}
-use Rattle.waits.proofs.Blocks.{paging, holds_by, blockers_are}
+use Rattle.waits.proofs.Blocks.{paging, rival_at, holds_by, blockers_are}
 use Rattle.waits.proofs.Scanning.{place_to, place_start}
+use Rattle.locks.specs.declared.Lock as CodeLock
 
 -- ---- lists and sets
 module _ (m : ℕ) (us : List ℕ) (s : SetOf m us) where
@@ -56,26 +57,7 @@ module _ (m : ℕ) (us : List ℕ) (s : SetOf m us) where
   set_more false t h = subst (SetOf m) (sym (append-nil us)) s
 
 -- ---- the holders, slot by slot
-module _ (t : ℕ) (w : K.Want book) (x : Option (Lock ℕ)) (b : Bool) (a : b ≡ is_slot_against t w.name w.mode x) where
-  pub slot_against : (m r u : ℕ) → b ≡ true → u ≡ holder_of x → r ≡ with_one m u → r ≡ with_holder m t w x
-  slot_against m r u y e q = q ∙ ap (with_one m) e ∙ sym (ap (λ z. cond z (with_one m (holder_of x)) m) (sym a ∙ y))
-
-  pub slot_not : (m : ℕ) → b ≡ false → m ≡ with_holder m t w x
-  slot_not m y = sym (ap (λ z. cond z (with_one m (holder_of x)) m) (sym a ∙ y))
-
-module _ (t : ℕ) (n : Name ℕ) (m : Mode) (x : Option (Lock ℕ)) (k : HolderKnown x) where
-  held : (y : Option (Lock ℕ)) → x ≡ y → is_slot_against t n m y ≡ true → (1 ≤ holder_of y) × (holder_of y ≤ transactions_most)
-  held none q z = absurd (false≢true z)
-  held (some l) q z = (k.low l q, k.high l q)
-
-  module _ (b : Bool) (a : b ≡ is_slot_against t n m x) (y : b ≡ true) (u : ℕ) (e : u ≡ holder_of x) where
-    pub holder_low : 1 ≤ u
-    holder_low = omega (arith, (held x refl (sym a ∙ y)).0)
-
-    pub holder_fits : u ≤ 64
-    holder_fits = omega (arith, (held x refl (sym a ∙ y)).1)
-
-pub holder_at : (d : List ℕ) (i : ℕ) (slot : Slot) → HoldersKnown d → i < locks_most → book_slot slot ≡ slot_at d i → HolderKnown (book_slot slot)
+pub holder_at : (d : List ℕ) (i : ℕ) (slot : Code.Option CodeLock.Lock) → HoldersKnown d → i < locks_most → book_slot slot ≡ slot_at d i → HolderKnown (book_slot slot)
 holder_at d i slot k h e = subst HolderKnown (sym e) (k.each i h)
 
 module _ (t : ℕ) (w : K.Want book) where
@@ -108,7 +90,7 @@ module _ (d : List ℕ) (t : ℕ) (w : K.Want book) where
   scan_start =
       record { against = set_none; own = place_start (is_slot_of t w.name) (slot_at d); free = place_start (λ x. not (is_there x)) (slot_at d) }
 
-  pub scan_turn : (i : ℕ) (c r : Collected) (x : Slot) → HoldersKnown d → i < locks_most → book_slot x ≡ slot_at d i
+  pub scan_turn : (i : ℕ) (c r : Collected) (x : Code.Option CodeLock.Lock) → HoldersKnown d → i < locks_most → book_slot x ≡ slot_at d i
       → r ≡ collected_with c i t w (book_slot x) → Scanned d t w i c → Scanned d t w (i + 1) r
   scan_turn i c r x k h e f s =
       let us = K.holders book (tab i 0 (slot_at d)) t w in
@@ -121,9 +103,6 @@ module _ (d : List ℕ) (t : ℕ) (w : K.Want book) where
         free = place_to (λ y. not (is_there y)) (slot_at d) i c.free (not (is_there (book_slot x))) (ap (λ y. not (is_there y)) e) s.free;
       })
 
-  pub scan_end : (i : ℕ) (c : Collected) → locks_most ≤ i → i ≤ locks_most → Scanned d t w i c → Scanned d t w locks_most c
-  scan_end i c h l s = let e : i ≡ locks_most = omega arith in subst (λ n. Scanned d t w n c) e s
-
   module _ (c : Collected) (s : Scanned d t w locks_most c) where
     pub scanned_own : c.own ≡ held_in d t w.name
     unfolding held_in slots_of
@@ -133,26 +112,18 @@ module _ (d : List ℕ) (t : ℕ) (w : K.Want book) where
     unfolding free_in slots_of
     scanned_free = s.free
 
-pub collected_next : (c : Collected) (i t m k j : ℕ) (w : K.Want book) (x : Slot) (a b : Bool) → m ≡ with_holder c.against t w (book_slot x)
-    → a ≡ is_slot_of t w.name (book_slot x) → k ≡ first_to c.own i a → b ≡ not (is_there (book_slot x)) → j ≡ first_to c.free i b
-    → ◌≡◌ {A = Collected} (record { against = m; own = k; free = j }) (collected_with c i t w (book_slot x))
-collected_next c i t m k j w x a b e f g h l =
-    ap₂ (λ y z. record { against = y; own = z; free = j }) e (g ∙ ap (first_to c.own i) f)
-    ∙ ap (λ z. record { against = with_holder c.against t w (book_slot x); own = first_to c.own i (is_slot_of t w.name (book_slot x)); free = z })
-    (l ∙ ap (first_to c.free i) h)
-
 -- ---- the earlier ones, place by place
+module _ (p d : List ℕ) (i m : ℕ) (v w : Want) (k : WantAt p d i v) (b : Bool) (e : b ≡ (not (eqb v.asker w.asker) && K.clash book (book_want v) (book_want w))) where
+  pub rival_in : (r : ℕ) → b ≡ true → r ≡ with_one m v.asker → r ≡ with_rival m p w.asker (book_want w) (queued_at d i)
+  unfolding queued_at
+  rival_in r h q = q ∙ ap (with_one m) k.asker ∙ sym (ap (λ x. cond x (with_one m (in_place d i)) m) (sym (rival_at p d i v w b k e) ∙ h))
+
+  pub rival_out : b ≡ false → m ≡ with_rival m p w.asker (book_want w) (queued_at d i)
+  rival_out h = sym (ap (λ x. cond x (with_one m (queued_at d i).asker) m) (sym (rival_at p d i v w b k e) ∙ h))
+
 module _ (p d : List ℕ) (t : ℕ) (w : Want) where
   abbrev earlier : List (Queued ℕ ℕ) → List ℕ
   earlier qs = K.earlier book (entries_in p) qs t (book_want w)
-
-  module _ (i m u : ℕ) (a : u ≡ in_place d i) (b : Bool) (e : b ≡ is_rival p t (book_want w) (queued_at d i)) where
-    pub rival_in : (r : ℕ) → b ≡ true → r ≡ with_one m u → r ≡ with_rival m p t (book_want w) (queued_at d i)
-    unfolding queued_at
-    rival_in r h q = q ∙ ap (with_one m) a ∙ sym (ap (λ x. cond x (with_one m (in_place d i)) m) (sym e ∙ h))
-
-  pub rival_out : (i m : ℕ) (b : Bool) → b ≡ is_rival p t (book_want w) (queued_at d i) → b ≡ false → m ≡ with_rival m p t (book_want w) (queued_at d i)
-  rival_out i m b e h = sym (ap (λ x. cond x (with_one m (queued_at d i).asker) m) (sym e ∙ h))
 
   earlier_last : (qs : List (Queued ℕ ℕ)) (x : Queued ℕ ℕ) → earlier (qs ++ (x ∷ [])) ≡ earlier qs ++ cond (is_rival p t (book_want w) x) (x.asker ∷ []) []
   unfolding K.earlier keep
@@ -178,10 +149,6 @@ module _ (p d : List ℕ) (t : ℕ) (w : Want) where
   rivals_turn i q m r k h l e s =
       rw (e, ← tab_last i (queued_at d), earlier_last (tab i 0 (queued_at d)) (queued_at d i))
       (set_more m (earlier (tab i 0 (queued_at d))) s (is_rival p t (book_want w) (queued_at d i)) (in_place d i) ((whole_order p d k).from i (omega arith)))
-
-  pub rivals_end : (i q m : ℕ) → q ≤ i → i ≤ q → SetOf m (K.earlier book (entries_in p) (ahead d i) t (book_want w))
-      → SetOf m (K.earlier book (entries_in p) (ahead d q) t (book_want w))
-  rivals_end i q m h l s = let e : i ≡ q = omega arith in subst (λ n. SetOf m (K.earlier book (entries_in p) (ahead d n) t (book_want w))) e s
 
 -- ---- both
 module _ (p d : List ℕ) (q : ℕ) (w : Want) (k : WantAt p d q w) (c : Collected) (s : Scanned d w.asker (book_want w) locks_most c) where

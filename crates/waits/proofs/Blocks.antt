@@ -11,9 +11,8 @@ use Rattle.rules.specs.Locks as K
 use Rattle.trees.specs.Trees.{document_sizes}
 use Rattle.trees.specs.Shapes.{tree_paging}
 use Rattle.queue.specs.QueueLayout.{queued_at}
-use Rattle.locks.specs.SlotLayout.{slots_of, book_mode}
+use Rattle.locks.specs.SlotLayout.{slots_of}
 use Rattle.locks.specs.SlotMoves.{held_in}
-use Rattle.locks.proofs.LockValues.{same_name_lem}
 use Rattle.locks.proofs.Takes.{holds_is}
 use Rattle.index.specs.Pictures.{entries_in}
 use Rattle.states.specs.States.{book}
@@ -25,10 +24,6 @@ abbrev pub paging : Paging ℕ
 paging = tree_paging compare 0 document_sizes
 
 -- ---- one want, and one request, against another
-pub clash_at : (v w : Want) (b c : Bool) → b ≡ eqb v.name.0 w.name.0 → c ≡ K.conflict (book_mode v.mode) (book_mode w.mode)
-    → (not (eqb v.asker w.asker) && (b && c)) ≡ (not (eqb v.asker w.asker) && K.clash book (book_want v) (book_want w))
-clash_at v w b c x y = ap₂ (λ u z. not (eqb v.asker w.asker) && (u && z)) (x ∙ sym (same_name_lem paging v.name.0 w.name.0)) y
-
 pub rival_at : (p d : List ℕ) (i : ℕ) (v w : Want) (b : Bool) → WantAt p d i v
     → b ≡ (not (eqb v.asker w.asker) && K.clash book (book_want v) (book_want w)) → b ≡ is_rival p w.asker (book_want w) (queued_at d i)
 unfolding queued_at

@@ -1,14 +1,15 @@
 -- The locks of each transaction, counted in one pass over the table: a slot adds one to its holder's. A free slot adds to nobody's.
 -- Assumes nothing.
 use Prim.Native.Nat.{ℕ, ◌+◌, ◌≤◌, ◌<◌}
-use mathlib.Core.Path.{◌≡◌, refl, sym, ap, subst, ◌∙◌}
+use Rattle.std.specs.Prelude as Code
+use mathlib.Core.Path.{◌≡◌, refl, sym, ap, ◌∙◌}
 use mathlib.Core.Bool.{Bool, true, false, cond}
 use mathlib.Core.List.{List, [], ◌∷◌, ◌++◌}
 use mathlib.Core.Option.{Option, none, some}
 use native.Mathlib.Omega.{arith}
 use borrow.Author.Tests.{eq-eqb, eqb-true, eqb-false}
 use lib.Dec.{eqb}
-use lib.ListN.{length, get_or, set, replicate, length-set, length-replicate}
+use lib.ListN.{get_or, set, replicate, length-set, length-replicate}
 use lib.Seq.{get_or-set_same, get_or-set_other}
 use Rattle.limits.specs.Limits.{transactions_most, locks_most}
 use Rattle.lists.specs.Lists.{times, tab}
@@ -17,11 +18,11 @@ use Rattle.lists.proofs.Places.{get_d_alike}
 use Rattle.rules.specs.Kinds.{Lock}
 use Rattle.rules.specs.Locks as K
 use Rattle.rules.specs.Queue.{locks_held}
-use Rattle.locks.specs.declared.Slot.{Slot}
 use Rattle.locks.specs.SlotLayout.{slot_at, book_slot}
 use Rattle.states.specs.States.{book}
 use Rattle.waits.specs.Blocks.{HolderKnown, HoldersKnown, holder_of}
 use Rattle.waits.specs.Weights.{CountedTo}
+use Rattle.locks.specs.declared.Lock as CodeLock
 
 -- ---- what one slot adds
 abbrev once : Bool → ℕ
@@ -39,27 +40,24 @@ held_last t (none ∷ xs) x = held_last t xs x
 held_last t (some l ∷ xs) x = let r = held_last t xs x in omega arith
 
 module _ (d : List ℕ) where
-  pub counted_start : (counts₀ counts : List ℕ) → length counts₀ ≡ transactions_most + 1 → counts ≡ replicate (length counts₀) 0 → CountedTo d counts 0
+  pub counted_start : CountedTo d (replicate (transactions_most + 1) 0) 0
   unfolding tab locks_held K.in_use times
-  counted_start counts₀ counts h e =
-      let nothing : (t : ℕ) → get_or counts t 0 ≡ 0 = λ t. ap (λ c. get_or c t 0) e ∙ get_d_alike (length counts₀) t 0 in
+  counted_start =
+      let nothing : (t : ℕ) → get_or (replicate (transactions_most + 1) 0) t 0 ≡ 0 = λ t. get_d_alike (transactions_most + 1) t 0 in
       record {
-        long = ap length e ∙ length-replicate (length counts₀) 0 ∙ h;
+        long = length-replicate {A = ℕ} (transactions_most + 1) 0;
         most = λ t. omega (arith, nothing t);
         held = λ t low high. nothing t;
       }
 
-  module _ (counts : List ℕ) (i : ℕ) (c : CountedTo d counts i) (h : i < locks_most) (k : HoldersKnown d) (slot : Slot) (e : book_slot slot ≡ slot_at d i)
+  module _ (counts : List ℕ) (i : ℕ) (c : CountedTo d counts i) (h : i < locks_most) (k : HoldersKnown d) (slot : Code.Option CodeLock.Lock) (e : book_slot slot ≡ slot_at d i)
       (t : ℕ) (a : t ≡ holder_of (book_slot slot)) where
     holder_most : (x : Option (Lock ℕ)) → HolderKnown x → holder_of x ≤ transactions_most
     holder_most none y = omega arith
     holder_most (some l) y = y.high l refl
 
-    pub holder_counted : t < length counts
-    holder_counted = omega (arith, c.long, a, ap holder_of e, holder_most (slot_at d i) (k.each i h))
-
-    pub count_fits : get_or counts t 0 + 1 < 18446744073709551616
-    count_fits = omega (arith, c.most t)
+    pub holder_counted : t < transactions_most + 1
+    holder_counted = omega (arith, a, ap holder_of e, holder_most (slot_at d i) (k.each i h))
 
     pub counted_turn : (counts' : List ℕ) → counts' ≡ set counts t (get_or counts t 0 + 1) → CountedTo d counts' (i + 1)
     counted_turn counts' q =
@@ -74,7 +72,7 @@ module _ (d : List ℕ) where
         now = set counts t (get_or counts t 0 + 1)
 
         mine : (u : ℕ) → u ≡ t → get_or now u 0 ≡ get_or counts u 0 + 1
-        mine u s = rw s (get_or-set_same counts t (get_or counts t 0 + 1) 0 holder_counted)
+        mine u s = rw s (get_or-set_same counts t (get_or counts t 0 + 1) 0 (omega (arith, c.long, holder_counted)))
 
         other : (u : ℕ) → eqb u t ≡ false → get_or now u 0 ≡ get_or counts u 0
         other u s = get_or-set_other counts t u (get_or counts t 0 + 1) 0 (λ z. eqb-false u t s z)
@@ -104,6 +102,3 @@ module _ (d : List ℕ) where
         held u low high false s =
             let z : one u (slot_at d i) ≡ 0 = adds u (slot_at d i) low false (ap (eqb u) (sym holder) ∙ s) in
             omega (arith, other u s, c.held u low high, z)
-
-  pub counted_end : (counts : List ℕ) (i : ℕ) → CountedTo d counts i → i ≤ locks_most → locks_most ≤ i → CountedTo d counts locks_most
-  counted_end counts i c l h = let z : i ≡ locks_most = omega arith in subst (CountedTo d counts) z c

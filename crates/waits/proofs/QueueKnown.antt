@@ -1,6 +1,6 @@
 -- What a whole picture says of its queue and its locks: how many wait, who stands at a place, who holds a slot.
 -- By the rule book's invariants: whoever waits or holds runs, and is a transaction.
-use Prim.Native.Nat.{ℕ, ◌+◌, ◌≤◌, ◌<◌, compare}
+use Prim.Native.Nat.{ℕ, ◌≤◌, ◌<◌, compare}
 use mathlib.Core.Path.{◌≡◌, refl, subst}
 use mathlib.Core.Logic.{inl, inr}
 use mathlib.Core.Bool.{true}
@@ -42,12 +42,6 @@ module _ (p d : List ℕ) (w : Whole p d) where
   pub whole_order : InOrder d
   unfolding state_of
   whole_order = in_order (tree_paging compare 0 document_sizes) (state_of p d) w.values d refl
-
-  pub place_under : (n q : ℕ) → n ≡ queued d → q < n → q < transactions_most
-  place_under n q e h = omega (arith, whole_order.few)
-
-  pub asker_under : (n q t : ℕ) → n ≡ queued d → q < n → t ≡ in_place d q → t < transactions_most + 1
-  asker_under n q t e h a = omega (arith, whole_order.to q (omega arith))
 
   holder_known : (i : ℕ) (l : Lock ℕ) → i < locks_most → slot_at d i ≡ some l → is_transaction book l.holder ≡ true
   unfolding state_of slots_of lock_stands

@@ -2,20 +2,11 @@
 -- there is none. Assumes nothing.
 use Prim.Native.Nat.{ℕ, ◌+◌}
 use mathlib.Core.Path.{◌≡◌, refl, sym, ap, ap₂, ◌∙◌}
-use mathlib.Core.Bool.{Bool, true, false, cond, not, ◌&&◌}
-use lib.Dec.{eqb}
+use mathlib.Core.Bool.{Bool}
 use Rattle.lists.specs.Lists.{place, tab}
 use Rattle.lists.proofs.Tables.{tab_last, length_tab}
 use Rattle.lists.proofs.Scans.{place_last}
 use Rattle.waits.specs.Slots.{first_to}
-
--- ---- the first place to pass a test
-module _ (k i : ℕ) (b : Bool) where
-  pub first_next : (eqb k i && not b) ≡ true → i + 1 ≡ first_to k i b
-  first_next e = sym (ap (λ c. cond c (i + 1) k) e)
-
-  pub first_stays : (eqb k i && not b) ≡ false → k ≡ first_to k i b
-  first_stays e = sym (ap (λ c. cond c (i + 1) k) e)
 
 module _ {A : Type 0} (p : A → Bool) where
   pub place_to : (f : ℕ → A) (i k : ℕ) (b : Bool) → b ≡ p (f i) → k ≡ place p (tab i 0 f) → first_to k i b ≡ place p (tab (i + 1) 0 f)

@@ -1,6 +1,6 @@
 -- The waits of the queue's places, and the rows, which are filled in the queue's order: who is queued at a place has all those of the places before
 -- it ahead. Assumes nothing.
-use Prim.Native.Nat.{ℕ, ◌+◌, ◌-◌, ◌≤◌, ◌<◌}
+use Prim.Native.Nat.{ℕ, ◌+◌, ◌-◌, ◌<◌}
 use mathlib.Core.Path.{◌≡◌, refl, sym, ap, subst, ◌∙◌}
 use mathlib.Core.Logic.{inl}
 use mathlib.Core.Bool.{true}
@@ -24,10 +24,7 @@ use Rattle.states.specs.Whole.{Whole}
 use Rattle.circles.specs.CircleSets.{SetOf, RowOf}
 use Rattle.circles.proofs.Collected.{row_none, row_queued}
 use Rattle.waits.specs.declared.Want.{Want}
-use Rattle.waits.specs.declared.Next.{Next}
-use Rattle.waits.specs.declared.Turn.{Turn}
-use Rattle.waits.specs.declared.Turn.TheVariants.{Runs, Nobody}
-use Rattle.waits.specs.Blocks.{ahead, WantAt, blockers_at, waits_to, RowTo, Rows, RowsIn}
+use Rattle.waits.specs.Blocks.{ahead, WantAt, blockers_at, waits_to, RowTo, Rows}
 use Rattle.waits.proofs.QueueKnown.{whole_order}
 use Rattle.waits.proofs.Queue.{wait_at, ahead_next}
 
@@ -83,8 +80,8 @@ module _ (p d : List ℕ) where
       (row_queued book (entries_in p) (slots_of d) (ahead d q) (queued_at d q) (tab (queued d - (q + 1)) (q + 1) (queued_at d)) row m differ low s r)
 
   module _ (row : List ℕ) (q t : ℕ) (v : Want) (k : Whole p d) (h : q < queued d) (x : WantAt p d q v) (a : t ≡ v.asker) (r : RowTo p d row q) where
-    pub asker_in_lem : t < length row
-    asker_in_lem = omega (arith, r.long, (whole_order p d k).to q h, x.asker)
+    pub asker_in_lem : t < transactions_most + 1
+    asker_in_lem = omega (arith, (whole_order p d k).to q h, x.asker)
 
     pub rows_next : (m : ℕ) → SetOf m (blockers_at p d q) → RowTo p d (set row t m) (q + 1)
     rows_next m s =
@@ -93,13 +90,5 @@ module _ (p d : List ℕ) where
           links = subst (λ u. RowOf book (set row u m) (waits_to p d (q + 1))) (sym (a ∙ x.asker)) (rows_turn row q m k h s r.long r.links);
         }
 
-  pub rows_end : (row : List ℕ) (n q : ℕ) (turn : Turn) → n ≡ queued d → n ≤ q → q ≤ n → RowTo p d row q → turn ≡ Nobody → RowsIn p d row turn
-  rows_end row n q turn e h l r f =
-      let same : q ≡ queued d = omega arith in
-      rw f (record { long = r.long; links = subst (RowOf book row) (ap (waits_to p d) same ∙ waits_all) r.links })
-
-  pub rows_left : (row : List ℕ) (turn : Turn) (x : Next) → turn ≡ Runs x → RowsIn p d row turn
-  rows_left row turn x e = rw e tt
-
-pub rows_fit : (p d row : List ℕ) → Rows p d row → length row ≤ 65
-rows_fit p d row r = omega (arith, r.long)
+  pub rows_end : (row : List ℕ) (q : ℕ) → q ≡ queued d → RowTo p d row q → Rows p d row
+  rows_end row q e r = record { long = r.long; links = subst (RowOf book row) (ap (waits_to p d) e ∙ waits_all) r.links }

@@ -1,15 +1,17 @@
 -- What a request wants: the search for its target is the rule book's, and so are the name and the mode that the code makes of it.
--- A search for nobody skips no ghost, one for a transaction only its own; a key of the index is never the end mark.
+-- A search for a transaction skips only its own ghosts; a key of the index is never the end mark.
 use Prim.Native.Nat.{ℕ, ◌≤◌}
+use Rattle.std.specs.Prelude as Code
 use mathlib.Core.Path.{◌≡◌, refl, sym, ap, ap₂, ◌∙◌}
-use mathlib.Core.Bool.{Bool, true, false, not, ◌&&◌, ◌||◌}
+use mathlib.Core.Logic.{◌⊎◌, inl, inr}
+use mathlib.Core.Bool.{true, false, not, ◌&&◌, ◌||◌}
 use mathlib.Core.List.{List}
 use mathlib.Core.Option.{Option, none, some}
 use native.Mathlib.Omega.{arith}
 use borrow.Author.Tests.{ne_eqb, ltb-true}
 use lib.Dec.{leb, eqb, ltb}
 use Rattle.lists.specs.Lists.{all, first, pairs}
-use Rattle.lists.proofs.Tests.{and_right, first_same}
+use Rattle.lists.proofs.Tests.{and_right}
 use Rattle.lists.proofs.Elements.{all_in}
 use Rattle.rules.specs.Kinds.{Entry, S, X, Ask, Queued}
 use Rattle.rules.specs.Entries.{ghost}
@@ -25,8 +27,6 @@ use Rattle.requests.specs.RequestMeaning.{book_ask}
 use Rattle.locks.specs.declared.Mode as M
 use Rattle.locks.specs.SlotLayout.{name_in, name_number, book_mode}
 use Rattle.queue.specs.QueueLayout.{ask_at, in_place, queued_at}
-use Rattle.index.specs.declared.Found.{Found}
-use Rattle.index.specs.declared.Found.TheVariants.{Here}
 use Rattle.index.specs.Pictures.{entries_in}
 use Rattle.index.specs.Searches.{seeks, book_found}
 use Rattle.states.specs.States.{book}
@@ -37,19 +37,7 @@ use Rattle.waits.specs.Choices.{book_want}
 use Rattle.waits.specs.Blocks.{target_at, WantAt}
 
 -- ---- the searches
--- nobody has no ghosts
-plainly : (a b c d : Bool) → (a && (b || not ((not true && c) && d))) ≡ a
-plainly true true c d = refl
-plainly true false c d = refl
-plainly false b c d = refl
-
-pub plain_found : (es : List (Entry ℕ ℕ)) (key : Key) (r : Found) → book_found r ≡ first (seeks (record { lo = key; hi = key; asker = 0 })) es
-    → book_found r ≡ first (λ e. leb key.0 e.key) es
-plain_found es key r e =
-    e ∙ first_same (seeks (record { lo = key; hi = key; asker = 0 })) (λ x. leb key.0 x.key)
-    (λ x. plainly (leb key.0 x.key) (not (leb x.key key.0)) (eqb x.owner 0) (ghost x)) es
-
-module _ (es : List (Entry ℕ ℕ)) (t : ℕ) (ask : A.Ask) (r : Found) where
+module _ (es : List (Entry ℕ ℕ)) (t : ℕ) (ask : A.Ask) (r : Code.Option E.Entry) where
   pub read_target : (lo hi : Key) → ask ≡ AV.Read lo hi → 1 ≤ t → book_found r ≡ first (seeks (record { lo = lo; hi = hi; asker = t })) es
       → book_found r ≡ target book es t (book_ask ask)
   unfolding target
@@ -58,24 +46,13 @@ module _ (es : List (Entry ℕ ℕ)) (t : ℕ) (ask : A.Ask) (r : Found) where
       rw a
       (e ∙ ap (λ b. first (λ x. leb lo.0 x.key && (not (leb x.key hi.0) || not ((not b && eqb x.owner t) && ghost x))) es) z)
 
-  pub insert_target : (key : Key) (rec : ℕ) → ask ≡ AV.Insert key rec → book_found r ≡ first (λ e. leb key.0 e.key) es
+  pub change_target : (key : Key) → ((rec : ℕ) × (ask ≡ AV.Insert key rec)) ⊎ (ask ≡ AV.Delete key) → book_found r ≡ first (λ e. leb key.0 e.key) es
       → book_found r ≡ target book es t (book_ask ask)
   unfolding target
-  insert_target key rec a e = rw a e
+  change_target key (inl a) e = rw a.1 e
+  change_target key (inr a) e = rw a e
 
-  pub delete_target : (key : Key) → ask ≡ AV.Delete key → book_found r ≡ first (λ e. leb key.0 e.key) es
-      → book_found r ≡ target book es t (book_ask ask)
-  unfolding target
-  delete_target key a e = rw a e
-
--- ---- the mode: by whether the target is of the key, and by the request
-module _ (found : Found) (key : Key) (there otherwise : M.Mode) (e : E.Entry) (f : found ≡ Here e) (b : Bool) (q : b ≡ eqb e.key.0 key.0) where
-  pub mode_there : b ≡ true → book_mode there ≡ mode_if book (book_mode there) (book_mode otherwise) (itself book key.0 (book_found found))
-  mode_there h = let s : eqb e.key.0 key.0 ≡ true = sym q ∙ h in rw (f, s)
-
-  pub mode_otherwise : b ≡ false → book_mode otherwise ≡ mode_if book (book_mode there) (book_mode otherwise) (itself book key.0 (book_found found))
-  mode_otherwise h = let s : eqb e.key.0 key.0 ≡ false = sym q ∙ h in rw (f, s)
-
+-- ---- the mode, by the request
 module _ (ask : A.Ask) (x : Option (Entry ℕ ℕ)) where
   pub read_mode : (lo hi : Key) → ask ≡ AV.Read lo hi → S ≡ mode book (book_ask ask) x
   unfolding mode
@@ -102,7 +79,7 @@ named_fits es h t a = go (target book es t a) refl
         ltb-true x.key end_mark
         (all_in (λ y. ltb y.key end_mark) es x (and_right (pairs (below book) es) (all (λ y. ltb y.key end_mark) es) h) (target_in book es t a x e))
 
-want_is : (es : List (Entry ℕ ℕ)) (t : ℕ) (ask : A.Ask) (found : Found) (w : Want) → ascending book es ≡ true
+want_is : (es : List (Entry ℕ ℕ)) (t : ℕ) (ask : A.Ask) (found : Code.Option E.Entry) (w : Want) → ascending book es ≡ true
     → book_found found ≡ target book es t (book_ask ask) → w.name.0 ≡ name_number (named book (book_found found))
     → book_mode w.mode ≡ mode book (book_ask ask) (book_found found)
     → book_want w ≡ wanted book es (record { asker = t; asks = book_ask ask })
@@ -114,7 +91,7 @@ want_is es t ask found w h e n m =
     (m ∙ ap (mode book (book_ask ask)) e)
 
 -- ---- the request at a place of the queue
-module _ (p d : List ℕ) (q t : ℕ) (ask : A.Ask) (found : Found) (e : t ≡ in_place d q) (a : book_ask ask ≡ ask_at d t) where
+module _ (p d : List ℕ) (q t : ℕ) (ask : A.Ask) (found : Code.Option E.Entry) (e : t ≡ in_place d q) (a : book_ask ask ≡ ask_at d t) where
   asked : ◌≡◌ {A = Queued ℕ ℕ} (record { asker = t; asks = book_ask ask }) (queued_at d q)
   unfolding queued_at
   asked = ap (λ x. record { asker = t; asks = x }) a ∙ ap (λ u. record { asker = u; asks = ask_at d u }) e

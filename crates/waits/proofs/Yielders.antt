@@ -1,6 +1,7 @@
 -- The request that gives way, place by place: the lightest of those on a circle that stand before a place, with the one at that place.
 -- Assumes nothing.
-use Prim.Native.Nat.{ℕ, ◌+◌, ◌≤◌, ◌<◌}
+use Prim.Native.Nat.{ℕ, zero, suc, ◌+◌, ◌≤◌, ◌<◌}
+use Rattle.std.specs.Prelude as Code
 use mathlib.Core.Path.{◌≡◌, refl, sym, ap, subst, ◌∙◌}
 use mathlib.Core.Bool.{Bool, true, false, cond}
 use mathlib.Core.List.{List}
@@ -8,6 +9,14 @@ use mathlib.Core.Option.{Option, none, some}
 use native.Mathlib.Omega.{arith}
 use borrow.Author.Tests.{le-leb, lt-leb}
 use lib.ListN.{length, get_or}
+use denote.Ref.{Bor}
+use denote.Param.Members.{Mut}
+use Rattle.std.specs.declared.ops.Range.{Range}
+use Rattle.std.specs.Fn.{CalledAt}
+use Rattle.std.specs.Iterator.{FindsItem}
+use Rattle.std.specs.Option.{MatchOption, unwrap_or}
+use Rattle.std.proofs.iter.Yields.{nat_range_steps}
+use Rattle.std.proofs.lemmas.Iterator.{first_from_Range}
 use Rattle.limits.specs.Limits.{transactions_most, locks_most}
 use Rattle.lists.specs.Lists.{lightest, tab}
 use Rattle.lists.proofs.Lightest.{newer, lightest_last}
@@ -19,7 +28,6 @@ use Rattle.states.specs.Whole.{Whole}
 use Rattle.circles.specs.Search.{circle_on}
 use Rattle.circles.proofs.WaitsKnown.{waits_known}
 use Rattle.circles.proofs.Links.{circle_is}
-use Rattle.waits.specs.declared.Place.TheVariants.{At, Nowhere}
 use Rattle.waits.specs.declared.Yielding.{Yielding}
 use Rattle.waits.specs.Choices.{Chosen, LightestAt}
 use Rattle.waits.specs.Blocks.{ahead, waits_to, Rows}
@@ -27,9 +35,6 @@ use Rattle.waits.specs.Weights.{CountedTo, lightest_to, held_by, BestTo, nobody_
 use Rattle.waits.proofs.QueueKnown.{whole_order}
 use Rattle.waits.proofs.Queue.{wait_at}
 use Rattle.waits.proofs.WaitRows.{waits_next, waits_all, wait_in}
-
-pub circle_at : (d row : List ℕ) (q t : ℕ) (b : Bool) → t ≡ in_place d q → b ≡ circle_on row t → b ≡ circle_on row (in_place d q)
-circle_at d row q t b e c = c ∙ ap (circle_on row) e
 
 module _ (p d : List ℕ) where
   abbrev on : Wait book → Bool
@@ -45,9 +50,6 @@ module _ (p d : List ℕ) where
   unfolding lightest_to waits_to waits_from ahead tab lightest
   nobody_start = record { inside = omega arith; nobody = record { chosen = record { inside = tt; request = refl }; held = refl } }
 
-  pub best_start : (q : ℕ) (y : Yielding) → NobodyTo p d q → y ≡ nobody_yet → BestTo p d q y
-  best_start q y h e = subst (BestTo p d q) (sym e) h.nobody
-
   pub best_end : (n q : ℕ) (y : Yielding) → BestTo p d q y → n ≡ queued d → q ≤ n → n ≤ q → LightestAt p d y.place
   unfolding lightest_to yields
   best_end n q y b e l h =
@@ -55,12 +57,8 @@ module _ (p d : List ℕ) where
       subst (λ c. Chosen d c y.place) (ap (lightest_to p d) z ∙ ap (lightest on held) (waits_all p d)) b.chosen
 
   -- where none is found
-  module _ (n q : ℕ) (e : n ≡ queued d) (z : NobodyTo p d q) (h : n ≤ q) where
-    pub nobody_end : NobodyTo p d n
-    nobody_end = let m = z.inside in let same : q ≡ n = omega arith in subst (NobodyTo p d) same z
-
-    pub nobody_gives_way : LightestAt p d Nowhere
-    nobody_gives_way = let m = z.inside in best_end n q nobody_yet z.nobody e (omega arith) h
+  pub nobody_gives_way : (n : ℕ) → n ≡ queued d → NobodyTo p d n → LightestAt p d Code.None
+  nobody_gives_way n e z = best_end n n nobody_yet z.nobody e (omega arith) (omega arith)
 
   pub looked_under : (q : ℕ) → Whole p d → q < queued d → q < transactions_most
   looked_under q k h = omega (arith, (whole_order p d k).few)
@@ -72,8 +70,8 @@ module _ (p d : List ℕ) where
     pub looked_high : (row : List ℕ) → Rows p d row → t < length row
     looked_high row r = omega (arith, (whole_order p d k).to q h, r.long)
 
-    pub looked_counted : (counts : List ℕ) (i : ℕ) → CountedTo d counts i → t < length counts
-    looked_counted counts i n = omega (arith, (whole_order p d k).to q h, n.long)
+    pub looked_counted : t < transactions_most + 1
+    looked_counted = omega (arith, (whole_order p d k).to q h)
 
   module _ (q : ℕ) (k : Whole p d) (h : q < queued d) (row : List ℕ) (r : Rows p d row) where
     module _ (y : Yielding) (best : BestTo p d q y) (b : Bool) (c : b ≡ circle_on row (in_place d q)) where
@@ -119,9 +117,9 @@ module _ (p d : List ℕ) where
                 (subst (λ c. Chosen d c y.place) u best.chosen) (best.held ∙ ap (held_by p d) u)
 
         -- none before it is, or none lies on a circle
-        pub best_here : m ≤ y.held → BestTo p d (q + 1) (record { place = At q; held = m })
+        pub best_here : m ≤ y.held → BestTo p d (q + 1) (record { place = Code.Some q; held = m })
         best_here l =
-            as_best (q + 1) (record { place = At q; held = m }) (some (wait_at p d q)) (weighed ∙ go (lightest_to p d q) refl) (record { inside = h; request = refl }) weighs
+            as_best (q + 1) (record { place = Code.Some q; held = m }) (some (wait_at p d q)) (weighed ∙ go (lightest_to p d q) refl) (record { inside = h; request = refl }) weighs
           where
             go : (o : Option (Wait book)) → lightest_to p d q ≡ o → newer on held (wait_at p d q) o ≡ some (wait_at p d q)
             go none u = refl
@@ -129,8 +127,32 @@ module _ (p d : List ℕ) where
                 let than : held (wait_at p d q) ≤ held w = omega (arith, best.held ∙ ap (held_by p d) u, weighs) in
                 ap (λ l. cond l (some (wait_at p d q)) (some w)) (le-leb (held (wait_at p d q)) (held w) than)
 
-  pub nobody_next : (n q : ℕ) → Whole p d → n ≡ queued d → q < n → (row : List ℕ) → Rows p d row → NobodyTo p d q → (b : Bool)
-      → b ≡ circle_on row (in_place d q) → b ≡ false → NobodyTo p d (q + 1)
-  nobody_next n q k e h row r z b c f =
-      let m : q < queued d = omega arith in
-      record { inside = omega arith; nobody = best_past q k m row r nobody_yet z.nobody b c f }
+  -- where a search through the places asks of each whether it lies on a circle
+  module _ (row : List ℕ) (k : Whole p d) (r : Rows p d row) where
+    nobody_before : (n : ℕ) → n ≤ queued d → ((i : ℕ) → i < n → circle_on row (in_place d i) ≡ false) → NobodyTo p d n
+    nobody_before zero h f = nobody_start
+    nobody_before (suc n) h f =
+        let m : n < queued d = omega arith in
+        let e : n + 1 ≡ suc n = omega arith in
+        let z = nobody_before n (omega arith) (λ i l. f i (omega arith)) in
+        subst (NobodyTo p d) e
+        (record { inside = omega arith; nobody = best_past n k m row r nobody_yet z.nobody (circle_on row (in_place d n)) refl (f n (omega arith)) })
+
+    abbrev Passed : ℕ → ℕ → Type 0
+    Passed a q = (i : ℕ) → a ≤ i → i < q → circle_on row (in_place d i) ≡ false
+
+    -- `find`, where each call answers so: none before the place that it answers lies on a circle, and none at all where it answers nothing
+    module _ {F : Type 0} {g : Mut F (Bor ℕ × Unit {0}) Bool} {s : Range ℕ} (u : Range ℕ) {f : F} (o : Code.Option ℕ) (b : s.start ≡ 0) (e : s.end ≡ queued d)
+        (ran : FindsItem nat_range_steps g s f o u) (calls : (x : ℕ) (h : F) → CalledAt g f x false h → (h ≡ f) × (circle_on row (in_place d x) ≡ false)) where
+      found : NobodyTo p d (unwrap_or o s.end)
+      found = go o (first_from_Range s u f o (λ x. Unit {0}) (λ x. circle_on row (in_place d x) ≡ false) ran (λ x h c. tt) calls)
+        where
+          go : (r : Code.Option ℕ) → MatchOption r (Passed s.start s.end) (λ q. (s.start ≤ q) × (q < s.end) × Unit {0} × Passed s.start q) → NobodyTo p d (unwrap_or r s.end)
+          go Code.None l = nobody_before s.end (omega arith) (λ i h. l i (omega arith) h)
+          go (Code.Some q) l = nobody_before q (omega (arith, l.1)) (λ i h. l.3 i (omega arith) h)
+
+      pub none_found : (r : Code.Option ℕ) → o ≡ Code.None → r ≡ Code.None → LightestAt p d r
+      none_found r z y = rw y (nobody_gives_way s.end e (subst (λ r. NobodyTo p d (unwrap_or r s.end)) z found))
+
+      pub one_found : (q : ℕ) → o ≡ Code.Some q → NobodyTo p d q
+      one_found q z = subst (λ r. NobodyTo p d (unwrap_or r s.end)) z found

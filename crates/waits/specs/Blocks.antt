@@ -1,6 +1,7 @@
 -- The queue at one of its places: who is ahead, and who blocks the request there. Assumes nothing.
 use Rattle.std.specs.Prelude.{ℕ, ◌+◌, ◌≤◌, ◌<◌, ◌≡◌, Bool, true, cond, not, ◌&&◌, List, [], eqb, length}
 use Rattle.std.proofs.Math.Option.{Option, none, some}
+use Rattle.std.specs.Prelude as Code
 use Rattle.limits.specs.Limits.{transactions_most, locks_most}
 use Rattle.lists.specs.Lists.{lowest, tab}
 use Rattle.rules.specs.Kinds.{Entry, Queued, Lock}
@@ -16,8 +17,6 @@ use Rattle.circles.specs.CircleSets.{RowOf}
 use Rattle.circles.specs.Search.{with_one}
 use Rattle.waits.specs.declared.Want.{Want}
 use Rattle.waits.specs.declared.Next.{Next}
-use Rattle.waits.specs.declared.Turn.{Turn}
-use Rattle.waits.specs.declared.Turn.TheVariants.{Runs, Nobody}
 use Rattle.waits.specs.Choices.{book_want, Known}
 
 -- the target of the request at a place, and what it wants
@@ -77,9 +76,9 @@ pub record RunsAt (p d : List ℕ) (q : ℕ) (x : Next) : Type 0 where
   pub nobody : lowest (blockers_at p d q) ≡ none
   pub known : Known p d x
 
-abbrev pub TurnAt : List ℕ → List ℕ → ℕ → Turn → Type 0
-TurnAt p d q (Runs x) = RunsAt p d q x
-TurnAt p d q Nobody = is_there (lowest (blockers_at p d q)) ≡ true
+abbrev pub TurnAt : List ℕ → List ℕ → ℕ → Code.Option Next → Type 0
+TurnAt p d q (Code.Some x) = RunsAt p d q x
+TurnAt p d q Code.None = is_there (lowest (blockers_at p d q)) ≡ true
 
 -- for each transaction, at its number, all who block its queued request
 pub record Rows (p d row : List ℕ) : Type 0 where
@@ -87,6 +86,6 @@ pub record Rows (p d row : List ℕ) : Type 0 where
   pub links : RowOf book row (waits book (state_of p d))
 
 -- all of them, where nobody can run
-abbrev pub RowsIn : List ℕ → List ℕ → List ℕ → Turn → Type 0
-RowsIn p d row (Runs x) = Unit {0}
-RowsIn p d row Nobody = Rows p d row
+abbrev pub RowsIn : List ℕ → List ℕ → List ℕ → Code.Option Next → Type 0
+RowsIn p d row (Code.Some x) = Unit {0}
+RowsIn p d row Code.None = Rows p d row

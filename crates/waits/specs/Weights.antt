@@ -1,13 +1,13 @@
 -- How many locks each transaction holds, and which request is the lightest of those looked at (document 02, [14]). Assumes nothing.
 use Rattle.std.specs.Prelude.{ℕ, ◌+◌, ◌≤◌, ◌≡◌, List, length, get_or}
 use Rattle.std.proofs.Math.Option.{Option, none, some}
+use Rattle.std.specs.Prelude as Code
 use Rattle.limits.specs.Limits.{transactions_most, locks_most}
 use Rattle.lists.specs.Lists.{lightest, tab}
 use Rattle.rules.specs.Queue.{Wait, waits, on_circle, locks_held, weight}
 use Rattle.queue.specs.QueueLayout.{queued}
 use Rattle.locks.specs.SlotLayout.{slot_at}
 use Rattle.states.specs.States.{book, state_of}
-use Rattle.waits.specs.declared.Place.TheVariants.{Nowhere}
 use Rattle.waits.specs.declared.Yielding.{Yielding}
 use Rattle.waits.specs.Choices.{Chosen}
 use Rattle.waits.specs.Blocks.{waits_to}
@@ -32,7 +32,7 @@ pub record BestTo (p d : List ℕ) (q : ℕ) (y : Yielding) : Type 0 where
 
 -- none of the requests that stand before a place lies on a circle
 abbrev pub nobody_yet : Yielding
-nobody_yet = record { place = Nowhere; held = locks_most + 1 }
+nobody_yet = record { place = Code.None; held = locks_most + 1 }
 
 pub record NobodyTo (p d : List ℕ) (q : ℕ) : Type 0 where
   pub inside : q ≤ queued d

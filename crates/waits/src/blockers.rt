@@ -10,26 +10,23 @@ ghost use Rattle.states.specs.States.{book};
 ghost use Rattle.states.specs.Whole.{Whole};
 ghost use Rattle.circles.specs.CircleSets.{SetOf};
 ghost use Rattle.waits.specs.Choices.{book_want};
-ghost use Rattle.waits.specs.Blocks.{ahead, WantAt, blockers_at, is_rival, HolderKnown, holder_of, with_holder, with_rival};
+ghost use Rattle.waits.specs.Blocks.{ahead, WantAt, blockers_at, HolderKnown, holder_of, with_holder, with_rival};
 ghost use Rattle.waits.specs.Notes.{Noted};
 ghost use Rattle.waits.specs.Slots.{collected_with, Scanned};
 
-use super::{Collected, Want, notes, slots};
-use limits::LOCKS;
-use locks::Slot;
+use super::{Collected, Want, Wants, slots};
+use limits::{Desk, LOCKS, Pages};
+use locks::Lock;
 
 // Who holds a slot; 0, nobody, where it is free.
-pub fn holder_of(slot: Slot) -> usize
+pub fn holder_of(slot: Option<Lock>) -> usize
     ensures { result ≡ holder_of (book_slot slot) }
 {
-    match slot {
-        Slot::Free => 0,
-        Slot::Held(l) => l.holder as usize,
-    }
+    slot.map_or(0, |lock| lock.holder as usize)
 }
 
 // The set with the holder of a slot, if its lock stands against what is wanted.
-fn with_holder(set: u64, slot: Slot, w: Want) -> u64
+fn with_holder(set: u64, slot: Option<Lock>, w: Want) -> u64
     requires { HolderKnown (book_slot slot) }
     ensures { result ≡ with_holder set w.asker (book_want w) (book_slot slot) }
 {
@@ -40,7 +37,7 @@ fn with_holder(set: u64, slot: Slot, w: Want) -> u64
 }
 
 // What has been collected, with slot i.
-fn collected_with(held: Collected, i: usize, slot: Slot, w: Want) -> Collected
+fn collected_with(held: Collected, i: usize, slot: Option<Lock>, w: Want) -> Collected
     requires i_lt_locks_most { i < locks_most }
     requires holder_known { HolderKnown (book_slot slot) }
     ensures { result ≡ collected_with held i w.asker (book_want w) (book_slot slot) }
@@ -48,12 +45,12 @@ fn collected_with(held: Collected, i: usize, slot: Slot, w: Want) -> Collected
     Collected {
         against: with_holder(held.against, slot, w),
         own: slots::first_to(held.own, i, slots::is_own(slot, w)),
-        free: slots::first_to(held.free, i, slot.is_free()),
+        free: slots::first_to(held.free, i, slot.is_none()),
     }
 }
 
 // Looks at slot i, where those before it have been looked at.
-pub fn see(pages: &[u8], desk: &[u8], i: usize, w: Want, held: Collected) -> Collected
+pub fn see(pages: &Pages, desk: &Desk, i: usize, w: Want, held: Collected) -> Collected
     requires whole { Whole pages.now desk.now }
     requires i_lt_locks_most { i < locks_most }
     requires scanned { Scanned desk.now w.asker (book_want w) i held }
@@ -63,66 +60,46 @@ pub fn see(pages: &[u8], desk: &[u8], i: usize, w: Want, held: Collected) -> Col
     collected_with(held, i, slot, w)
 }
 
-// Whether the request at place i, whose want is noted, is another's and wants the same, in a conflicting mode.
-pub fn is_rival(pages: &[u8], desk: &[u8], names: &[u64], modes: &[u16], i: usize, w: Want) -> bool
+// The set with the one whose request stands at place i, if that is another's and wants the same, in a conflicting mode.
+fn with_rival(set: u64, pages: &Pages, desk: &Desk, wants: &Wants, i: usize, w: Want) -> u64
     requires whole { Whole pages.now desk.now }
     requires i_bound { i < queued desk.now }
-    requires noted { Noted pages.now desk.now names.now modes.now (i + 1) }
-    ensures { result ≡ is_rival pages.now w.asker (book_want w) (queued_at desk.now i) }
-{
-    notes::noted_at(pages, desk, names, modes, i).clashes(w)
-}
-
-// The set with the one whose request stands at place i, if it stands against what is wanted.
-fn with_rival(
-    set: u64,
-    pages: &[u8],
-    desk: &[u8],
-    names: &[u64],
-    modes: &[u16],
-    i: usize,
-    w: Want,
-) -> u64
-    requires whole { Whole pages.now desk.now }
-    requires i_bound { i < queued desk.now }
-    requires noted { Noted pages.now desk.now names.now modes.now (i + 1) }
+    requires noted { Noted pages.now desk.now wants.now (i + 1) }
     ensures { result ≡ with_rival set pages.now w.asker (book_want w) (queued_at desk.now i) }
 {
-    if is_rival(pages, desk, names, modes, i, w) {
-        return circles::with(set, queue::in_place(desk, i) as usize);
+    let other = wants[i];
+    if other.clashes(w) {
+        return circles::with(set, other.asker as usize);
     }
     set
 }
 
 // Who, ahead of place q, wants the same, in a conflicting mode.
-fn rivals_of(pages: &[u8], desk: &[u8], names: &[u64], modes: &[u16], q: usize, w: Want) -> u64
+fn rivals_of(pages: &Pages, desk: &Desk, wants: &Wants, q: usize, w: Want) -> u64
     requires whole { Whole pages.now desk.now }
     requires q_bound { q < queued desk.now }
-    requires noted { Noted pages.now desk.now names.now modes.now (q + 1) }
+    requires noted { Noted pages.now desk.now wants.now (q + 1) }
     ensures { SetOf result (earlier book (entries_in pages.now) (ahead desk.now q) w.asker (book_want w)) }
 {
-    let mut set: u64 = 0;
-    let mut i: usize = 0;
-    while i < q {
-        set = with_rival(set, pages, desk, names, modes, i, w);
-        i += 1;
+    let mut set = 0;
+    for i in 0..q {
+        set = with_rival(set, pages, desk, wants, i, w);
     }
     set
 }
 
 // All who block the request at place q, which wants this, where all slots have been looked at and the wants are noted.
 pub fn blockers_of(
-    pages: &[u8],
-    desk: &[u8],
-    names: &[u64],
-    modes: &[u16],
+    pages: &Pages,
+    desk: &Desk,
+    wants: &Wants,
     q: usize,
     w: Want,
     held: Collected,
 ) -> u64
     requires whole { Whole pages.now desk.now }
     requires q_bound { q < queued desk.now }
-    requires noted { Noted pages.now desk.now names.now modes.now (q + 1) }
+    requires noted { Noted pages.now desk.now wants.now (q + 1) }
     requires want_at { WantAt pages.now desk.now q w }
     requires scanned { Scanned desk.now w.asker (book_want w) locks_most held }
     ensures { SetOf result (blockers_at pages.now desk.now q) }
@@ -130,5 +107,5 @@ pub fn blockers_of(
     if held.own < LOCKS {
         return held.against;
     }
-    held.against | rivals_of(pages, desk, names, modes, q, w)
+    held.against | rivals_of(pages, desk, wants, q, w)
 }

@@ -7,19 +7,25 @@ ghost use Rattle.rules.specs.Locks.{clash};
 ghost use Rattle.states.specs.States.{book};
 ghost use Rattle.waits.specs.Choices.{book_want};
 
-use index::Found;
+use entries::Entry;
 use keys::Key;
+use limits::TRANSACTIONS;
 use locks::Mode;
 
 mod blocked;
 mod blockers;
 mod lightest;
-mod notes;
 mod slots;
 pub mod targets;
 
 pub use blocked::oldest;
 pub use lightest::lightest_on_circle;
+
+// Whom each queued request waits behind, as a set at its transaction's number; place 0 is not used.
+pub type Row = [u64; TRANSACTIONS + 1];
+
+// What each queued request wants, noted at its place.
+type Wants = [Want; TRANSACTIONS];
 
 // What a request wants: who asks, its target's name, and the mode.
 #[derive(Clone, Copy)]
@@ -34,27 +40,16 @@ impl Want {
     fn clashes(self, other: Want) -> bool
         ensures { result ≡ (not (eqb self.asker other.asker) && clash book (book_want self) (book_want other)) }
     {
-        let name = self.name;
-        let mode = self.mode;
-        let theirs = other.name;
-        let as_theirs = other.mode;
-        (self.asker != other.asker) & (name.same(theirs) & mode.conflicts(as_theirs))
+        (self.asker != other.asker) & ((self.name == other.name) & self.mode.conflicts(other.mode))
     }
 }
 
-// A place of the queue.
-#[derive(Clone, Copy)]
-pub enum Place {
-    At(usize),
-    Nowhere,
-}
-
 // The request that runs next: its place in the queue, its target, the slot of its asker's own lock on the target's name, and the lowest free
-// slot. Where there is no such slot, it is the number of slots.
+// slot. Where there is no such slot, it is the number of slots: no Option, since `held_in` and `free_in` of the definitions say so.
 #[derive(Clone, Copy)]
 pub struct Next {
     pub place: usize,
-    pub target: Found,
+    pub target: Option<Entry>,
     pub own: usize,
     pub free: usize,
 }
@@ -62,7 +57,7 @@ pub struct Next {
 // A request that is looked at: its target, and what it wants.
 #[derive(Clone, Copy)]
 struct Looked {
-    target: Found,
+    target: Option<Entry>,
     want: Want,
 }
 
@@ -79,13 +74,6 @@ struct Collected {
 // there are.
 #[derive(Clone, Copy)]
 struct Yielding {
-    place: Place,
+    place: Option<usize>,
     held: u64,
-}
-
-// Whose turn it is: the oldest request that nobody blocks.
-#[derive(Clone, Copy)]
-pub enum Turn {
-    Runs(Next),
-    Nobody,
 }

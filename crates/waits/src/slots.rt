@@ -7,23 +7,20 @@ ghost use Rattle.waits.specs.Choices.{book_want};
 ghost use Rattle.waits.specs.Slots.{first_to};
 
 use super::Want;
-use locks::Slot;
+use locks::Lock;
 
 // Whether a slot is another's lock on what is wanted, in a conflicting mode.
-pub fn is_against(slot: Slot, w: Want) -> bool
+pub fn is_against(slot: Option<Lock>, w: Want) -> bool
     ensures { result ≡ is_slot_against w.asker (book_want w).name (book_want w).mode (book_slot slot) }
 {
-    let name = w.name;
-    let mode = w.mode;
-    slot.stands_against(w.asker, name, mode)
+    locks::stands_against(slot, w.asker, w.name, w.mode)
 }
 
 // Whether a slot is the asker's own lock on what it wants.
-pub fn is_own(slot: Slot, w: Want) -> bool
+pub fn is_own(slot: Option<Lock>, w: Want) -> bool
     ensures { result ≡ is_slot_of w.asker (book_want w).name (book_slot slot) }
 {
-    let name = w.name;
-    slot.is_of(w.asker, name)
+    locks::is_of(slot, w.asker, w.name)
 }
 
 // The first slot to pass a test, of those before i and slot i: by the first of those before, and by whether slot i passes. Where none passes,

@@ -12,34 +12,28 @@ ghost use Rattle.states.specs.Whole.{Whole};
 ghost use Rattle.waits.specs.Blocks.{target_at, WantAt};
 
 use super::Want;
-use index::{Found, Sought};
+use entries::Entry;
+use index::Sought;
 use keys::Key;
+use limits::{Desk, Pages};
 use locks::Mode;
 use queue::transactions;
 use requests::Ask;
 
 // The entry that a request of t aims at, or nothing, which is the end.
-pub fn target_of(pages: &[u8], t: u16, ask: Ask) -> Found
+pub fn target_of(pages: &Pages, t: u16, ask: Ask) -> Option<Entry>
     requires whole_pages { WholePages pages.now }
     requires le_t { 1 ≤ t }
     ensures { book_found result ≡ target book (entries_in pages.now) t (book_ask ask) }
 {
     match ask {
-        Ask::Read(lo, hi) => index::find(
-            pages,
-            Sought {
-                lo: lo,
-                hi: hi,
-                asker: t,
-            },
-        ),
-        Ask::Insert(key, _) => at_or_above(pages, key),
-        Ask::Delete(key) => at_or_above(pages, key),
+        Ask::Read(lo, hi) => index::find(pages, Sought { lo, hi, asker: t }),
+        Ask::Insert(key, _) | Ask::Delete(key) => at_or_above(pages, key),
     }
 }
 
 // The first entry at or above a key.
-fn at_or_above(pages: &[u8], key: Key) -> Found
+fn at_or_above(pages: &Pages, key: Key) -> Option<Entry>
     requires { WholePages pages.now }
     ensures { book_found result ≡ first (λ e. leb key.0 e.key) (entries_in pages.now) }
 {
@@ -54,39 +48,35 @@ fn at_or_above(pages: &[u8], key: Key) -> Found
 }
 
 // The name of a target: its key, or the end.
-pub fn name_of(found: Found) -> Key
+pub fn name_of(found: Option<Entry>) -> Key
     ensures { result.0 ≡ name_number (named book (book_found found)) }
 {
-    match found {
-        Found::Here(e) => e.key,
-        Found::Nothing => Key::END,
-    }
+    found.map_or(Key::END, |e| e.key)
 }
 
 // One mode if the target is of this key, otherwise another.
-fn mode_if(found: Found, key: Key, there: Mode, otherwise: Mode) -> Mode
+fn mode_if(found: Option<Entry>, key: Key, there: Mode, otherwise: Mode) -> Mode
     ensures { book_mode result ≡ mode_if book (book_mode there) (book_mode otherwise) (itself book key.0 (book_found found)) }
 {
-    let Found::Here(e) = found else {
-        return otherwise;
-    };
-    let at = e.key;
-    if at.same(key) { there } else { otherwise }
+    match found {
+        Some(e) if e.key == key => there,
+        _ => otherwise,
+    }
 }
 
 // The mode that a target is wanted in.
-pub fn mode_of(ask: Ask, found: Found) -> Mode
+pub fn mode_of(ask: Ask, found: Option<Entry>) -> Mode
     ensures { book_mode result ≡ mode book (book_ask ask) (book_found found) }
 {
     match ask {
-        Ask::Read(_, _) => Mode::S,
+        Ask::Read(..) => Mode::S,
         Ask::Insert(key, _) => mode_if(found, key, Mode::S, Mode::X),
         Ask::Delete(key) => mode_if(found, key, Mode::X, Mode::S),
     }
 }
 
 // The entry that the request at a place of the queue aims at, or nothing, which is the end.
-pub fn target_at(pages: &[u8], desk: &[u8], q: usize) -> Found
+pub fn target_at(pages: &Pages, desk: &Desk, q: usize) -> Option<Entry>
     requires whole { Whole pages.now desk.now }
     requires q_bound { q < queued desk.now }
     ensures { book_found result ≡ target_at pages.now desk.now q }
@@ -96,7 +86,7 @@ pub fn target_at(pages: &[u8], desk: &[u8], q: usize) -> Found
 }
 
 // What the request at a place of the queue wants, by its target.
-pub fn want_at(pages: &[u8], desk: &[u8], q: usize, found: Found) -> Want
+pub fn want_at(pages: &Pages, desk: &Desk, q: usize, found: Option<Entry>) -> Want
     requires whole { Whole pages.now desk.now }
     requires q_bound { q < queued desk.now }
     requires found_value { book_found found ≡ target_at pages.now desk.now q }

@@ -5,8 +5,8 @@ use native.Mathlib.Omega.{arith}
 use Rattle.adding.proofs.PagesNeeded.{above_full, above_none}
 use Rattle.adding.proofs.above_child.Goals as goal
 
-pub returns-then-count_of-ge-INNER_MOST : goal.returns-then-count_of-ge-INNER_MOST
-returns-then-count_of-ge-INNER_MOST c = (search (rules, above_full), omega arith)
+pub returns-then-count_at-ge-INNER_MOST : goal.returns-then-count_at-ge-INNER_MOST
+returns-then-count_at-ge-INNER_MOST c = (search (rules, above_full), omega arith)
 
-pub returns : goal.returns
-returns c = (search (rules, above_none), omega arith)
+pub returns-else-count_at-ge-INNER_MOST : goal.returns-else-count_at-ge-INNER_MOST
+returns-else-count_at-ge-INNER_MOST c = (search (rules, above_none), omega arith)

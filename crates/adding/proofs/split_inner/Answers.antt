@@ -1,11 +1,8 @@
 -- `adding::split_inner` meets its contract: the parts that are lent are the two pages.
 -- Assumes nothing.
 use borrow.Author.Rules.{rules}
-use Rattle.adding.proofs.Divided.{inner_requires, blank_length, blank_count, inner_split}
+use Rattle.adding.proofs.Divided.{inner_requires, blank_count, inner_split}
 use Rattle.adding.proofs.split_inner.Goals as goal
-
-pub split_children-low-requires-clause-right_len : goal.split_children-low-requires-clause-right_len
-split_children-low-requires-clause-right_len c = search (rules, blank_length)
 
 pub split_children-low-requires-clause-left_value : goal.split_children-low-requires-clause-left_value
 split_children-low-requires-clause-left_value c = search (rules, inner_requires)

@@ -10,8 +10,5 @@ returns-in_default c = search (rules, last_none)
 pub put_answer-requires : goal.put_answer-requires
 put_answer-requires c = search (rules, last_room)
 
-pub overflow_add-result : goal.overflow_add-result
-overflow_add-result c = search (rules, last_room)
-
 pub returns : goal.returns
 returns c = search (rules, last_said)

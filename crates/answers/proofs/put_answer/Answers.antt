@@ -5,7 +5,7 @@ use Rattle.answers.proofs.put_answer.Goals as goal
 
 pub returns : goal.returns
 returns c =
-    answer_written _ _ _ _ _ _ _ _ c.args.a _ c.paper-p.ensures
+    answer_written _ _ _ _ _ _ _ _ c.args.a _ c.paper-paper.ensures
     c.write_u16.ensures
     c.write_u16-2.ensures
     c.write_u16-3.ensures

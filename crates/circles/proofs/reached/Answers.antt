@@ -6,8 +6,8 @@ use Rattle.circles.proofs.reached.Goals as goal
 pub returns-then-next-set : goal.returns-then-next-set
 returns-then-next-set c = search (rules, reach_stop)
 
-pub loop-left-preserved : goal.loop-left-preserved
-loop-left-preserved c = search (rules, reach_turn)
+pub loop-preserved : goal.loop-preserved
+loop-preserved c = search (rules, reach_turn)
 
 pub returns : goal.returns
 returns c = search (rules, reach_end)

@@ -7,8 +7,8 @@ use Rattle.ends.proofs.drop_request.Goals as goal
 pub leave_queue-requires-clause-q_bound_2 : goal.leave_queue-requires-clause-q_bound_2
 leave_queue-requires-clause-q_bound_2 c = search (rules, drop_asker)
 
-pub returns-then-q-n : goal.returns-then-q-n
-returns-then-q-n c = search (rules, drop_there)
+pub returns-then-q-queued : goal.returns-then-q-queued
+returns-then-q-queued c = search (rules, drop_there)
 
-pub returns-else-q-n : goal.returns-else-q-n
-returns-else-q-n c = search (rules, drop_none)
+pub returns-else-q-queued : goal.returns-else-q-queued
+returns-else-q-queued c = search (rules, drop_none)

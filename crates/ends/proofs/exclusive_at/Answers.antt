@@ -1,14 +1,8 @@
--- `ends::exclusive_at` meets its contract, case by case.
+-- `ends::exclusive_at` meets its contract, by the test of the definition.
 -- Assumes nothing.
 use borrow.Author.Rules.{rules}
-use Rattle.ends.proofs.Owned.{not_held, held_x, held_other}
+use Rattle.ends.proofs.Owned.{lock_kept}
 use Rattle.ends.proofs.exclusive_at.Goals as goal
 
-pub returns-in_default : goal.returns-in_default
-returns-in_default c = search (rules, not_held)
-
-pub returns-then-l-t : goal.returns-then-l-t
-returns-then-l-t c = search (rules, held_x)
-
 pub returns : goal.returns
-returns c = search (rules, held_other)
+returns c = lock_kept _ _ _ _ c.slot_at.ensures c.filter.ensures (λ l b q. search rules)

@@ -1,14 +1,13 @@
 -- `ends::settle_entries` meets its contract. Assumes nothing.
 use borrow.Author.Rules.{rules}
-use native.Mathlib.Omega.{arith}
 use Rattle.ends.proofs.Owned.{onward_first, onward_next, onward_last}
 use Rattle.ends.proofs.settle_entries.Goals as goal
 
 pub loop-i-init : goal.loop-i-init
-loop-i-init c = (omega arith, search (rules, onward_first))
+loop-i-init c = search (rules, onward_first)
 
 pub loop-i-preserved : goal.loop-i-preserved
-loop-i-preserved c = (omega arith, search (rules, onward_next))
+loop-i-preserved c = search (rules, onward_next)
 
 pub returns : goal.returns
 returns c = search (rules, onward_last)

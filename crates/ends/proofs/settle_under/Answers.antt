@@ -7,5 +7,5 @@ use Rattle.ends.proofs.settle_under.Goals as goal
 pub returns-in_default : goal.returns-in_default
 returns-in_default c = search (rules, under_none)
 
-pub returns : goal.returns
-returns c = search (rules, under_one)
+pub returns-in-Some : goal.returns-in-Some
+returns-in-Some c = search (rules, under_one)

@@ -2,8 +2,7 @@
 -- Assumes nothing.
 use borrow.Author.Rules.{rules}
 use Rattle.judging.proofs.Judging.{judged}
-use borrow.Author.Rules.{rules}
 use Rattle.judging.proofs.is_whole.Goals as goal
 
 pub returns : goal.returns
-returns c = search (rules, judged)
+returns c = search (rules, c.fits-pages, c.fits-desk, judged)

@@ -13,8 +13,8 @@ returns-then-not-is_desk c = search (rules, not_desk)
 pub overflow_sub-height : goal.overflow_sub-height
 overflow_sub-height c = search (rules, tall_pages)
 
-pub stand_in_order-requires-clause-fine : goal.stand_in_order-requires-clause-fine
-stand_in_order-requires-clause-fine c = search (rules, fine_root)
+pub stand_in_order-requires : goal.stand_in_order-requires
+stand_in_order-requires c = search (rules, c.fits-pages, fine_root)
 
 pub returns : goal.returns
 returns c = search (rules, whole_done)

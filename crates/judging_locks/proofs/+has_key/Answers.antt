@@ -12,11 +12,11 @@ has_entry-requires-clause-q_bound t c = search (rules, fine_leaf)
 pub returns-then-level-eq0 : goal.returns-then-level-eq0
 returns-then-level-eq0 t c = search (rules, find_leaf)
 
-pub count_at-n-requires-clause-q_lt_pages_most : goal.count_at-n-requires-clause-q_lt_pages_most
-count_at-n-requires-clause-q_lt_pages_most t c = search (rules, fine_page)
+pub count_at-n-requires : goal.count_at-n-requires
+count_at-n-requires t c = search (rules, fine_page)
 
 pub loop-i-init : goal.loop-i-init
-loop-i-init t c = (search (rules, fine_page), (search (rules, fine_few), (search rules, search (rules, find_start))))
+loop-i-init t c = (search (rules, fine_page), search (rules, fine_few), search (rules, find_start))
 
 pub has_key-requires : goal.has_key-requires
 has_key-requires t c = (search rules, search (rules, fine_child))
@@ -25,7 +25,7 @@ pub returns-then-has_key : goal.returns-then-has_key
 returns-then-has_key t c = search (rules, find_hit)
 
 pub loop-i-preserved : goal.loop-i-preserved
-loop-i-preserved t c = (search rules, (search rules, (search rules, search (rules, find_next))))
+loop-i-preserved t c = (search rules, search rules, search (rules, find_next))
 
 pub returns : goal.returns
 returns t c = search (rules, find_end)

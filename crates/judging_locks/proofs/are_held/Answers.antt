@@ -1,17 +1,10 @@
 -- `judging_locks::are_held` meets its contract. Assumes nothing.
 use borrow.Author.Rules.{rules}
-use Rattle.lists.proofs.Scans.{all_bad, all_step, all_end}
-use Rattle.judging_locks.proofs.LockTurns.{count_few, held_start}
+use native.Mathlib.Omega.{arith}
+use Rattle.lists.proofs.Chains.{all_of_range}
+use Rattle.pages.specs.PageLayout.{entries_of}
 use Rattle.judging_locks.proofs.are_held.Goals as goal
 
-pub loop-i-init : goal.loop-i-init
-loop-i-init c = (search (rules, count_few), (search rules, search (rules, held_start)))
-
-pub returns-then-not-is_held : goal.returns-then-not-is_held
-returns-then-not-is_held c = search (rules, all_bad)
-
-pub loop-i-preserved : goal.loop-i-preserved
-loop-i-preserved c = (search rules, (search rules, search (rules, all_step)))
-
 pub returns : goal.returns
-returns c = search (rules, all_end)
+unfolding entries_of
+returns c = all_of_range _ (λ i b k low high q. search rules) (omega arith) c.all.ensures.ran

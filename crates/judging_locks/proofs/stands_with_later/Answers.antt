@@ -1,17 +1,12 @@
 -- `judging_locks::stands_with_later` meets its contract. Assumes nothing.
 use borrow.Author.Rules.{rules}
-use Rattle.lists.proofs.Scans.{all_bad, all_step, all_end}
+use native.Mathlib.Omega.{arith}
+use Rattle.lists.proofs.Chains.{all_of_range}
 use Rattle.judging_locks.proofs.LockTurns.{later_free}
 use Rattle.judging_locks.proofs.stands_with_later.Goals as goal
 
-pub returns-then-is_free : goal.returns-then-is_free
-returns-then-is_free c = search (rules, later_free)
+pub returns-then-is_none : goal.returns-then-is_none
+returns-then-is_none c = search (rules, later_free)
 
-pub returns-then-not-stand_together : goal.returns-then-not-stand_together
-returns-then-not-stand_together c = search (rules, all_bad)
-
-pub loop-j-preserved : goal.loop-j-preserved
-loop-j-preserved c = (search rules, (search rules, search (rules, all_step)))
-
-pub returns : goal.returns
-returns c = search (rules, all_end)
+pub returns-else-is_none : goal.returns-else-is_none
+returns-else-is_none c = all_of_range _ (λ j b k low high q. search rules) (omega arith) c.all.ensures.ran

@@ -13,20 +13,20 @@ pass_leaf-requires-clause-q_bound t c = search (rules, fine_leaf)
 pub returns-then-level-eq0 : goal.returns-then-level-eq0
 returns-then-level-eq0 t c = search (rules, tree_leaf)
 
-pub count_at-n-requires-clause-q_lt_pages_most : goal.count_at-n-requires-clause-q_lt_pages_most
-count_at-n-requires-clause-q_lt_pages_most t c = search (rules, fine_page)
+pub count_at-n-requires : goal.count_at-n-requires
+count_at-n-requires t c = search (rules, fine_page)
 
 pub loop-i-init : goal.loop-i-init
-loop-i-init t c = (search (rules, fine_page), (search (rules, fine_few), (search rules, (search rules, search (rules, tree_start)))))
+loop-i-init t c = (search (rules, fine_page), search (rules, fine_few), search rules, search (rules, tree_start))
 
-pub pass_tree-passage-requires : goal.pass_tree-passage-requires
-pass_tree-passage-requires t c = (search rules, (search (rules, fine_child), (search rules, (search rules, (search rules, search rules)))))
+pub pass_tree-requires : goal.pass_tree-requires
+pass_tree-requires t c = (search rules, (search (rules, fine_child), (search rules, search rules)))
 
-pub returns-in_default : goal.returns-in_default
-returns-in_default t c = search (rules, tree_stuck)
+pub returns-in_err-at : goal.returns-in_err-at
+returns-in_err-at t c = search (rules, c.in_err-at.was, tree_stuck)
 
 pub loop-i-preserved : goal.loop-i-preserved
-loop-i-preserved t c = (search rules, (search rules, (search rules, (search (rules, past_to_most), search (rules, tree_turn)))))
+loop-i-preserved t c = (search rules, search rules, search (rules, c.in_ok-at.was, past_to_most), search (rules, c.in_ok-at.was, tree_turn))
 
 pub returns : goal.returns
 returns t c = search (rules, tree_end)

@@ -7,7 +7,7 @@ pub returns-then-not-comes_first : goal.returns-then-not-comes_first
 returns-then-not-comes_first c = (search rules, search (rules, climb_stop))
 
 pub loop-a-preserved : goal.loop-a-preserved
-loop-a-preserved c = (search rules, (search (rules, now_last), search (rules, climb_next)))
+loop-a-preserved c = (search (rules, now_last), search (rules, climb_next))
 
 pub returns : goal.returns
 returns c = (search rules, search (rules, climb_end))

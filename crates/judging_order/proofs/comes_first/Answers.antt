@@ -1,6 +1,7 @@
 -- `judging_order::comes_first` meets its contract in its three ways: the first is free, the second is, neither is.
 -- Assumes nothing.
 use borrow.Author.Rules.{rules}
+use Rattle.keys.proofs.KeyOrder.{below}
 use Rattle.judging_order.proofs.Passing.{free_before, free_after, held_first}
 use Rattle.judging_order.proofs.comes_first.Goals as goal
 
@@ -11,4 +12,4 @@ pub returns-in_default-b : goal.returns-in_default-b
 returns-in_default-b c = search (rules, free_after)
 
 pub returns : goal.returns
-returns c = search (rules, held_first)
+returns c = search (rules, below, held_first)

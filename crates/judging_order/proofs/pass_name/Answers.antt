@@ -7,7 +7,7 @@ pub returns-then-not-is_on_at : goal.returns-then-not-is_on_at
 returns-then-not-is_on_at c = search (rules, name_other)
 
 pub loop-j-preserved : goal.loop-j-preserved
-loop-j-preserved c = (search rules, search (rules, name_more))
+loop-j-preserved c = search (rules, name_more)
 
 pub returns : goal.returns
 returns c = search (rules, name_end)

@@ -1,13 +1,8 @@
 -- `judging_order::pass_name` meets its contract. The invariant: the stretch from k is the one from j.
--- The measure is the number of places left.
 -- Assumes nothing.
 use mathlib.Core.Path.{◌≡◌}
-use Prim.Native.Nat.{◌-◌, ◌≤◌}
 use Rattle.judging_order.specs.LockOrders.{placed, stretch}
 use Rattle.judging_order.proofs.pass_name.Given as goal
 
 abbrev pub invariant-loop-j : goal.invariant-loop-j
-invariant-loop-j l = (l.j ≤ l.m) × (stretch (placed l.d l.order) l.m l.name.0 l.k ≡ stretch (placed l.d l.order) l.m l.name.0 l.j)
-
-abbrev pub decreases-loop-j : goal.decreases-loop-j
-decreases-loop-j l = l.m - l.j
+invariant-loop-j l = stretch (placed l.d l.order) l.m l.name.0 l.k ≡ stretch (placed l.d l.order) l.m l.name.0 l.j

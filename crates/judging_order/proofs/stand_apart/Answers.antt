@@ -4,5 +4,5 @@ use borrow.Author.Rules.{rules}
 use Rattle.judging_order.proofs.Verdicts.{clash_done}
 use Rattle.judging_order.proofs.stand_apart.Goals as goal
 
-pub returns-then-is_clash : goal.returns-then-is_clash
-returns-then-is_clash c = search (rules, clash_done)
+pub returns-else-not-is_clash : goal.returns-else-not-is_clash
+returns-else-not-is_clash c = search (rules, clash_done)

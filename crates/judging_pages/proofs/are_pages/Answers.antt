@@ -7,11 +7,11 @@ use Rattle.judging_pages.proofs.are_pages.Goals as goal
 pub returns-then-not-has_front : goal.returns-then-not-has_front
 returns-then-not-has_front c = search (rules, frontless)
 
-pub walk_root-w-requires-clause-pages_bound : goal.walk_root-w-requires-clause-pages_bound
-walk_root-w-requires-clause-pages_bound c = search (rules, front_few)
+pub walk_root-requires-clause-pages_bound : goal.walk_root-requires-clause-pages_bound
+walk_root-requires-clause-pages_bound c = search (rules, front_few)
 
-pub walk_root-w-requires-clause-nonzero : goal.walk_root-w-requires-clause-nonzero
-walk_root-w-requires-clause-nonzero c = search (rules, front_tall)
+pub walk_root-requires-clause-nonzero : goal.walk_root-requires-clause-nonzero
+walk_root-requires-clause-nonzero c = search (rules, front_tall)
 
 pub returns-in_default : goal.returns-in_default
 returns-in_default c = search (rules, lost)

@@ -1,17 +1,10 @@
 -- `judging_pages::are_seen` meets its contract. Assumes nothing.
 use borrow.Author.Rules.{rules}
-use Rattle.lists.proofs.Scans.{all_bad, all_step, all_end}
-use Rattle.judging_pages.proofs.Fronts.{seen_start}
+use native.Mathlib.Omega.{arith}
+use Rattle.lists.proofs.Chains.{all_of_range}
+use Rattle.judging_pages.specs.Walks.{seen_ok}
 use Rattle.judging_pages.proofs.are_seen.Goals as goal
 
-pub loop-q-init : goal.loop-q-init
-loop-q-init c = (search rules, search (rules, seen_start))
-
-pub returns-then-not-has : goal.returns-then-not-has
-returns-then-not-has c = search (rules, all_bad)
-
-pub loop-q-preserved : goal.loop-q-preserved
-loop-q-preserved c = (search rules, search (rules, all_step))
-
 pub returns : goal.returns
-returns c = search (rules, all_end)
+unfolding seen_ok
+returns c = all_of_range _ (λ q b k low high e. search rules) (omega arith) c.all.ensures.ran

@@ -1,13 +1,11 @@
--- `numbers::is_zero` meets its contract. Assumes nothing.
+-- `numbers::is_zero` meets its contract: what is folded is the test of all.
+-- Assumes nothing.
 use borrow.Author.Rules.{rules}
-use Rattle.numbers.proofs.ByteTurns.{test_start, test_turn, test_end}
+use Rattle.numbers.proofs.ByteMoves.{zero_along}
 use Rattle.numbers.proofs.is_zero.Goals as goal
 
-pub loop-k-init : goal.loop-k-init
-loop-k-init c = (search rules, search (rules, test_start))
-
-pub loop-k-preserved : goal.loop-k-preserved
-loop-k-preserved c = (search rules, search (rules, test_turn))
-
 pub returns : goal.returns
-returns c = search (rules, test_end)
+returns c =
+    let p = c.fold.ensures.runs in
+    let q = c.iter.ensures.runs p.0 p.0.seen in
+    zero_along c.args.n c.args.at c.args.s.now (λ x. x.now) p.0.items c.fold.result (search (rules, q.4)) (p.3 _ (λ x y r f g. search rules))

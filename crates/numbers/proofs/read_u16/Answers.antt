@@ -1,8 +1,9 @@
--- `numbers::read_u16` meets its contract: the number is put together from its halves.
+-- `numbers::read_u16` meets its contract: the sum of two bytes is written out.
 -- Assumes nothing.
 use borrow.Author.Rules.{rules}
-use Rattle.numbers.proofs.Numbers.{number_halves}
+use Rattle.numbers.specs.Numbers.{number_at}
 use Rattle.numbers.proofs.read_u16.Goals as goal
 
 pub returns : goal.returns
-returns c = search (rules, number_halves 1)
+unfolding number_at
+returns c = search rules

@@ -1,8 +1,8 @@
--- `numbers::read_u32` meets its contract: the number is put together from its halves.
+-- `numbers::read_u32` meets its contract: the library's number of these bytes is this one.
 -- Assumes nothing.
 use borrow.Author.Rules.{rules}
-use Rattle.numbers.proofs.Numbers.{number_halves}
+use Rattle.numbers.proofs.LittleEnd.{number_read}
 use Rattle.numbers.proofs.read_u32.Goals as goal
 
 pub returns : goal.returns
-returns c = search (rules, number_halves 2)
+returns c = search (rules, number_read 3)

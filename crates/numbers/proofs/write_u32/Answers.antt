@@ -1,8 +1,8 @@
--- `numbers::write_u32` meets its contract: the number is written by its halves.
+-- `numbers::write_u32` meets its contract: the library's bytes of this number are these.
 -- Assumes nothing.
 use borrow.Author.Rules.{rules}
-use Rattle.numbers.proofs.Numbers.{put_halves}
+use Rattle.numbers.proofs.LittleEnd.{number_written}
 use Rattle.numbers.proofs.write_u32.Goals as goal
 
 pub returns : goal.returns
-returns c = search (rules, put_halves 2)
+returns c = search (rules, number_written 4)

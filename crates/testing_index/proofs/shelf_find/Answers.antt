@@ -4,5 +4,5 @@ use borrow.Author.Rules.{rules}
 use Rattle.testing_index.proofs.Judges.{whole_now}
 use Rattle.testing_index.proofs.shelf_find.Goals as goal
 
-pub find-f-requires : goal.find-f-requires
-find-f-requires c = search (rules, whole_now)
+pub find-requires : goal.find-requires
+find-requires c = search (rules, whole_now)

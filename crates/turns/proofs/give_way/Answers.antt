@@ -6,8 +6,8 @@ use Rattle.waits.proofs.QueueKnown.{place_low}
 use Rattle.turns.proofs.OneTurn.{place_high, gave_way}
 use Rattle.turns.proofs.give_way.Goals as goal
 
-pub in_place-t-requires-clause-i_lt_transactions_most : goal.in_place-t-requires-clause-i_lt_transactions_most
-in_place-t-requires-clause-i_lt_transactions_most c = search (rules, place_low)
+pub in_place-t-requires : goal.in_place-t-requires
+in_place-t-requires c = search (rules, place_low)
 
 pub leave_queue-requires-clause-d_bound : goal.leave_queue-requires-clause-d_bound
 leave_queue-requires-clause-d_bound c = search (rules, whole_few)

@@ -1,6 +1,5 @@
 -- `index::search::seek` meets its contract. Assumes nothing.
 use borrow.Author.Rules.{rules}
-use native.Mathlib.Omega.{arith}
 use Rattle.index.proofs.Subtrees.{inner_in, child_in}
 use Rattle.index.proofs.SearchTurns.{at_leaf, found_leaf, seek_start, seek_here, seek_on, seek_none}
 use Rattle.index.proofs.search.+seek.Goals as goal
@@ -15,25 +14,16 @@ pub step_to-s-requires : goal.step_to-s-requires
 step_to-s-requires t c = search (rules, inner_in)
 
 pub loop-i-init : goal.loop-i-init
-loop-i-init t c = (omega arith, search (rules, seek_start))
-
-pub child_page-requires-clause-pages_len : goal.child_page-requires-clause-pages_len
-child_page-requires-clause-pages_len t c = omega arith
-
-pub child_page-requires-clause-q_lt_pages_most : goal.child_page-requires-clause-q_lt_pages_most
-child_page-requires-clause-q_lt_pages_most t c = omega arith
-
-pub child_page-requires-clause-i_lt_inner_most : goal.child_page-requires-clause-i_lt_inner_most
-child_page-requires-clause-i_lt_inner_most t c = omega arith
+loop-i-init t c = search (rules, seek_start)
 
 pub seek-f-requires : goal.seek-f-requires
-seek-f-requires t c = (omega arith, search (rules, child_in))
+seek-f-requires t c = (search rules, search (rules, child_in))
 
-pub returns-in-Here : goal.returns-in-Here
-returns-in-Here t c = search (rules, seek_here)
+pub returns-in-Some : goal.returns-in-Some
+returns-in-Some t c = search (rules, seek_here)
 
 pub loop-i-preserved : goal.loop-i-preserved
-loop-i-preserved t c = (omega arith, search (rules, seek_on))
+loop-i-preserved t c = search (rules, seek_on)
 
 pub returns : goal.returns
 returns t c = search (rules, seek_none)

@@ -1,6 +1,6 @@
 -- `index::search::seek` meets its contract. The loop's invariant: what is sought is what the children from i on have first.
--- The level falls with each call, what is left of the children with each turn. Assumes nothing.
-use Prim.Native.Nat.{◌≤◌, ◌-◌, ℕ}
+-- The level falls with each call. Assumes nothing.
+use Prim.Native.Nat.{ℕ}
 use mathlib.Core.Path.{◌≡◌}
 use Rattle.lists.specs.Lists.{first}
 use Rattle.trees.specs.Trees.{flat}
@@ -10,10 +10,7 @@ use Rattle.index.proofs.SearchTurns.{found_from}
 use Rattle.index.proofs.search.+seek.Given as goal
 
 abbrev pub invariant-loop-i : goal.invariant-loop-i
-invariant-loop-i l = (l.i ≤ l.n) × (first (seeks l.w) (flat ℕ Item l.level (tree_of l.level l.pages l.pg)) ≡ found_from l.level l.pages l.pg l.w l.n l.i)
-
-abbrev pub decreases-loop-i : goal.decreases-loop-i
-decreases-loop-i l = l.n - l.i
+invariant-loop-i l = first (seeks l.w) (flat ℕ Item l.level (tree_of l.level l.pages l.pg)) ≡ found_from l.level l.pages l.pg l.w l.n l.i
 
 abbrev pub decreases-seek : goal.decreases-seek
 decreases-seek l = l.level

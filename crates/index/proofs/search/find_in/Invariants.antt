@@ -1,6 +1,5 @@
--- `index::search::find_in` meets its contract. The loop's invariant: what is sought is the first of the entries from i on.
--- The measure is how many are left. Assumes nothing.
-use Prim.Native.Nat.{◌≤◌, ◌-◌}
+-- `index::search::find_in` meets its contract. The loop's invariant: what is sought is the first of the entries from i on. Assumes nothing.
+use Prim.Native.Nat.{◌-◌}
 use mathlib.Core.Path.{◌≡◌}
 use Rattle.lists.specs.Lists.{first, tab}
 use Rattle.pages.specs.PageLayout.{entry_at, entries_of}
@@ -8,7 +7,4 @@ use Rattle.index.specs.Searches.{seeks}
 use Rattle.index.proofs.search.find_in.Given as goal
 
 abbrev pub invariant-loop-i : goal.invariant-loop-i
-invariant-loop-i l = (l.i ≤ l.n) × (first (seeks l.w) (entries_of l.p) ≡ first (seeks l.w) (tab (l.n - l.i) l.i (entry_at l.p)))
-
-abbrev pub decreases-loop-i : goal.decreases-loop-i
-decreases-loop-i l = l.n - l.i
+invariant-loop-i l = first (seeks l.w) (entries_of l.p) ≡ first (seeks l.w) (tab (l.n - l.i) l.i (entry_at l.p))

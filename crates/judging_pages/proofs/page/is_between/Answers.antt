@@ -1,6 +1,8 @@
 -- `judging_pages::page::is_between` meets its contract: its test is the definition's.
 -- Assumes nothing.
+use borrow.Author.Rules.{rules}
+use Rattle.keys.proofs.KeyOrder.{below}
 use Rattle.judging_pages.proofs.page.is_between.Goals as goal
 
 pub returns : goal.returns
-returns c = cc
+returns c = search (rules, below)

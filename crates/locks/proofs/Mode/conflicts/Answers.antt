@@ -4,5 +4,5 @@ use borrow.Author.Rules.{rules}
 use Rattle.locks.proofs.LockValues.{x_conflicts}
 use Rattle.locks.proofs.Mode.conflicts.Goals as goal
 
-pub returns-in-X : goal.returns-in-X
-returns-in-X c = search (rules, x_conflicts)
+pub returns : goal.returns
+returns c = search (rules, x_conflicts)

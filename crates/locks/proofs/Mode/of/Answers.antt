@@ -4,8 +4,8 @@ use borrow.Author.Rules.{rules}
 use Rattle.locks.proofs.LockValues.{mode_x, mode_s}
 use Rattle.locks.proofs.Mode.of.Goals as goal
 
-pub returns-then-number-eq2 : goal.returns-then-number-eq2
-returns-then-number-eq2 c = search (rules, mode_x)
+pub returns-then-number : goal.returns-then-number
+returns-then-number c = search (rules, mode_x)
 
-pub returns-else-number-eq2 : goal.returns-else-number-eq2
-returns-else-number-eq2 c = search (rules, mode_s)
+pub returns-else-number : goal.returns-else-number
+returns-else-number c = search (rules, mode_s)

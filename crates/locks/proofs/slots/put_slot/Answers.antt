@@ -4,8 +4,8 @@ use borrow.Author.Rules.{rules}
 use Rattle.locks.proofs.LockValues.{put_free, put_held}
 use Rattle.locks.proofs.slots.put_slot.Goals as goal
 
-pub returns-in-Free : goal.returns-in-Free
-returns-in-Free c = search (rules, put_free)
+pub returns-in-None : goal.returns-in-None
+returns-in-None c = search (rules, put_free)
 
-pub returns-in-Held : goal.returns-in-Held
-returns-in-Held c = search (rules, put_held)
+pub returns-in-Some : goal.returns-in-Some
+returns-in-Some c = search (rules, put_held)

@@ -7,5 +7,5 @@ use Rattle.pages.proofs.leaf.value_if.Goals as goal
 pub returns-then-there-eq1 : goal.returns-then-there-eq1
 returns-then-there-eq1 c = search (rules, value_there)
 
-pub returns : goal.returns
-returns c = search (rules, value_gone)
+pub returns-else-there-eq1 : goal.returns-else-there-eq1
+returns-else-there-eq1 c = search (rules, value_gone)

@@ -13,8 +13,8 @@ in_place-t-requires c = search (rules, clear_place)
 pub lock_and_leave-given-requires-clause-desk_bound : goal.lock_and_leave-given-requires-clause-desk_bound
 lock_and_leave-given-requires-clause-desk_bound c = search (rules, whole_few)
 
-pub lock_and_leave-given-requires-clause-q_bound_2 : goal.lock_and_leave-given-requires-clause-q_bound_2
-lock_and_leave-given-requires-clause-q_bound_2 c = search (rules, clear_high)
+pub lock_and_leave-given-requires-clause-place_bound_2 : goal.lock_and_leave-given-requires-clause-place_bound_2
+lock_and_leave-given-requires-clause-place_bound_2 c = search (rules, clear_high)
 
 pub lock_and_leave-given-requires-clause-own_value : goal.lock_and_leave-given-requires-clause-own_value
 lock_and_leave-given-requires-clause-own_value c = search (rules, own_named)
@@ -25,8 +25,8 @@ returns-in_default c = search (delete_missing, next_target)
 pub lock_and_leave-given-requires-2-clause-desk_bound : goal.lock_and_leave-given-requires-2-clause-desk_bound
 lock_and_leave-given-requires-2-clause-desk_bound c = search (rules, whole_few)
 
-pub lock_and_leave-given-requires-2-clause-q_bound_2 : goal.lock_and_leave-given-requires-2-clause-q_bound_2
-lock_and_leave-given-requires-2-clause-q_bound_2 c = search (rules, clear_high)
+pub lock_and_leave-given-requires-2-clause-place_bound_2 : goal.lock_and_leave-given-requires-2-clause-place_bound_2
+lock_and_leave-given-requires-2-clause-place_bound_2 c = search (rules, clear_high)
 
 pub lock_and_leave-given-requires-2-clause-own_value : goal.lock_and_leave-given-requires-2-clause-own_value
 lock_and_leave-given-requires-2-clause-own_value c = search (rules, own_there)

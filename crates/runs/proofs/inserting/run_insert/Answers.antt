@@ -16,8 +16,8 @@ insert_missing-requires-clause-pages_value c = search (rules, insert_missing, ne
 pub lock_and_leave-given-requires-clause-desk_bound : goal.lock_and_leave-given-requires-clause-desk_bound
 lock_and_leave-given-requires-clause-desk_bound c = search (rules, whole_few)
 
-pub lock_and_leave-given-requires-clause-q_bound_2 : goal.lock_and_leave-given-requires-clause-q_bound_2
-lock_and_leave-given-requires-clause-q_bound_2 c = search (rules, clear_high)
+pub lock_and_leave-given-requires-clause-place_bound_2 : goal.lock_and_leave-given-requires-clause-place_bound_2
+lock_and_leave-given-requires-clause-place_bound_2 c = search (rules, clear_high)
 
 pub lock_and_leave-given-requires-clause-own_value : goal.lock_and_leave-given-requires-clause-own_value
 lock_and_leave-given-requires-clause-own_value c = search (rules, own_there)

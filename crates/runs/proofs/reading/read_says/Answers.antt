@@ -1,14 +1,18 @@
 -- `runs::reading::read_says` meets its contract, by what was found and whether it lies within the bounds.
 -- Assumes nothing.
 use borrow.Author.Rules.{rules}
-use Rattle.runs.proofs.Looks.{says_none, says_found, says_above}
+use Rattle.keys.proofs.KeyOrder.{at_most}
+use Rattle.rules.specs.Runs as B
 use Rattle.runs.proofs.reading.read_says.Goals as goal
 
+pub returns-in-Some : goal.returns-in-Some
+unfolding B.read_says
+returns-in-Some c = search (rules, at_most)
+
 pub returns-in_default : goal.returns-in_default
-returns-in_default c = search (rules, says_none)
+unfolding B.read_says
+returns-in_default c = search (rules, at_most)
 
-pub returns-then-at_most : goal.returns-then-at_most
-returns-then-at_most c = search (rules, says_found)
-
-pub returns-else-at_most : goal.returns-else-at_most
-returns-else-at_most c = search (rules, says_above)
+pub returns-in_default-2 : goal.returns-in_default-2
+unfolding B.read_says
+returns-in_default-2 c = search rules

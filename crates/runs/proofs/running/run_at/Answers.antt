@@ -8,8 +8,8 @@ use Rattle.runs.proofs.running.run_at.Goals as goal
 pub in_place-t-requires : goal.in_place-t-requires
 in_place-t-requires c = search (rules, clear_place)
 
-pub ask_at-ask-requires : goal.ask_at-ask-requires
-ask_at-ask-requires c = search (rules, clear_high)
+pub ask_at-requires : goal.ask_at-requires
+ask_at-requires c = search (rules, clear_high)
 
 pub run_read-requires-clause-place_value : goal.run_read-requires-clause-place_value
 run_read-requires-clause-place_value c = search (rules, read_asked)

@@ -7,5 +7,5 @@ use Rattle.settling.proofs.settling.put_left.Goals as goal
 pub returns-then-is_ghost : goal.returns-then-is_ghost
 returns-then-is_ghost c = search (rules, left_taken)
 
-pub returns : goal.returns
-returns c = search (rules, left_put)
+pub returns-else-is_ghost : goal.returns-else-is_ghost
+returns-else-is_ghost c = search (rules, left_put)

@@ -4,11 +4,11 @@ use borrow.Author.Rules.{rules}
 use Rattle.settling.proofs.KeySettles.{key_end, key_other, key_anothers, key_own}
 use Rattle.settling.proofs.settling.settle_in.Goals as goal
 
-pub returns-then-i-n : goal.returns-then-i-n
-returns-then-i-n c = search (rules, key_end)
+pub returns-then-i-count_of : goal.returns-then-i-count_of
+returns-then-i-count_of c = search (rules, key_end)
 
-pub returns-then-not-same : goal.returns-then-not-same
-returns-then-not-same c = search (rules, key_other)
+pub returns-then-ne : goal.returns-then-ne
+returns-then-ne c = search (rules, key_other)
 
 pub returns-then-e-owner : goal.returns-then-e-owner
 returns-then-e-owner c = search (rules, key_anothers)

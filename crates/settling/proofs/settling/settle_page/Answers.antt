@@ -4,11 +4,11 @@ use borrow.Author.Rules.{rules}
 use Rattle.settling.proofs.Settles.{kind_lent, page_stays, page_settled}
 use Rattle.settling.proofs.settling.settle_page.Goals as goal
 
-pub returns-then-kind_of-ne2 : goal.returns-then-kind_of-ne2
-returns-then-kind_of-ne2 c = search (rules, page_stays)
-
 pub settle_leaf-requires : goal.settle_leaf-requires
 settle_leaf-requires c = search (rules, kind_lent)
 
-pub returns : goal.returns
-returns c = search (rules, page_settled)
+pub returns-then-kind_of : goal.returns-then-kind_of
+returns-then-kind_of c = search (rules, page_settled)
+
+pub returns-else-kind_of : goal.returns-else-kind_of
+returns-else-kind_of c = search (rules, page_stays)

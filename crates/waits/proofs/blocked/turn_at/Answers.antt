@@ -1,19 +1,12 @@
 -- `waits::blocked::turn_at` meets its contract: who is in the way is the lowest of all who block the request, and these are its row.
 -- Assumes nothing.
 use borrow.Author.Rules.{rules}
-use Rattle.waits.proofs.Noting.{looked_noted, looked_want}
 use Rattle.waits.proofs.WaitRows.{asker_in_lem, rows_next}
 use Rattle.waits.proofs.OldestTurns.{turn_blocked, turn_free}
 use Rattle.waits.proofs.blocked.turn_at.Goals as goal
 
-pub blockers_of-set-requires-clause-noted : goal.blockers_of-set-requires-clause-noted
-blockers_of-set-requires-clause-noted c = search (rules, looked_noted)
-
-pub blockers_of-set-requires-clause-want_at : goal.blockers_of-set-requires-clause-want_at
-blockers_of-set-requires-clause-want_at c = search (rules, looked_want)
-
-pub bounds-row-t : goal.bounds-row-t
-bounds-row-t c = search (rules, asker_in_lem)
+pub bounds-row-looked : goal.bounds-row-looked
+bounds-row-looked c = search (rules, asker_in_lem)
 
 pub returns-in_default-clause-turn : goal.returns-in_default-clause-turn
 returns-in_default-clause-turn c = search (rules, turn_blocked)

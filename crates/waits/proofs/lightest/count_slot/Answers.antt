@@ -2,20 +2,11 @@
 -- Assumes nothing.
 use borrow.Author.Rules.{rules}
 use Rattle.waits.proofs.QueueKnown.{whole_holders}
-use Rattle.waits.proofs.Counting.{holder_counted, count_fits, counted_turn}
+use Rattle.waits.proofs.Counting.{holder_counted, counted_turn}
 use Rattle.waits.proofs.lightest.count_slot.Goals as goal
-
-pub offset_bounds-counts-t : goal.offset_bounds-counts-t
-offset_bounds-counts-t c = search (rules, holder_counted, whole_holders)
 
 pub bounds-counts-t : goal.bounds-counts-t
 bounds-counts-t c = search (rules, holder_counted, whole_holders)
-
-pub overflow_add-counts : goal.overflow_add-counts
-overflow_add-counts c = search (rules, count_fits, whole_holders)
-
-pub offset_bounds-counts-t-2 : goal.offset_bounds-counts-t-2
-offset_bounds-counts-t-2 c = search (rules, holder_counted, whole_holders)
 
 pub bounds-counts-t-2 : goal.bounds-counts-t-2
 bounds-counts-t-2 c = search (rules, holder_counted, whole_holders)

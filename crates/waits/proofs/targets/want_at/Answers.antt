@@ -5,11 +5,11 @@ use Rattle.waits.proofs.QueueKnown.{whole_keys, place_low, asker_high}
 use Rattle.waits.proofs.Wants.{want_queued}
 use Rattle.waits.proofs.targets.want_at.Goals as goal
 
-pub in_place-t-requires-clause-i_lt_transactions_most : goal.in_place-t-requires-clause-i_lt_transactions_most
-in_place-t-requires-clause-i_lt_transactions_most c = search (rules, place_low)
+pub in_place-t-requires : goal.in_place-t-requires
+in_place-t-requires c = search (rules, place_low)
 
-pub ask_at-requires-clause-t_le_transactions_most : goal.ask_at-requires-clause-t_le_transactions_most
-ask_at-requires-clause-t_le_transactions_most c = search (rules, asker_high)
+pub ask_at-requires : goal.ask_at-requires
+ask_at-requires c = search (rules, asker_high)
 
 pub returns : goal.returns
 returns c = search (rules, want_queued, whole_keys)

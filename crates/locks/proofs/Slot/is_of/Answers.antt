@@ -1,8 +1,0 @@
--- `locks::Slot::is_of` meets its contract: names are the same where their numbers are.
--- Assumes nothing.
-use borrow.Author.Rules.{rules}
-use Rattle.locks.proofs.LockValues.{held_of}
-use Rattle.locks.proofs.Slot.is_of.Goals as goal
-
-pub returns : goal.returns
-returns c = search (rules, held_of)
