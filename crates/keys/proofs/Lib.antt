@@ -1,2 +1,2 @@
 pub mod KeyMarks
-pub mod KeyOrder
+pub mod DerivedOrder

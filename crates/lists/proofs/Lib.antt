@@ -9,4 +9,4 @@ pub mod Finite
 pub mod Lightest
 pub mod Lowest
 pub mod Firsts
-pub mod Chains
+pub mod RangeChains

@@ -1,7 +1,7 @@
 -- `judging_desk::are_slots` meets its contract. Assumes nothing.
 use borrow.Author.Rules.{rules}
 use native.Mathlib.Omega.{arith}
-use Rattle.lists.proofs.Chains.{all_of_range}
+use Rattle.lists.proofs.RangeChains.{all_of_range}
 use Rattle.judging_desk.proofs.Free.{zero_slots}
 use Rattle.judging_desk.proofs.are_slots.Goals as goal
 

@@ -1,7 +1,7 @@
 -- `judging_locks::are_held` meets its contract. Assumes nothing.
 use borrow.Author.Rules.{rules}
 use native.Mathlib.Omega.{arith}
-use Rattle.lists.proofs.Chains.{all_of_range}
+use Rattle.lists.proofs.RangeChains.{all_of_range}
 use Rattle.pages.specs.PageLayout.{entries_of}
 use Rattle.judging_locks.proofs.are_held.Goals as goal
 

@@ -1,7 +1,7 @@
 -- `judging_locks::are_named` meets its contract. Assumes nothing.
 use borrow.Author.Rules.{rules}
 use native.Mathlib.Omega.{arith}
-use Rattle.lists.proofs.Chains.{all_of_range}
+use Rattle.lists.proofs.RangeChains.{all_of_range}
 use Rattle.locks.specs.SlotLayout.{slots_of}
 use Rattle.judging_locks.proofs.are_named.Goals as goal
 

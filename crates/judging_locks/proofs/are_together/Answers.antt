@@ -2,7 +2,7 @@
 use borrow.Author.Rules.{rules}
 use native.Mathlib.Omega.{arith}
 use mathlib.Core.Path.{refl, sym, ◌∙◌}
-use Rattle.lists.proofs.Chains.{all_of_range}
+use Rattle.lists.proofs.RangeChains.{all_of_range}
 use Rattle.locks.specs.SlotLayout.{slots_of}
 use Rattle.judging_locks.proofs.LockTurns.{pairs_later}
 use Rattle.judging_locks.proofs.are_together.Goals as goal

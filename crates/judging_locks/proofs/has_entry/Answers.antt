@@ -1,7 +1,7 @@
 -- `judging_locks::has_entry` meets its contract. Assumes nothing.
 use borrow.Author.Rules.{rules}
 use native.Mathlib.Omega.{arith}
-use Rattle.lists.proofs.Chains.{any_of_range}
+use Rattle.lists.proofs.RangeChains.{any_of_range}
 use Rattle.pages.specs.PageLayout.{entries_of}
 use Rattle.judging_locks.proofs.has_entry.Goals as goal
 

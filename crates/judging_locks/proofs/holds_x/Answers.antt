@@ -1,7 +1,7 @@
 -- `judging_locks::holds_x` meets its contract. Assumes nothing.
 use borrow.Author.Rules.{rules}
 use native.Mathlib.Omega.{arith}
-use Rattle.lists.proofs.Chains.{any_of_range}
+use Rattle.lists.proofs.RangeChains.{any_of_range}
 use Rattle.locks.specs.SlotLayout.{slots_of}
 use Rattle.judging_locks.proofs.holds_x.Goals as goal
 

@@ -1,7 +1,7 @@
 -- `judging_locks::stands_with_later` meets its contract. Assumes nothing.
 use borrow.Author.Rules.{rules}
 use native.Mathlib.Omega.{arith}
-use Rattle.lists.proofs.Chains.{all_of_range}
+use Rattle.lists.proofs.RangeChains.{all_of_range}
 use Rattle.judging_locks.proofs.LockTurns.{later_free}
 use Rattle.judging_locks.proofs.stands_with_later.Goals as goal
 

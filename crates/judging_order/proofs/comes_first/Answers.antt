@@ -1,7 +1,7 @@
 -- `judging_order::comes_first` meets its contract in its three ways: the first is free, the second is, neither is.
 -- Assumes nothing.
 use borrow.Author.Rules.{rules}
-use Rattle.keys.proofs.KeyOrder.{below}
+use Rattle.keys.proofs.DerivedOrder.{below}
 use Rattle.judging_order.proofs.Passing.{free_before, free_after, held_first}
 use Rattle.judging_order.proofs.comes_first.Goals as goal
 

@@ -1,7 +1,7 @@
 -- `judging_order::holds_x_among` meets its contract. Assumes nothing.
 use borrow.Author.Rules.{rules}
 use native.Mathlib.Omega.{arith}
-use Rattle.lists.proofs.Chains.{any_of_range}
+use Rattle.lists.proofs.RangeChains.{any_of_range}
 use Rattle.judging_order.proofs.holds_x_among.Goals as goal
 
 pub returns : goal.returns

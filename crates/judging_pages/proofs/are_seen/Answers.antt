@@ -1,7 +1,7 @@
 -- `judging_pages::are_seen` meets its contract. Assumes nothing.
 use borrow.Author.Rules.{rules}
 use native.Mathlib.Omega.{arith}
-use Rattle.lists.proofs.Chains.{all_of_range}
+use Rattle.lists.proofs.RangeChains.{all_of_range}
 use Rattle.judging_pages.specs.Walks.{seen_ok}
 use Rattle.judging_pages.proofs.are_seen.Goals as goal
 

@@ -1,7 +1,7 @@
 -- `index::search::is_sought` meets its contract: the test is written as the definition writes it.
 -- Assumes nothing.
 use mathlib.Core.Path.{refl}
-use Rattle.keys.proofs.KeyOrder.{at_most}
+use Rattle.keys.proofs.DerivedOrder.{at_most}
 use Rattle.index.proofs.search.is_sought.Goals as goal
 
 pub returns : goal.returns

@@ -1,6 +1,6 @@
 -- `pages::leaf::first_at_or_above` meets its contract. Assumes nothing.
 use borrow.Author.Rules.{rules}
-use Rattle.keys.proofs.KeyOrder.{at_most}
+use Rattle.keys.proofs.DerivedOrder.{at_most}
 use Rattle.pages.proofs.PageSearches.{between_start, between_lower, between_upper, between_end}
 use Rattle.pages.proofs.leaf.first_at_or_above.Goals as goal
 

@@ -1,7 +1,7 @@
 -- `runs::reading::read_says` meets its contract, by what was found and whether it lies within the bounds.
 -- Assumes nothing.
 use borrow.Author.Rules.{rules}
-use Rattle.keys.proofs.KeyOrder.{at_most}
+use Rattle.keys.proofs.DerivedOrder.{at_most}
 use Rattle.rules.specs.Runs as B
 use Rattle.runs.proofs.reading.read_says.Goals as goal
 
