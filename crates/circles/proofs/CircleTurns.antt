@@ -33,12 +33,12 @@ unfolding gathered
 gather_end row m t r h i = let n : length row - t ≡ 0 = omega arith in rw n at i
 
 -- ---- so many links: some are left
-pub reach_turn : (row : List ℕ) (whole links i set next : ℕ) → i < links → next ≡ further_on row set → reached_on row (links - i) set ≡ whole
-    → reached_on row (links - (i + 1)) next ≡ whole
+pub reach_turn : (row : List ℕ) (whole left set next : ℕ) → 0 < left → next ≡ further_on row set → reached_on row left set ≡ whole
+    → reached_on row (left - 1) next ≡ whole
 unfolding reached_on
-reach_turn row whole links i set next h e r =
-    let n : links - i ≡ suc (links - (i + 1)) = omega arith in
-    rw e (sym (ap (λ k. reached_on row k set) n) ∙ r)
+reach_turn row whole left set next h e i =
+    let n : left ≡ suc (left - 1) = omega arith in
+    rw e (sym (ap (λ k. reached_on row k set) n) ∙ i)
 
 -- a link that adds nobody changes nothing, and none after it does
 reached_same : (row : List ℕ) (links set : ℕ) → further_on row set ≡ set → reached_on row links set ≡ set
@@ -49,6 +49,6 @@ reached_same row (suc links) set e = ap (reached_on row links) e ∙ reached_sam
 pub reach_stop : (row : List ℕ) (whole left set next : ℕ) → next ≡ further_on row set → next ≡ set → reached_on row left set ≡ whole → set ≡ whole
 reach_stop row whole left set next e q i = sym (reached_same row left set (sym e ∙ q)) ∙ i
 
-pub reach_end : (row : List ℕ) (whole links i set : ℕ) → links ≤ i → reached_on row (links - i) set ≡ whole → set ≡ whole
+pub reach_end : (row : List ℕ) (whole left set : ℕ) → left ≤ 0 → reached_on row left set ≡ whole → set ≡ whole
 unfolding reached_on
-reach_end row whole links i set h r = let n : links - i ≡ 0 = omega arith in rw n at r
+reach_end row whole left set h i = let n : left ≡ 0 = omega arith in rw n at i

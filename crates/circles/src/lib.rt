@@ -73,13 +73,14 @@ pub fn further(row: &[u64], m: u64) -> u64
     }
 }
 
-// Whom a chain from the set reaches with at most so many links. A link that adds nobody is the last that could.
+// Whom a chain from the set reaches with at most so many links. The number of links left falls; a link that adds nobody is the last that
+// could.
 pub fn reached(row: &[u64], links: usize, m: u64) -> u64
     requires { length row.now ≤ 65 }
     ensures { result ≡ reached_on row.now links m }
 {
     let mut set = m;
-    for _ in 0..links {
+    for _ in (0..links).rev() {
         let next = further(row, set);
         if next == set {
             return set;
