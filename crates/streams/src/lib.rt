@@ -132,7 +132,8 @@ fn go_through(
 }
 
 // The whole stream: what is read comes from the reader, standard input in the programs. At the end one line on standard error says why it
-// has stopped, with the byte of the input, counted from 0, at which it did. The exit status does not say it.
+// has stopped, with the byte of the input, counted from 0, at which it did: two writes, the second also where the first fails. The exit
+// status does not say it.
 pub fn run(rt: &(impl Print + Eprint), reader: &mut impl Read) {
     let mut pages = [0u8; limits::PAGES_SIZE];
     let mut desk = [0u8; limits::DESK_SIZE];
@@ -149,5 +150,6 @@ pub fn run(rt: &(impl Print + Eprint), reader: &mut impl Read) {
         &mut input,
         &mut at,
     );
-    let _ = eprintln!(rt; "{stop}{at}");
+    let _ = eprint!(rt; "{stop}");
+    let _ = eprintln!(rt; "{at}");
 }
