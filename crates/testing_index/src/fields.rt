@@ -1,5 +1,5 @@
 // An entry as the four numbers that pass through a door. A record that is absent passes as a number above every record.
-ghost use Rattle.std.specs.Prelude.{◌≡◌};
+ghost use Rattle.std.specs.Prelude.{◌≡◌, eqb, length};
 
 use entries::Entry;
 use keys::Key;
@@ -8,7 +8,7 @@ use keys::Key;
 pub const FIELDS_SIZE: usize = 32;
 
 // A number as a record, or absent where it is above every record.
-fn value_of(v: u64) -> Option<u32> {
+pub fn value_of(v: u64) -> Option<u32> {
     u32::try_from(v).ok()
 }
 
@@ -29,10 +29,17 @@ pub fn entry_of(key: Key, owner: u16, now: u64, before: u64) -> Entry
     }
 }
 
-// Writes key, owner, now and before, 8 bytes each.
-pub fn put_fields(out: &mut [u8; FIELDS_SIZE], e: Entry) {
+// Writes key, owner, now and before, 8 bytes each, into so many bytes; nothing is written, and false is the answer, where there are more or
+// fewer.
+pub fn put_fields(out: &mut [u8], e: Entry) -> bool
+    ensures { result ≡ eqb (length out.old) 32 }
+{
+    let Some(out) = out.as_mut_array::<FIELDS_SIZE>() else {
+        return false;
+    };
     e.key.write(out, 0);
     numbers::write_u64(out, 8, u64::from(e.owner));
     numbers::write_u64(out, 16, number_of(e.now));
     numbers::write_u64(out, 24, number_of(e.before));
+    true
 }

@@ -55,10 +55,10 @@ pub extern "C" fn shelf_find(pages: &[u8], lo: u64, hi: u64, asker: u16, out: &m
     let Some(pages) = pages.as_array() else {
         return REFUSED;
     };
-    let Some(out) = out.as_mut_array() else {
-        return REFUSED;
-    };
     if !is_whole(pages) {
+        return REFUSED;
+    }
+    if out.len() != fields::FIELDS_SIZE {
         return REFUSED;
     }
     let sought = Sought {
