@@ -64,7 +64,7 @@ module _ (p d o : List ℕ) (t : ℕ) (o₁ : List ℕ) (e : o₁ ≡ put_answer
       }
 
 -- from a picture that says s the same is written as from s
-said_wrote : (o p₁ d₁ : List ℕ) (t : ℕ) (s : St book) → Says p₁ d₁ s → (p' d' o' : List ℕ) (r : ℕ)
+pub said_wrote : (o p₁ d₁ : List ℕ) (t : ℕ) (s : St book) → Says p₁ d₁ s → (p' d' o' : List ℕ) (r : ℕ)
     → Wrote o 0 (after_done book t (worked_of p₁ d₁)) p' d' o' r → Wrote o 0 (after_done book t (worked book s)) p' d' o' r
 said_wrote o p₁ d₁ t s is p' d' o' r = subst (λ x. Wrote o 0 (after_done book t (worked book x)) p' d' o' r) is.state
 

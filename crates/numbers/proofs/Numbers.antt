@@ -90,6 +90,13 @@ number_split (suc w) u s at =
     let r = number_split w u s (at + 1) in
     rw (suc-add, e, pow-succ') (omega arith)
 
+pub put_split : (w u : ℕ) (s : List ℕ) (at v : ℕ) → put_number (w + u) s at v ≡ put_number u (put_number w s at v) (at + w) (v / 256 ^ w)
+unfolding put_number
+put_split zero u s at v = rw (zero-add, add-zero, div-one)
+put_split (suc w) u s at v =
+    let e : at + suc w ≡ at + 1 + w = omega arith in
+    rw (suc-add, e, pow-succ', ← (div-div-eq-div-mul v 256 (256 ^ w))) (put_split w u (set s at (v % 256)) (at + 1) (v / 256))
+
 -- v's remainder by 256 * m is its lowest byte and the rest's remainder by m
 low_bytes : (v m : ℕ) → v % (256 * m) ≡ v % 256 + 256 * (v / 256 % m)
 low_bytes v m =

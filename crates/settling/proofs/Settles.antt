@@ -30,7 +30,7 @@ use Rattle.index.proofs.BlankPages.{kind_head}
 use Rattle.index.proofs.Refills.{refilled, Good, leaf_good, refill_whole}
 
 -- ---- the pages used: one at least
-used_some : (s : List ℕ) (top : Top) → WholePages s → TopOf s top → 1 ≤ top.used
+pub used_some : (s : List ℕ) (top : Top) → WholePages s → TopOf s top → 1 ≤ top.used
 used_some s top w o =
     let p = page_at s 0 in
     let t = subtree_root s w in

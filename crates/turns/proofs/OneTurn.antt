@@ -56,7 +56,7 @@ module _ (p d : List ℕ) (w : Whole p d) where
   -- ---- the oldest that isn't blocked
   module _ (r : Code.Option Next) (h : OldestIs p d r) where
     module _ (x : Next) (e : r ≡ Code.Some x) where
-      next_known : Known p d x
+      pub next_known : Known p d x
       next_known = subst (KnownIn p d) e h.known
 
       picked : (v : Wait book) × (oldest book (state_of p d) ≡ some v) × (v.request ≡ queued_at d x.place)
